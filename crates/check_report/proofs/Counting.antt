@@ -14,38 +14,22 @@ use Rattle.check_report.specs.declared.rows.row.Row.{Row}
 use Rattle.std.proofs.lemmas.Slice.Eq.{bytes_eq-Decides}
 use Rattle.check_report.specs.declared.rows.row.Verdict.{Verdict}
 use Rattle.check_report.specs.declared.rows.row.Verdict.TheVariants.{Bad, Remark, Change}
-use Rattle.check_report.specs.Rows.Rows.{SeenRow, count_of, counts_of, is_verdict, row_if, seen_row}
+use Rattle.check_report.specs.Rows.Rows.{SeenRow, count_of, counts_of, is_verdict, row_if, seen_row, verdict_word}
 use Rattle.check_report.specs.Rows.Limits.{SeenKind, first_rows, is_like, is_of, kind_in, kinds_of, row_within, seen_kind}
 use Rattle.check_report.specs.Rows.Writing.{count_in, count_once, counted, earlier, new_kind, tallied}
 
 -- ---- rows of a kind
 
-same_verdict : (v w : Verdict) → is_verdict v w ≡ true → v ≡ w
-same_verdict Bad Bad is = refl
-same_verdict Remark Remark is = refl
-same_verdict Change Change is = refl
-same_verdict Bad Remark is = absurd (cc)
-same_verdict Bad Change is = absurd (cc)
-same_verdict Remark Bad is = absurd (cc)
-same_verdict Remark Change is = absurd (cc)
-same_verdict Change Bad is = absurd (cc)
-same_verdict Change Remark is = absurd (cc)
-
-itself : (v : Verdict) → is_verdict v v ≡ true
-itself Bad = refl
-itself Remark = refl
-itself Change = refl
-
-like_parts : (v w : Verdict) (xs ys : List ℕ) → (is_verdict v w && bytes_eq xs ys) ≡ true → (v ≡ w) × (xs ≡ ys)
-like_parts v w xs ys is = (same_verdict v w (grind (arith, is)), grind (arith, is, bytes_eq-Decides xs ys))
+like_parts : (a b xs ys : List ℕ) → (bytes_eq a b && bytes_eq xs ys) ≡ true → (a ≡ b) × (xs ≡ ys)
+like_parts a b xs ys is = (grind (arith, is, bytes_eq-Decides a b), grind (arith, is, bytes_eq-Decides xs ys))
 
 -- alike rows are like the same rows
 pub alike : (r s t : SeenRow) → is_like r s ≡ true → is_like r t ≡ is_like s t
-alike r s t is = let parts = like_parts r.verdict s.verdict r.code s.code is in
-    ap₂ (λ v c. is_verdict v t.verdict && bytes_eq c t.code) parts.0 parts.1
+alike r s t is = let parts = like_parts (verdict_word r.verdict) (verdict_word s.verdict) r.code s.code is in
+    ap₂ (λ v c. bytes_eq v (verdict_word t.verdict) && bytes_eq c t.code) parts.0 parts.1
 
 like_itself : (r : SeenRow) → is_like r r ≡ true
-like_itself r = grind (arith, itself r.verdict, bytes_eq-Decides r.code r.code)
+like_itself r = grind (arith, bytes_eq-Decides (verdict_word r.verdict) (verdict_word r.verdict), bytes_eq-Decides r.code r.code)
 
 pub like_back : (r s : SeenRow) → is_like r s ≡ is_like s r
 like_back r s = go (is_like r s) (is_like s r) refl refl

@@ -13,11 +13,12 @@ use Rattle.json.specs.Tree.{json_tokens, members_tokens}
 use Rattle.json.specs.Print.{ends, print, print_from}
 use Rattle.json.proofs.Printed.Tokens.{print_from-append}
 use Rattle.flash_format.specs.Printed.{line_feed}
+use Rattle.check_report.specs.declared.request.Files.{Files}
 use Rattle.check_report.specs.declared.rows.kinds.Counts.{Counts}
 use Rattle.check_report.specs.declared.rows.form.Form.{Form}
 use Rattle.check_report.specs.declared.rows.form.Form.TheVariants as forms
 use Rattle.check_report.specs.Rows.Fields.{Line, SeenField, array_value, line_json, line_text, members}
-use Rattle.check_report.specs.Rows.Reports.{SeenFiles, begin_tokens, count_fields, document, ending, file_fields, follows_after, heading, list_fields, member_tokens, objects, parts, report_with}
+use Rattle.check_report.specs.Rows.Reports.{begin_tokens, count_fields, document, ending, file_fields, follows_after, heading, list_fields, member_tokens, objects, parts, report_with}
 use Rattle.check_report.proofs.RowLemmas.Tokens.{fields_tokens, object_tokens}
 
 -- a value just ended after these tokens
@@ -63,7 +64,7 @@ line_after false line = ap (λ ts. print_from false ts) (sym (append-nil (json_t
 
 -- ---- the parts make the report
 
-abbrev opening_tokens : SeenFiles → Option (List Line) → List Token
+abbrev opening_tokens : Files → Option (List Line) → List Token
 opening_tokens files list = (begin_object ∷ flat_map member_tokens (file_fields files ++ list_fields list)) ++ begin_tokens (codes "rows")
 
 begun : (ts : List Token) (name : List ℕ) → ended false (ts ++ begin_tokens name) ≡ false
@@ -87,17 +88,17 @@ array_text start name lines rest =
     (after _ rest)
 
 -- the heading has the opening tokens
-opening_text : (files : SeenFiles) (list : Option (List Line)) → heading forms.Json files list ≡ print (opening_tokens files list)
+opening_text : (files : Files) (list : Option (List Line)) → heading forms.Json files list ≡ print (opening_tokens files list)
 opening_text files None = refl
 opening_text files (Some lines) =
     sym (array_text (begin_object ∷ flat_map member_tokens (file_fields files)) (codes "components") lines (begin_tokens (codes "rows")))
     ∙ sym (ap print (fields_tokens (file_fields files) [] (codes "components") (map line_json lines) (begin_tokens (codes "rows"))))
 
-opening_lines : (files : SeenFiles) (list : Option (List Line)) → heading forms.Text files list ≡ option_map_or (flat_map line_text) list []
+opening_lines : (files : Files) (list : Option (List Line)) → heading forms.Text files list ≡ option_map_or (flat_map line_text) list []
 opening_lines files None = refl
 opening_lines files (Some lines) = append-nil (flat_map line_text lines)
 
-pub whole : (form : Form) (files : SeenFiles) (list : Option (List Line)) (rows : List Line) (counts : Counts)
+pub whole : (form : Form) (files : Files) (list : Option (List Line)) (rows : List Line) (counts : Counts)
     → heading form files list ++ (parts form false rows ++ ending form counts) ≡ report_with form files list rows counts
 unfolding report_with document
 whole forms.Text files list rows counts =

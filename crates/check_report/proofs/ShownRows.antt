@@ -1,23 +1,19 @@
 -- A hidden row is like a shown row.
-use Rattle.std.proofs.Common.{◌≡◌, ℕ, ◌<◌, nat_lt, List, [], ◌∷◌, ◌++◌, Bool, true, false, refl, arith}
+use Rattle.std.proofs.Common.{◌≡◌, ℕ, ◌<◌, nat_lt, List, [], ◌∷◌, ◌++◌, Bool, true, false, refl, ap, arith}
 use Rattle.std.specs.Prelude.{◌||◌, count_by}
 use Rattle.std.specs.List.{list_any}
+use Rattle.std.specs.Str.{bytes_eq}
+use Rattle.std.proofs.lemmas.Slice.Eq.{bytes_eq-Decides}
 use Rattle.std.proofs.lemmas.List.Folds.{list_any-append}
 use Rattle.check_report.specs.declared.rows.row.Verdict.{Verdict}
-use Rattle.check_report.specs.declared.rows.row.Verdict.TheVariants.{Bad, Remark, Change}
-use Rattle.check_report.specs.Rows.Rows.{SeenRow, is_bad_row, is_verdict, row_if}
+use Rattle.check_report.specs.declared.rows.row.Verdict.TheVariants.{Bad}
+use Rattle.check_report.specs.Rows.Rows.{SeenRow, is_bad_row, is_verdict, row_if, verdict_word}
 use Rattle.check_report.specs.Rows.Limits.{first_rows, is_like, row_within, shown_rows}
 
 same : (v w : Verdict) → is_verdict v w ≡ true → is_verdict Bad v ≡ is_verdict Bad w
-same Bad Bad is = refl
-same Remark Remark is = refl
-same Change Change is = refl
-same Bad Remark is = grind arith
-same Bad Change is = grind arith
-same Remark Bad is = grind arith
-same Remark Change is = refl
-same Change Bad is = grind arith
-same Change Remark is = refl
+same v w is =
+    let words : verdict_word v ≡ verdict_word w = grind (arith, is, bytes_eq-Decides (verdict_word v) (verdict_word w)) in
+    ap (bytes_eq (verdict_word Bad)) words
 
 -- if rows are like a bad row, a row is bad
 like_bad : (row : SeenRow) (rows : List SeenRow) → 0 < count_by (is_like row) rows → is_bad_row row ≡ true → list_any is_bad_row rows ≡ true

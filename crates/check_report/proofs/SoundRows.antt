@@ -8,6 +8,7 @@ use Rattle.std.proofs.lemmas.List.Sums.{sum_by-cons}
 use Rattle.std.proofs.KnownBytes.{Appends-nil, Appends-trans}
 use Rattle.check_report.specs.declared.fault.WriteFault.{WriteFault}
 use Rattle.check_report.specs.declared.rows.kinds.Kind.{Kind}
+use Rattle.check_report.specs.declared.request.Files.{Files}
 use Rattle.check_report.specs.declared.rows.kinds.Counts.{Counts}
 use Rattle.check_report.specs.declared.rows.printer.Printer.{Printer}
 use Rattle.check_report.specs.declared.rows.row.Row.{Row}
@@ -16,7 +17,7 @@ use Rattle.check_report.specs.declared.rows.writer.RowWriter.{RowWriter}
 use Rattle.check_report.specs.Rows.Fields.{Line}
 use Rattle.check_report.specs.Rows.Rows.{SeenRow, count_of, counts_of, is_bad_row, is_verdict, row_if, row_line, seen_row}
 use Rattle.check_report.specs.Rows.Limits.{first_rows, is_like, kinds_of, limited_rows, more_of, more_rows, row_within, seen_kind, shown_rows}
-use Rattle.check_report.specs.Rows.Reports.{SeenFiles, ending, follows_after, heading, parts, report}
+use Rattle.check_report.specs.Rows.Reports.{ending, follows_after, heading, parts, report}
 use Rattle.check_report.specs.Rows.Writing.{Adds, Ends, HasAdded, HasPrinted, IsSound, count_in, counted, rows_in, shown_lines, tallied}
 use Rattle.check_report.proofs.Counting.{count_fits, counts_push, first_push, kinds_push}
 use Rattle.check_report.proofs.Printed.{printed_both}
@@ -106,7 +107,7 @@ sound_end contents w mid out s more end =
 
 -- the heading, the rows and the end are the report
 pub report_text : {W : Type 0} (contents : W → Option (List ℕ)) (result : Result Bool WriteFault) (first begun last : Printer W) (made : RowWriter W)
-    (verbose : Bool) (files : SeenFiles) (list : Option (List Line)) (rows : List SeenRow)
+    (verbose : Bool) (files : Files) (list : Option (List Line)) (rows : List SeenRow)
     → HasPrinted contents first begun (heading first.form files list) false → rows_in made ≡ [] → made.begun.value ≡ begun → made.is_verbose ≡ verbose
     → OnOk result (Ends contents made rows last) → OnOk result (Appends (contents first.out) (contents last.out) (report first.form verbose files list rows))
 report_text contents (Err e) first begun last made verbose files list rows before none start verbose_is end = end

@@ -1,20 +1,14 @@
 -- Lists from other elements.
-use Rattle.std.proofs.Common.{◌≡◌, ◌∙◌, ℕ, suc, ◌<◌, ◌≤◌, List, [], ◌∷◌, length, map, take, drop, get_or, Bool, true, refl, ap, sym}
+use Rattle.std.proofs.Common.{◌≡◌, ◌∙◌, ℕ, ◌≤◌, List, [], ◌∷◌, length, map, take, Bool, refl, ap, sym}
 use Rattle.std.specs.Prelude.{◌||◌}
 use Rattle.std.specs.List.{flat_map, list_any}
 use Rattle.std.proofs.lemmas.List.{take_all}
 use Rattle.std.proofs.lemmas.List.Folds.{flat_map-map}
-use Rattle.std.proofs.Math.Seq.{drop-cons}
 
 -- a test of each
 pub list_any-map : {X Y : Type 0} (p : Y → Bool) (f : X → Y) (xs : List X) → list_any p (map f xs) ≡ list_any (λ x. p (f x)) xs
 list_any-map p f [] = refl
 list_any-map p f (x ∷ xs) = ap (λ b. p (f x) || b) (list_any-map p f xs)
-
--- an element that passes a test
-pub any_here : {X : Type 0} (p : X → Bool) (xs : List X) (i : ℕ) (d : X) (b all : Bool) → i < length xs → b ≡ p (get_or xs i d) → b ≡ true → list_any p (drop i xs) ≡ all → true ≡ all
-any_here p xs i d b all lt is passes so_far =
-    sym (ap (list_any p) (drop-cons xs i d lt) ∙ ap (λ (c : Bool). c || list_any p (drop (suc i) xs)) (sym is ∙ passes)) ∙ so_far
 
 -- the parts of each, after the last
 pub all_parts : {X Y Z : Type 0} (f : Y → List Z) (g : X → Y) (xs : List X) (i : ℕ) → length xs ≤ i → flat_map (λ x. f (g x)) (take i xs) ≡ flat_map f (map g xs)

@@ -67,9 +67,6 @@ abbrev pub area_change_rows : List (List ℕ) → List (List ℕ) → AreaChange
 area_change_rows kept vital change =
     row_if (has_change_row kept change) (area_change_row kept vital change)
 
-abbrev pub area_rows : List (List ℕ) → List (List ℕ) → List AreaChange → List SeenRow
-area_rows kept vital changes = flat_map (area_change_rows kept vital) changes
-
 -- ---- components of an area of the new image
 
 abbrev pub difference_row : Verdict → Difference → SeenRow
@@ -101,9 +98,6 @@ abbrev pub region_rows : List (List ℕ) → RegionChange → List SeenRow
 region_rows kept (Compared a changes) = component_rows kept a changes
 region_rows kept (NotCompared a) = not_compared_row kept a ∷ []
 
-abbrev pub regions_rows : List (List ℕ) → List RegionChange → List SeenRow
-regions_rows kept changes = flat_map (region_rows kept) changes
-
 -- ---- whole images
 
 -- rows of the lengths, and of the number of different blocks
@@ -121,9 +115,6 @@ map_change_row (maps.MovedFrom at) = with_number at (change_row "map-moved" "fla
 map_change_row (maps.BaseChanged old new) =
     with_number old (change_row "map-base" "base address changed from")
 map_change_row maps.NameChanged = change_row "map-name" "name of the flashmap changed"
-
-abbrev pub map_rows : List MapChange → List SeenRow
-map_rows changes = map map_change_row changes
 
 -- ---- kept names
 
@@ -143,10 +134,7 @@ is_there all name = list_any (has_name name) all
 abbrev pub missing_row : List ℕ → SeenRow
 missing_row name = in_area name (row verdicts.Bad "no-area" "no such area")
 
+-- the row of a kept name without an area
 abbrev pub missing_if : List NumberedArea → List NumberedArea → List ℕ → List SeenRow
 missing_if olds news name =
     row_if (not (is_there olds name || is_there news name)) (missing_row name)
-
--- rows of kept names without an area
-abbrev pub missing_rows : List (List ℕ) → List NumberedArea → List NumberedArea → List SeenRow
-missing_rows kept olds news = flat_map (missing_if olds news) kept

@@ -161,10 +161,7 @@ need_row wish (Elsewhere at) =
     of_component wish.area wish.name
     (row_at at (row Bad "need-elsewhere" "needed component is elsewhere"))
 
-abbrev pub unmet_rows : Wish → Option NeedFinding → List SeenRow
-unmet_rows wish None = []
-unmet_rows wish (Some finding) = need_row wish finding ∷ []
-
 -- the row of an unmet need
 abbrev pub need_rows : List ImageFinding → Wish → List SeenRow
-need_rows findings wish = unmet_rows wish (unmet findings wish)
+need_rows findings wish =
+    option_map_or (λ finding. need_row wish finding ∷ []) (unmet findings wish) []

@@ -51,9 +51,10 @@ change_rows wish c =
     let olds = old_areas c.old c.new_areas.items in
     let kept = rows.kept_by wish.kept wish.keeps_preserved olds c.new_areas.items in
     let vital = kept ++ map area_name c.old.regions.items in
-    (((rows.image_rows new.old_len new.new_len new.blocks ++ rows.map_rows new.map.items)
-    ++ rows.area_rows kept vital new.areas.items) ++ rows.regions_rows kept new.regions.items)
-    ++ rows.missing_rows wish.kept olds c.new_areas.items
+    (((rows.image_rows new.old_len new.new_len new.blocks ++ map rows.map_change_row new.map.items)
+    ++ flat_map (rows.area_change_rows kept vital) new.areas.items)
+    ++ flat_map (rows.region_rows kept) new.regions.items)
+    ++ flat_map (rows.missing_if olds c.new_areas.items) wish.kept
 
 -- rows of findings, then of changes
 abbrev pub inspection_rows : Wish → Inspection → List SeenRow

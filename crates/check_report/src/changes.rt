@@ -1,4 +1,6 @@
 //! The rows of changes.
+ghost use Rattle.std.specs.Prelude.{map};
+ghost use Rattle.std.specs.List.{flat_map};
 ghost use Rattle.check_report.specs.Names.{names_in};
 ghost use Rattle.check_report.specs.Rows.Writing.{Adds};
 ghost use Rattle.check_report.specs.ChangeRows as of;
@@ -33,7 +35,8 @@ pub fn add_map_changes<W: Sink + Drop>(
     rows: &mut RowWriter<'_, W>,
     changes: &[MapChange],
 ) -> Result<(), WriteFault>
-    ensures { Adds W.contents W.faults result rows.old rows.new (of.map_rows changes.now) }
+    ensures { Adds W.contents W.faults result rows.old rows.new
+        (map of.map_change_row changes.now) }
 {
     for change in changes {
         rows.add(map_change_row(change))?;
@@ -48,7 +51,7 @@ pub fn add_area_changes<'a, W: Sink + Drop>(
     changes: &'a [AreaChange],
 ) -> Result<(), WriteFault>
     ensures { Adds W.contents W.faults result rows.old rows.new
-        (of.area_rows (names_in kept.now) (names_in vital.now) changes.now) }
+        (flat_map (of.area_change_rows (names_in kept.now) (names_in vital.now)) changes.now) }
 {
     for change in changes {
         let row = area_change_row(kept, vital, change);
@@ -79,8 +82,8 @@ pub fn add_region_changes<'a, W: Sink + Drop>(
     kept: &[&[u8]],
     changes: &'a [RegionChange],
 ) -> Result<(), WriteFault>
-    ensures { Adds W.contents W.faults result rows.old rows.new (of.regions_rows
-        (names_in kept.now) changes.now) }
+    ensures { Adds W.contents W.faults result rows.old rows.new
+        (flat_map (of.region_rows (names_in kept.now)) changes.now) }
 {
     for change in changes {
         match change {

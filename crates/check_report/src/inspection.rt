@@ -7,7 +7,7 @@ ghost use Rattle.check_report.specs.Faults.{by_sink};
 ghost use Rattle.check_report.specs.Reports.{change_rows, found_rows, inspection_rows, old_areas};
 ghost use Rattle.check_report.specs.Reports.{wish_of};
 ghost use Rattle.check_report.specs.Lists.{list_if};
-ghost use Rattle.check_report.specs.Rows.Reports.{heading, report, seen_files};
+ghost use Rattle.check_report.specs.Rows.Reports.{heading, report};
 ghost use Rattle.check_report.specs.Rows.Rows.{is_bad_row};
 ghost use Rattle.check_report.specs.Rows.Writing.{Adds, Ends, IsSound, Prints, rows_in};
 
@@ -137,7 +137,7 @@ impl Inspection {
         printer: &mut Printer<W>,
     ) -> Result<(), WriteFault>
         ensures { Prints W.contents W.faults result printer.old printer.new
-            (heading printer.old.form (seen_files request.entry.files)
+            (heading printer.old.form request.entry.files
             (list_if request.entry.asked.lists self.now.findings.items)) false }
     {
         if request.asked.lists {
@@ -176,7 +176,7 @@ impl Inspection {
             (inspection_rows (wish_of request.entry) self.now)) }
         ensures text { OnOk result.is_bad (Appends (W.contents out) (W.contents result.out)
             (report request.entry.form request.entry.asked.is_verbose
-            (seen_files request.entry.files)
+            request.entry.files
             (list_if request.entry.asked.lists self.now.findings.items)
             (inspection_rows (wish_of request.entry) self.now))) }
         ensures cause { W.faults out + fault_count by_sink result.is_bad ≤ W.faults result.out }

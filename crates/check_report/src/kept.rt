@@ -1,6 +1,8 @@
 //! Areas that must not change.
-ghost use Rattle.std.specs.Prelude.{◌≡◌, map};
+ghost use Rattle.std.specs.Prelude.{◌≡◌};
+ghost use Rattle.std.specs.List.{flat_map};
 ghost use Rattle.check_findings.specs.Image.ImageFindings.{has_one_of};
+ghost use Rattle.check_report.specs.Names.{names_in};
 ghost use Rattle.check_report.specs.Rows.Writing.{Adds};
 ghost use Rattle.check_report.specs.ChangeRows as of;
 
@@ -11,13 +13,13 @@ use flash_device::Sink;
 
 /// Returns whether the area has a kept name.
 pub fn is_kept(kept: &[&[u8]], area: NumberedArea) -> bool
-    ensures { result ≡ has_one_of (map (λ n. n.now) kept.now) area }
+    ensures { result ≡ has_one_of (names_in kept.now) area }
 {
     kept.iter().any(|name| area.area.name_is(name))
 }
 
 pub fn verdict_of(kept: &[&[u8]], area: NumberedArea) -> Verdict
-    ensures { result ≡ of.verdict_of (map (λ n. n.now) kept.now) area }
+    ensures { result ≡ of.verdict_of (names_in kept.now) area }
 {
     if is_kept(kept, area) {
         Verdict::Bad
@@ -54,7 +56,7 @@ pub fn add_missing<'a, W: Sink + Drop>(
     new_areas: &[NumberedArea],
 ) -> Result<(), WriteFault>
     ensures { Adds W.contents W.faults result rows.old rows.new
-        (of.missing_rows (map (λ n. n.now) kept.now) old_areas.now new_areas.now) }
+        (flat_map (of.missing_if old_areas.now new_areas.now) (names_in kept.now)) }
 {
     for name in kept {
         add_if_missing(rows, name, old_areas, new_areas)?;

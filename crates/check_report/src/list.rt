@@ -26,28 +26,6 @@ fn component_fields<'a>(area: &'a [u8], at: u64, name: &'a [u8], content: Conten
     ]
 }
 
-fn list_component<'a, W: Sink + Drop>(
-    printer: &mut Printer<W>,
-    area: &'a [u8],
-    finding: &'a RegionFinding,
-) -> Result<(), WriteFault>
-    ensures { PrintsLines W.contents W.faults result printer.old printer.new
-        (component_in area.now finding.now) }
-{
-    match finding {
-        RegionFinding::Component {
-            at,
-            name,
-            content,
-            ..
-        } => {
-            let fields = component_fields(area, *at, name.as_slice(), *content);
-            printer.line("component", &fields)
-        }
-        _ => Ok(()),
-    }
-}
-
 fn list_area<'a, W: Sink + Drop>(
     printer: &mut Printer<W>,
     area: &'a [u8],
@@ -57,24 +35,18 @@ fn list_area<'a, W: Sink + Drop>(
         (flat_map (component_in area.now) findings.now) }
 {
     for finding in findings {
-        list_component(printer, area, finding)?;
+        if let RegionFinding::Component {
+            at,
+            name,
+            content,
+            ..
+        } = finding
+        {
+            let fields = component_fields(area, *at, name.as_slice(), *content);
+            printer.line("component", &fields)?;
+        }
     }
     Ok(())
-}
-
-fn list_finding<W: Sink + Drop>(
-    printer: &mut Printer<W>,
-    finding: &ImageFinding,
-) -> Result<(), WriteFault>
-    ensures { PrintsLines W.contents W.faults result printer.old printer.new
-        (components_in finding.now) }
-{
-    match finding {
-        ImageFinding::Region { area, findings } => {
-            list_area(printer, area.area.text(), findings.as_slice())
-        }
-        _ => Ok(()),
-    }
 }
 
 /// Prints the components of the checked areas, in the order of findings.
@@ -85,7 +57,9 @@ pub fn list_components<W: Sink + Drop>(
     ensures { PrintsLines W.contents W.faults result printer.old printer.new (listed findings.now) }
 {
     for finding in findings {
-        list_finding(printer, finding)?;
+        if let ImageFinding::Region { area, findings } = finding {
+            list_area(printer, area.area.text(), findings.as_slice())?;
+        }
     }
     Ok(())
 }

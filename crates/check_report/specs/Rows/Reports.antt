@@ -18,18 +18,11 @@ use Rattle.check_report.specs.Rows.Fields.{line_json, line_text, object_of, text
 use Rattle.check_report.specs.Rows.Rows.{SeenRow, counts_of, row_line, summary}
 use Rattle.check_report.specs.Rows.Limits.{limited_rows}
 
-pub record SeenFiles : Type 0 where
-  pub image : List ℕ
-  pub old : Option (List ℕ)
-
-abbrev pub seen_files : Files → SeenFiles
-seen_files files = record { image = files.image.now; old = option_copied files.old }
-
-abbrev pub file_fields : SeenFiles → List SeenField
+abbrev pub file_fields : Files → List SeenField
 file_fields files =
     (codes "format", count_value 1)
-    ∷ (codes "image", text_value files.image)
-    ∷ (codes "old", option_map_or text_value files.old absent)
+    ∷ (codes "image", text_value files.image.now)
+    ∷ (codes "old", option_map_or text_value (option_copied files.old) absent)
     ∷ []
 
 abbrev pub count_fields : Counts → List SeenField
@@ -46,19 +39,19 @@ abbrev pub list_fields : Option (List Line) → List SeenField
 list_fields None = []
 list_fields (Some lines) = lines_field (codes "components") lines ∷ []
 
-unfoldable pub document : SeenFiles → Option (List Line) → List Line → Counts → Json
+unfoldable pub document : Files → Option (List Line) → List Line → Counts → Json
 document files list rows counts = object_of (file_fields files ++ list_fields list
     ++ lines_field (codes "rows") rows ∷ count_fields counts)
 
 -- the text of a list, rows and counts
-unfoldable pub report_with : Form → SeenFiles → Option (List Line) → List Line → Counts → List ℕ
+unfoldable pub report_with : Form → Files → Option (List Line) → List Line → Counts → List ℕ
 report_with forms.Text files list rows counts =
     option_map_or (flat_map line_text) list [] ++ flat_map line_text rows ++ summary counts
 report_with forms.Json files list rows counts =
     print (json_tokens (document files list rows counts)) ++ line_feed
 
 -- the same with the limit of rows
-abbrev pub report : Form → Bool → SeenFiles → Option (List Line) → List SeenRow → List ℕ
+abbrev pub report : Form → Bool → Files → Option (List Line) → List SeenRow → List ℕ
 report form is_verbose files list rows =
     report_with form files list (map row_line (if is_verbose then rows else limited_rows rows))
     (counts_of rows)
@@ -73,7 +66,7 @@ abbrev pub begin_tokens : List ℕ → List Token
 begin_tokens name = key name ∷ begin_array ∷ []
 
 -- the start, up to an array
-abbrev pub starting : Form → SeenFiles → List ℕ → List ℕ
+abbrev pub starting : Form → Files → List ℕ → List ℕ
 starting forms.Text files name = []
 starting forms.Json files name = print (begin_object ∷ flat_map member_tokens (file_fields files)
     ++ begin_tokens name)
@@ -97,7 +90,7 @@ between forms.Text = []
 between forms.Json = print (end_array ∷ begin_tokens (codes "rows"))
 
 -- the text before the rows
-abbrev pub heading : Form → SeenFiles → Option (List Line) → List ℕ
+abbrev pub heading : Form → Files → Option (List Line) → List ℕ
 heading form files None = starting form files (codes "rows")
 heading form files (Some lines) =
     starting form files (codes "components") ++ parts form false lines ++ between form

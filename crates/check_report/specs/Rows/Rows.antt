@@ -5,6 +5,7 @@ use Rattle.flash_format.specs.Flashmap.{text_of}
 use Rattle.check_findings.specs.declared.map.finding.NumberedArea.{NumberedArea}
 use Rattle.std.specs.Fmt.{decimal}
 use Rattle.std.specs.Option.{option_copied, option_map_or}
+use Rattle.std.specs.Str.{bytes_eq}
 use Prim.Native.String.{String}
 use lib.Chars.{codes}
 use Rattle.check_report.specs.declared.rows.row.Verdict.{Verdict}
@@ -108,10 +109,7 @@ row_line row = record {
 }
 
 abbrev pub is_verdict : Verdict → Verdict → Bool
-is_verdict verdicts.Bad verdicts.Bad = true
-is_verdict verdicts.Remark verdicts.Remark = true
-is_verdict verdicts.Change verdicts.Change = true
-is_verdict wanted verdict = false
+is_verdict wanted verdict = bytes_eq (verdict_word wanted) (verdict_word verdict)
 
 abbrev pub count_of : Verdict → List SeenRow → ℕ
 count_of verdict rows = count_by (λ row. is_verdict verdict row.verdict) rows

@@ -12,7 +12,7 @@ ghost use Rattle.check_report.specs.declared.rows.form.Form.TheVariants as forms
 ghost use Rattle.check_report.specs.Rows.Fields.{bytes_json, name_json};
 ghost use Rattle.check_report.specs.Rows.Fields.{object_of, seen_field};
 ghost use Rattle.check_report.specs.Rows.Reports.{between, ending, file_fields, member_tokens};
-ghost use Rattle.check_report.specs.Rows.Reports.{objects, seen_files, starting};
+ghost use Rattle.check_report.specs.Rows.Reports.{objects, starting};
 ghost use Rattle.check_report.specs.Rows.Writing.{AddsTokens};
 
 use crate::request::Files;
@@ -137,7 +137,7 @@ pub fn line_object(
 }
 
 fn file_fields<'a>(files: Files<'a>) -> [Field<'a>; 3]
-    ensures { map seen_field result ≡ file_fields (seen_files files.entry) }
+    ensures { map seen_field result ≡ file_fields files.entry }
 {
     [
         Field::new("format", Value::Count(1)),
@@ -149,7 +149,7 @@ fn file_fields<'a>(files: Files<'a>) -> [Field<'a>; 3]
 /// Returns the document up to the start of this array.
 pub fn json_start(alloc: Global, files: Files<'_>, array: &str) -> Result<Vec<u8>, AllocError>
     ensures { IfOk result (λ text. text.items
-        ≡ starting forms.Json (seen_files files.entry) array.now) }
+        ≡ starting forms.Json files.entry array.now) }
 {
     let mut writer = Writer::new(Vec::new(alloc));
     put(&mut writer, Token::BeginObject)?;

@@ -37,7 +37,7 @@ impl Kind {
     fn is_of(&self, row: &Row) -> bool
         ensures { result ≡ is_of (seen_kind self.now) (seen_row row.now) }
     {
-        row.verdict.is(self.verdict) && self.code == row.code
+        self.verdict.word() == row.verdict.word() && self.code == row.code
     }
 
     /// Returns the count of the row's kind, or `before` for another kind.

@@ -1,7 +1,7 @@
 //! A report, printed line by line.
 ghost use Rattle.std.specs.Prelude.{◌≡◌, ◌∷◌, [], false, map, IfOk};
 ghost use Rattle.check_report.specs.Rows.Fields.{seen_field};
-ghost use Rattle.check_report.specs.Rows.Reports.{between, ending, parts, seen_files, starting};
+ghost use Rattle.check_report.specs.Rows.Reports.{between, ending, parts, starting};
 ghost use Rattle.check_report.specs.Rows.Writing.{Prints, PrintsLines};
 
 use crate::fault::WriteFault;
@@ -77,7 +77,7 @@ impl<W: Sink + Drop> Printer<W> {
     /// Prints the report up to this array's first item.
     pub fn start(&mut self, files: Files<'_>, array: &str) -> Result<(), WriteFault>
         ensures { Prints W.contents W.faults result self.old self.new
-            (starting self.old.form (seen_files files.entry) array.now) false }
+            (starting self.old.form files.entry array.now) false }
     {
         self.follows = false;
         match self.form {

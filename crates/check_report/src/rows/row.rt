@@ -2,7 +2,7 @@
 
 ghost use Rattle.std.specs.Prelude.{◌≡◌, map};
 ghost use Rattle.check_report.specs.Rows.Rows as rows;
-ghost use Rattle.check_report.specs.Rows.Rows.{detail_value, is_verdict, row_line, seen_row};
+ghost use Rattle.check_report.specs.Rows.Rows.{detail_value, row_line, seen_row};
 ghost use Rattle.check_report.specs.Rows.Rows.{verdict_word};
 ghost use Rattle.check_report.specs.Rows.Fields.{seen_field, seen_value};
 
@@ -27,12 +27,6 @@ impl Verdict {
             Verdict::Remark => "remark",
             Verdict::Change => "change",
         }
-    }
-
-    pub fn is(self, wanted: Verdict) -> bool
-        ensures { result ≡ is_verdict wanted self }
-    {
-        self == wanted
     }
 
     /// Returns a row of the whole image.

@@ -1,4 +1,3 @@
-use Rattle.check_report.specs.Rows.Reports.{seen_files}
 use Rattle.check_report.proofs.SoundRows.{report_text}
 use Rattle.check_report.proofs.inspection.Inspection.write.Goals as goal
 
@@ -12,5 +11,5 @@ returns-clause-text g c =
     let made = c.new-rows.ensures in
     rw (← c.new-printer.ensures.out, ← c.new-printer.ensures.form, c.into_inner-2.ensures)
     (report_text g.W.Sink.contents c.print_rows-is_bad.result c.new-printer.result c.print_heading.new.printer c.print_rows-is_bad.new.rows.printer c.new-rows.result
-    c.args.request.asked.is_verbose (seen_files c.args.request.files) _ _ c.in_default.ensures.printed made.rows made.begun made.verbose
+    c.args.request.asked.is_verbose c.args.request.files _ _ c.in_default.ensures.printed made.rows made.begun made.verbose
     (c.print_rows-is_bad.ensures.text (made.sound c.in_default.ensures.printed.follows)))
