@@ -3,7 +3,6 @@ use Rattle.std.specs.Prelude.{ℕ, Bool, List, [], ◌++◌, map, is_none, if◌
 use Rattle.std.specs.List.{flat_map}
 use Rattle.std.specs.Option.{option_map_or}
 use Rattle.check_findings.specs.declared.map.finding.NumberedArea.{NumberedArea}
-use Rattle.check_findings.specs.declared.image.finding.ImageFinding.{ImageFinding}
 use Rattle.check_findings.specs.Image.Needs as needs
 use Rattle.check_report.specs.declared.request.Asked.{Asked}
 use Rattle.check_report.specs.Rows.Rows.{SeenRow, area_name}
@@ -32,11 +31,6 @@ wish_of request = record {
   asked = request.asked;
 }
 
--- rows of findings and unmet needs
-abbrev pub found_rows : Wish → List ImageFinding → List SeenRow
-found_rows wish findings =
-    finding_rows wish.asked wish.areas findings ++ flat_map (need_rows findings) wish.needs
-
 abbrev pub need_areas : Wish → List (List ℕ)
 need_areas wish = map (λ n. n.area) wish.needs
 
@@ -56,7 +50,9 @@ change_rows wish c =
     ++ flat_map (rows.region_rows kept) new.regions.items)
     ++ flat_map (rows.missing_if olds c.new_areas.items) wish.kept
 
--- rows of findings, then of changes
+-- rows of findings, unmet needs and changes
 abbrev pub inspection_rows : Wish → Inspection → List SeenRow
 inspection_rows wish i =
-    found_rows wish i.findings.items ++ option_map_or (change_rows wish) i.changes []
+    (finding_rows wish.asked wish.areas i.findings.items
+    ++ flat_map (need_rows i.findings.items) wish.needs)
+    ++ option_map_or (change_rows wish) i.changes []

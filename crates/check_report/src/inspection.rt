@@ -4,7 +4,7 @@ ghost use Rattle.std.specs.List.{list_any};
 ghost use Rattle.std.specs.Io.KnownBytes.{Appends};
 ghost use Rattle.flash_device.specs.Device.{fault_count};
 ghost use Rattle.check_report.specs.Faults.{by_sink};
-ghost use Rattle.check_report.specs.Reports.{change_rows, found_rows, inspection_rows, old_areas};
+ghost use Rattle.check_report.specs.Reports.{change_rows, inspection_rows, old_areas};
 ghost use Rattle.check_report.specs.Reports.{wish_of};
 ghost use Rattle.check_report.specs.Lists.{list_if};
 ghost use Rattle.check_report.specs.Rows.Reports.{heading, report};
@@ -72,18 +72,6 @@ pub struct Inspection {
     pub changes: Option<Changes>,
 }
 
-fn add_found<'a, W: Sink + Drop>(
-    rows: &mut RowWriter<'a, W>,
-    request: Request<'a>,
-    findings: &'a [ImageFinding],
-) -> Result<(), WriteFault>
-    ensures { Adds W.contents W.faults result rows.old rows.new
-        (found_rows (wish_of request.entry) findings.now) }
-{
-    add_findings(rows, request.asked, findings, request.areas)?;
-    add_needs(rows, findings, request.needs)
-}
-
 fn add_changes<'a, W: Sink + Drop>(
     alloc: Global,
     rows: &mut RowWriter<'a, W>,
@@ -124,7 +112,8 @@ impl Inspection {
         ensures { Adds W.contents W.faults result rows.old rows.new
             (inspection_rows (wish_of request.entry) self.now) }
     {
-        add_found(rows, request, &self.findings)?;
+        add_findings(rows, request.asked, &self.findings, request.areas)?;
+        add_needs(rows, &self.findings, request.needs)?;
         match &self.changes {
             Some(changes) => add_changes(alloc, rows, request, changes),
             None => Ok(()),

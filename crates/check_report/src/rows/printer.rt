@@ -10,9 +10,9 @@ use crate::rows::document::{json_between, json_end, json_start, line_object};
 use crate::rows::field::Field;
 use crate::rows::form::Form;
 use crate::rows::kinds::Counts;
-use crate::rows::text::{push_line, push_summary};
+use crate::rows::text::{line, summary};
 use flash_device::{Sink, put_all};
-use std::alloc::{AllocError, Global};
+use std::alloc::Global;
 
 /// A printer of lines, without a buffer.
 #[derive(Drop)]
@@ -21,40 +21,6 @@ pub struct Printer<W: Sink + Drop> {
     form: Form,
     out: W,
     follows: bool,
-}
-
-/// Returns the bytes of a line. In JSON a comma separates lines.
-fn line_part(
-    alloc: Global,
-    form: Form,
-    follows: bool,
-    head: &str,
-    fields: &[Field<'_>],
-) -> Result<Vec<u8>, AllocError>
-    ensures { IfOk result (λ part. part.items ≡ parts form follows
-        (record { head = head.now; fields = map seen_field fields.now } ∷ [])) }
-{
-    match form {
-        Form::Text => {
-            let mut text = Vec::new(alloc);
-            push_line(&mut text, head, fields)?;
-            Ok(text)
-        }
-        Form::Json => line_object(alloc, follows, fields),
-    }
-}
-
-fn end_part(alloc: Global, form: Form, counts: Counts) -> Result<Vec<u8>, AllocError>
-    ensures { IfOk result (λ part. part.items ≡ ending form counts) }
-{
-    match form {
-        Form::Text => {
-            let mut text = Vec::new(alloc);
-            push_summary(&mut text, counts)?;
-            Ok(text)
-        }
-        Form::Json => json_end(alloc, counts),
-    }
 }
 
 impl<W: Sink + Drop> Printer<W> {
@@ -90,7 +56,10 @@ impl<W: Sink + Drop> Printer<W> {
         ensures { PrintsLines W.contents W.faults result self.old self.new
             (record { head = head.now; fields = map seen_field fields.now } ∷ []) }
     {
-        let part = line_part(self.alloc, self.form, self.follows, head, fields)?;
+        let part = match self.form {
+            Form::Text => line(self.alloc, head, fields)?,
+            Form::Json => line_object(self.alloc, self.follows, fields)?,
+        };
         self.follows = true;
         self.put(&part)
     }
@@ -111,7 +80,10 @@ impl<W: Sink + Drop> Printer<W> {
         ensures { Prints W.contents W.faults result self.old self.new
             (ending self.old.form counts) self.old.follows }
     {
-        let end = end_part(self.alloc, self.form, counts)?;
+        let end = match self.form {
+            Form::Text => summary(self.alloc, counts)?,
+            Form::Json => json_end(self.alloc, counts)?,
+        };
         self.put(&end)
     }
 

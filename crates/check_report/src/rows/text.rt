@@ -1,5 +1,5 @@
 //! Lines as text.
-ghost use Rattle.std.specs.Prelude.{◌≡◌, ◌++◌, map, OnOk};
+ghost use Rattle.std.specs.Prelude.{◌≡◌, ◌++◌, map, IfOk, OnOk};
 ghost use Rattle.std.specs.List.{flat_map};
 ghost use Rattle.std.specs.Fmt.{decimal};
 ghost use Rattle.flash_format.specs.Printed.{printed_name, tab};
@@ -10,7 +10,7 @@ use crate::rows::field::{Field, Value};
 use crate::rows::kinds::Counts;
 use flash_format::{hexadecimal, printed_byte};
 use itoa::Buffer;
-use std::alloc::AllocError;
+use std::alloc::{AllocError, Global};
 
 pub fn push(text: &mut Vec<u8>, part: &[u8]) -> Result<(), AllocError>
     ensures { OnOk result (text.new.items ≡ text.old.items ++ part.now) }
@@ -71,24 +71,29 @@ fn push_fields(text: &mut Vec<u8>, fields: &[Field<'_>]) -> Result<(), AllocErro
     Ok(())
 }
 
-pub fn push_line(text: &mut Vec<u8>, head: &str, fields: &[Field<'_>]) -> Result<(), AllocError>
-    ensures { OnOk result (text.new.items ≡ text.old.items
-        ++ line_text (record { head = head.now; fields = map seen_field fields.now })) }
+/// Returns a line.
+pub fn line(alloc: Global, head: &str, fields: &[Field<'_>]) -> Result<Vec<u8>, AllocError>
+    ensures { IfOk result (λ text. text.items
+        ≡ line_text (record { head = head.now; fields = map seen_field fields.now })) }
 {
-    push(text, head.as_bytes())?;
-    push_fields(text, fields)?;
-    push(text, b"\n")
+    let mut text = Vec::new(alloc);
+    push(&mut text, head.as_bytes())?;
+    push_fields(&mut text, fields)?;
+    push(&mut text, b"\n")?;
+    Ok(text)
 }
 
-/// Adds the line after all rows.
+/// Returns the line after all rows.
 #[tactic(auto, unfolding(crate::specs::Rows::Rows::summary))]
-pub fn push_summary(text: &mut Vec<u8>, counts: Counts) -> Result<(), AllocError>
-    ensures { OnOk result (text.new.items ≡ text.old.items ++ summary counts) }
+pub fn summary(alloc: Global, counts: Counts) -> Result<Vec<u8>, AllocError>
+    ensures { IfOk result (λ text. text.items ≡ summary counts) }
 {
-    push_decimal(text, counts.bad)?;
-    push(text, b" bad, ")?;
-    push_decimal(text, counts.remarks)?;
-    push(text, b" remarks, ")?;
-    push_decimal(text, counts.changes)?;
-    push(text, b" changes\n")
+    let mut text = Vec::new(alloc);
+    push_decimal(&mut text, counts.bad)?;
+    push(&mut text, b" bad, ")?;
+    push_decimal(&mut text, counts.remarks)?;
+    push(&mut text, b" remarks, ")?;
+    push_decimal(&mut text, counts.changes)?;
+    push(&mut text, b" changes\n")?;
+    Ok(text)
 }
