@@ -2,6 +2,7 @@
 ghost use Rattle.std.specs.Prelude.{◌≡◌};
 ghost use Rattle.check_report.specs.declared.fault.WriteFault.TheVariants as writes;
 
+pub use check_changes::ChangeFault as ReportFault;
 use flash_device::SinkFault;
 use std::alloc::AllocError;
 

@@ -23,9 +23,9 @@ mod request;
 mod rows;
 
 pub use change::inspect_change;
-pub use check_changes::{ChangeFault as ReportFault, Images};
+pub use check_changes::Images;
 pub use check_findings::{Need, NeededPlace};
-pub use fault::WriteFault;
+pub use fault::{ReportFault, WriteFault};
 pub use image::inspect_image;
 pub use inspection::{Changes, Comparison, Inspection, OldImage, Written};
 pub use laws::{limits_lose_no_bad_row, rows_tell_what_is_bad};
