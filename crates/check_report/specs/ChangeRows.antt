@@ -2,7 +2,7 @@
 use Rattle.std.specs.Prelude.{ℕ, Bool, true, not, ◌&&◌, ◌||◌, ◌%◌, nat_le, List, [], ◌∷◌, ◌++◌}
 use Rattle.std.specs.Prelude.{filter, map, nat_lt}
 use Rattle.std.specs.Prelude.{◌==◌, if◌then◌else◌}
-use Rattle.std.specs.List.{flat_map, list_any}
+use Rattle.std.specs.List.{list_any}
 use Prim.Native.String.{String}
 use Rattle.check_changes.specs.declared.regions.change.RegionChange.{RegionChange}
 use Rattle.check_changes.specs.declared.regions.change.RegionChange.TheVariants.{Compared}

@@ -1,4 +1,3 @@
-use Rattle.std.proofs.Common.{append-nil}
 use Rattle.check_report.proofs.SoundRows.{adds_after, adds_both}
 use Rattle.check_report.proofs.inspection.Inspection.add_rows.Goals as goal
 
