@@ -8,6 +8,9 @@ use crate::map::NumberedArea;
 use std::alloc::{AllocError, Global};
 use std::collections::BTreeMap;
 
+/// The size of a minimal area with room for an entry.
+const HEAD: u32 = 24;
+
 /// The smallest size of an area with room for an entry, by offset.
 #[derive(Drop)]
 pub struct Starts {
@@ -31,7 +34,7 @@ impl Starts {
         ensures { (before : List NumberedArea) → HasStarts self.old before →
             OnOk result (HasStarts self.new (before ++ area.now ∷ [])) }
     {
-        if area.area.size < 24 {
+        if area.area.size < HEAD {
             return Ok(());
         }
         if self.has_smaller(area) {

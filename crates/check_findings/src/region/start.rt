@@ -7,6 +7,9 @@ ghost use Rattle.check_findings.specs.Region.RegionFindings.{begins_with_entry};
 use flash_device::{Flash, FlashFault, Paged, Region};
 use flash_format::Head;
 
+/// The bytes of an entry before its name.
+const HEAD: u64 = Head::LENGTH as u64;
+
 /// Returns whether an entry, damaged or not, begins at this offset.
 pub fn has_entry_at<F: Flash>(
     paged: &mut Paged<F>,
@@ -23,10 +26,10 @@ pub fn has_entry_at<F: Flash>(
     ensures has { OnHonestIn F.facts paged.old.device region (λ x.
         IfOk result (λ has. has ≡ begins_with_entry (drop at x))) }
 {
-    if region.size() - at < 24 {
+    if region.size() - at < HEAD {
         return Ok(false);
     }
-    let mut bytes = [0; 24];
+    let mut bytes = [0; Head::LENGTH];
     paged.read_small(region.start() + at, &mut bytes)?;
     let head = Head::read(&bytes);
     Ok(head.is_some())
