@@ -60,7 +60,7 @@ impl Read for Blanks {
     }
 }
 
-/// Compiles `TEXT` in `pieces`, with an error after `good` bytes, and checks the result and the output.
+/// Compiles `TEXT` in `pieces`, with an error after `good` bytes, and checks the result.
 fn compiles(
     rt: &(impl Abort + AllocGlobal),
     pieces: &[usize],
