@@ -7,13 +7,14 @@ use Rattle.std.proofs.lemmas.Bool.{and_parts, le-ltb, leb-true, or_parts}
 use Rattle.std.proofs.lemmas.List.Elements.{All-nil, All-cons, All-head, All-tail, All-filter, All-weaker, All-contains_itself, filter_passes}
 use Rattle.flash_format.specs.declared.flashmap.Area.{Area}
 use Rattle.flash_format.specs.Flashmap.{areas_at, fmap_head_of, is_area, map_of, text_of}
-use Rattle.flash_device.specs.declared.fmap.FoundMap.{FoundMap}
-use Rattle.flash_device.specs.Fmap.{found_from, found_in}
-use Rattle.flash_device.specs.Regions.{region_of, region_under}
+use Rattle.flash_map.specs.declared.search.FoundMap.{FoundMap}
+use Rattle.flash_map.specs.Fmap.{found_from, found_in}
+use Rattle.flash_map.specs.Regions.{region_of, region_under}
 use Rattle.check_findings.specs.declared.map.finding.MapFinding.{MapFinding}
 use Rattle.check_findings.specs.declared.map.finding.MapFinding.TheVariants.{NoMap, OtherMap, OtherSize}
-use Rattle.check_findings.specs.declared.map.finding.NumberedArea.{NumberedArea}
-use Rattle.check_findings.specs.Map.MapFindings.{area_end, area_findings, finding_if, findings_of, has_name, image_areas, map_areas, map_findings, name_findings, numbered_from}
+use Rattle.flash_map.specs.declared.areas.NumberedArea.{NumberedArea}
+use Rattle.check_findings.specs.Map.MapFindings.{area_findings, finding_if, findings_of, map_findings, name_findings}
+use Rattle.flash_map.specs.Areas.{area_end, has_name, image_areas, map_areas, numbered_from}
 use Rattle.check_findings.proofs.MapLemmas.Sound.{named, none_of}
 use Rattle.check_findings.specs.declared.image.finding.ImageFinding.{ImageFinding}
 use Rattle.check_findings.specs.declared.image.finding.ImageFinding.TheVariants.{Map, NotChecked}

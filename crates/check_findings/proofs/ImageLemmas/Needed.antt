@@ -20,8 +20,9 @@ use Rattle.check_findings.specs.Image.Needs.{Wish, content_named, first_content,
 use Rattle.check_findings.specs.Image.Laws.{IsMet, NeedsAreThere}
 use Rattle.check_findings.specs.Image.ImageFindings.{areas_findings, bytes_of, expected_names, has_one_of, image_findings, left_after, names_findings, region_finding, regions_findings, wanted_areas}
 use Rattle.check_findings.specs.Image.RegionAreas.{region_areas}
-use Rattle.check_findings.specs.Map.MapFindings.{image_areas, map_findings}
-use Rattle.check_findings.specs.declared.map.finding.NumberedArea.{NumberedArea}
+use Rattle.check_findings.specs.Map.MapFindings.{map_findings}
+use Rattle.flash_map.specs.Areas.{image_areas}
+use Rattle.flash_map.specs.declared.areas.NumberedArea.{NumberedArea}
 use Rattle.check_findings.specs.declared.image.finding.ImageFinding.{ImageFinding}
 use Rattle.check_findings.specs.declared.image.finding.ImageFinding.TheVariants.{Map, NotChecked, Region}
 use Rattle.check_findings.specs.declared.image.needs.NeedFinding.TheVariants.{Elsewhere, Missing}

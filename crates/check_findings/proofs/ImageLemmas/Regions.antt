@@ -8,8 +8,9 @@ use Rattle.std.proofs.lemmas.Grind.{flat_map-append}
 use Rattle.std.proofs.lemmas.List.Elements.{All-append, All-cons, All-nil, All-push, filter_more}
 use Rattle.std.proofs.lemmas.List.Sums.{sum_by_push}
 use Rattle.check_findings.specs.declared.map.finding.MapFinding.{MapFinding}
-use Rattle.check_findings.specs.declared.map.finding.NumberedArea.{NumberedArea}
-use Rattle.check_findings.specs.Map.MapFindings.{area_end, has_name, image_areas, map_findings}
+use Rattle.flash_map.specs.declared.areas.NumberedArea.{NumberedArea}
+use Rattle.check_findings.specs.Map.MapFindings.{map_findings}
+use Rattle.flash_map.specs.Areas.{area_end, has_name, image_areas}
 use Rattle.check_findings.specs.declared.image.finding.ImageFinding.{ImageFinding}
 use Rattle.check_findings.specs.declared.image.finding.ImageFinding.TheVariants.{Map, NoArea}
 use Rattle.check_findings.specs.Image.ImageFindings.{area_finding, areas_findings, expected_names, image_findings, left_after, names_findings, wanted_areas}

@@ -11,12 +11,13 @@ use Rattle.std.proofs.lemmas.Slice.Eq.{bytes_eq-Decides}
 use lib.Chars.{codes}
 use Rattle.flash_format.specs.declared.flashmap.Area.{Area}
 use Rattle.flash_format.specs.Flashmap.{text_of}
-use Rattle.flash_device.specs.declared.fmap.FoundMap.{FoundMap}
-use Rattle.flash_device.specs.Fmap.{found_from, found_in}
-use Rattle.check_findings.specs.declared.map.finding.NumberedArea.{NumberedArea}
+use Rattle.flash_map.specs.declared.search.FoundMap.{FoundMap}
+use Rattle.flash_map.specs.Fmap.{found_from, found_in}
+use Rattle.flash_map.specs.declared.areas.NumberedArea.{NumberedArea}
 use Rattle.check_findings.specs.declared.map.finding.MapFinding.{MapFinding}
 use Rattle.check_findings.specs.declared.map.finding.MapFinding.TheVariants as findings
-use Rattle.check_findings.specs.Map.MapFindings.{area_end, area_findings, ends_inside, finding_if, findings_of, has_name, holds_map, map_area_findings, map_areas, map_findings, name_findings, numbered_from, overlap, overlap_findings, overlap_with}
+use Rattle.check_findings.specs.Map.MapFindings.{area_findings, ends_inside, finding_if, findings_of, holds_map, map_area_findings, map_findings, name_findings, overlap, overlap_findings, overlap_with}
+use Rattle.flash_map.specs.Areas.{area_end, has_name, map_areas, numbered_from}
 use Rattle.check_findings.specs.Map.Laws.{HoldsMap, IsInside, IsSound, Nest, CleanMapsAreSound}
 
 -- ---- no findings

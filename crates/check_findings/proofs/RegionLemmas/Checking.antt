@@ -23,8 +23,8 @@ use Rattle.flash_format.specs.Head.{head_of, is_free}
 use Rattle.check_findings.specs.Region.Counts.{IsCountBefore, nothing, count_after}
 use Rattle.check_findings.specs.Region.RegionFindings.{names_after, cell_findings, cells_findings, counts_of, end_findings, tail_findings, shape_findings, region_findings}
 use Rattle.check_findings.specs.Region.Reports.{HasReported, Reported, Reports, counted, nothing_reported, refused_findings, with_cell, with_findings}
-use Rattle.check_findings.specs.declared.fault.CheckFault.{CheckFault}
-use Rattle.check_findings.specs.declared.fault.CheckFault.TheVariants as check
+use Rattle.flash_map.specs.declared.fault.CheckFault.{CheckFault}
+use Rattle.flash_map.specs.declared.fault.CheckFault.TheVariants as check
 use Rattle.check_findings.specs.declared.region.finding.RegionFinding.{RegionFinding}
 use Rattle.check_findings.specs.declared.region.finding.RegionFinding.TheVariants as findings
 use Rattle.check_findings.specs.declared.region.count.Count.{Count}

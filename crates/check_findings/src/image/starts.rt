@@ -1,10 +1,10 @@
 //! Smallest sizes of areas by offset.
 ghost use Rattle.std.specs.Prelude.{◌≡◌, ◌∷◌, [], ◌++◌, List, IfOk, OnOk};
-ghost use Rattle.check_findings.specs.declared.map.finding.NumberedArea.{NumberedArea};
+ghost use Rattle.flash_map.specs.declared.areas.NumberedArea.{NumberedArea};
 ghost use Rattle.check_findings.specs.Image.ImageFindings.{has_smaller};
 ghost use Rattle.check_findings.specs.Image.Lookups.{HasStarts};
 
-use crate::map::NumberedArea;
+use flash_map::NumberedArea;
 use std::alloc::{AllocError, Global};
 use std::collections::BTreeMap;
 

@@ -6,16 +6,16 @@ ghost use Rattle.std.specs.Option.{option_to_list};
 ghost use lib.Chars.{codes};
 ghost use Rattle.flash_format.specs.Flashmap.{map_len};
 ghost use Rattle.check_findings.specs.Map.MapFindings.{area_findings, finding_if, findings_of};
-ghost use Rattle.check_findings.specs.Map.MapFindings.{has_name, holds_map, map_area_findings};
+ghost use Rattle.check_findings.specs.Map.MapFindings.{holds_map, map_area_findings};
+ghost use Rattle.flash_map.specs.Areas.{has_name};
 
-use crate::fault::Pushed;
-use crate::lists::push_if;
-use crate::map::finding::{MapFinding, MapFindings, NumberedArea};
+use crate::lists::{Pushed, push_if};
+use crate::map::finding::{MapFinding, MapFindings};
 use crate::map::names::push_name_findings;
 use crate::map::overlaps::push_overlap_findings;
 use crate::text::is_text;
-use flash_device::FoundMap;
 use flash_format::{Area, FmapHead};
+use flash_map::{FoundMap, NumberedArea};
 use std::alloc::{AllocError, Global};
 
 /// Returns the findings in an image of `len` bytes. `next` is the map at the next higher offset.

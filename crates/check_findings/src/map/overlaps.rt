@@ -4,11 +4,11 @@ ghost use Rattle.std.specs.Prelude.{◌≡◌, ◌++◌, OnOk};
 ghost use Rattle.std.specs.List.{find};
 ghost use Rattle.check_findings.specs.Map.MapFindings.{ends_inside, overlap, overlap_findings};
 
-use crate::fault::Pushed;
-use crate::lists::push_if;
-use crate::map::finding::{MapFinding, MapFindings, NumberedArea};
+use crate::lists::{Pushed, push_if};
+use crate::map::finding::{MapFinding, MapFindings};
 use crate::map::findings::push_some;
 use flash_format::Area;
+use flash_map::NumberedArea;
 
 /// The limit of pairwise comparisons. All 65535 areas of a map would take seconds.
 const MOST_COMPARED: usize = 4096;

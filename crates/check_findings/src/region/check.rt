@@ -5,12 +5,11 @@ ghost use Rattle.flash_device.specs.Pages.{HasRead, OnHonestIn};
 ghost use Rattle.flash_device.specs.Regions.{LiesOn};
 ghost use Rattle.cbfs_walk.specs.Cells.{IsCellIn, cell_in};
 ghost use Rattle.cbfs_walk.specs.Walks.{StandsIn};
-ghost use Rattle.check_findings.specs.Faults.{by_device};
+ghost use Rattle.flash_map.specs.Faults.{by_device};
 ghost use Rattle.check_findings.specs.Region.RegionFindings.{region_findings};
 ghost use Rattle.check_findings.specs.Region.Reports.{HasReported, Reported, Reports};
 ghost use Rattle.check_findings.specs.Region.Reports.{refused_findings, with_cell};
 
-use crate::fault::CheckFault;
 use crate::region::count::Count;
 use crate::region::finding::{Content, HashFinding, RegionFinding};
 use crate::region::report::Report;
@@ -19,6 +18,7 @@ use cbfs_walk::{
     Cell, Step, Walk, WalkFault, cells_stand_in_their_image, check_hash, name, packing,
 };
 use flash_device::{Flash, Paged, Region};
+use flash_map::CheckFault;
 use std::alloc::Global;
 use std::hash::RandomState;
 

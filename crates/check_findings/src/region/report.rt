@@ -1,8 +1,7 @@
 //! The region report.
 ghost use Rattle.std.specs.Prelude.{◌≡◌, [], ◌∷◌, ◌++◌, IfOk, if◌then◌else◌};
 
-use crate::fault::Pushed;
-use crate::lists::push_if;
+use crate::lists::{Pushed, push_if};
 use crate::region::count::Count;
 use crate::region::finding::{Content, Name, RegionFinding};
 use smallvec::SmallVec;

@@ -4,17 +4,17 @@ ghost use Rattle.std.specs.List.{position_from};
 ghost use Rattle.flash_device.specs.Device.{fault_count};
 ghost use Rattle.flash_device.specs.Pages.{HasAnswered, HasRead, OnHonestIn};
 ghost use Rattle.flash_device.specs.Regions.{LiesOn};
-ghost use Rattle.check_findings.specs.Faults.{by_device};
+ghost use Rattle.flash_map.specs.Faults.{by_device};
 ghost use Rattle.check_findings.specs.Region.RegionFindings.{is_filled, tail_bytes};
 ghost use Rattle.check_findings.specs.Region.RegionFindings.{entries_findings};
 ghost use Rattle.check_findings.specs.Region.RegionFindings.{tail_findings};
 ghost use Rattle.check_findings.specs.Region.Reports.{Reports, with_findings};
 
-use crate::fault::CheckFault;
 use crate::region::finding::RegionFinding;
 use crate::region::report::Report;
 use crate::region::start::has_entry_at;
 use flash_device::{Flash, FlashFault, PIECE, Paged, Region};
+use flash_map::CheckFault;
 
 /// Returns the offset of the first byte except 0xff and 0x00. The bytes begin at `at`.
 fn first_filled(bytes: &[u8], at: u64) -> Option<u64>

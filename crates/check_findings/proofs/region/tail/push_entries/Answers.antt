@@ -2,7 +2,7 @@ use Rattle.std.proofs.Common.{◌+◌, ◌*◌, Ok, add-one, subst, arith}
 use Rattle.flash_device.specs.Regions.{bytes_in}
 use Rattle.flash_device.proofs.DeviceLemmas.{honest_still, length-bytes_in}
 use Rattle.flash_device.proofs.WindowLemmas.{HasRead-none, HasRead-then}
-use Rattle.check_findings.specs.declared.fault.CheckFault.{CheckFault}
+use Rattle.flash_map.specs.declared.fault.CheckFault.{CheckFault}
 use Rattle.check_findings.specs.Region.RegionFindings.{entries_findings, entry_findings}
 use Rattle.check_findings.specs.Region.Reports.{Reports, with_findings}
 use Rattle.check_findings.proofs.RegionLemmas.Tails.{entries_last}

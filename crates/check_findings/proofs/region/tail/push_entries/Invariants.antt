@@ -1,6 +1,6 @@
 use Rattle.std.proofs.Common.{Ok}
 use Rattle.flash_device.specs.Pages.{HasRead, OnHonestIn}
-use Rattle.check_findings.specs.declared.fault.CheckFault.{CheckFault}
+use Rattle.flash_map.specs.declared.fault.CheckFault.{CheckFault}
 use Rattle.check_findings.specs.Region.RegionFindings.{entries_findings}
 use Rattle.check_findings.specs.Region.Reports.{Reports, with_findings}
 use Rattle.check_findings.proofs.region.tail.push_entries.Given as goal
