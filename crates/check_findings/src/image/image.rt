@@ -18,7 +18,6 @@ ghost use Rattle.check_findings.specs.Image.RegionAreas.{sum_sizes};
 use crate::image::finding::{ImageFinding, RegionFindings};
 use crate::image::names::{NameSet, push_missing};
 use crate::image::wanted::wanted_areas;
-use crate::lists::push_if;
 use crate::map::{MapFinding, check_map};
 use crate::region::check_region;
 use flash_device::{Flash, Paged, Region};
@@ -87,7 +86,7 @@ fn areas_findings<F: Flash>(
     let mut findings = Vec::new(alloc);
     for area in areas {
         let finding = area_finding(alloc, keys, paged, expected, area, &mut left)?;
-        push_if(&mut findings, true, finding)?;
+        findings.push(finding)?;
     }
     Ok(findings)
 }
@@ -97,7 +96,7 @@ fn map_part(alloc: Global, found: &[MapFinding]) -> Result<Vec<ImageFinding>, Al
 {
     let mut findings = Vec::new(alloc);
     for finding in found {
-        push_if(&mut findings, true, ImageFinding::Map(*finding))?;
+        findings.push(ImageFinding::Map(*finding))?;
     }
     Ok(findings)
 }

@@ -34,13 +34,10 @@ impl Starts {
         ensures { (before : List NumberedArea) → HasStarts self.old before →
             OnOk result (HasStarts self.new (before ++ area.now ∷ [])) }
     {
-        if area.area.size < HEAD {
-            return Ok(());
+        let size = area.area.size;
+        if size >= HEAD && !self.has_smaller(area) {
+            self.smallest.insert(area.area.offset, size)?;
         }
-        if self.has_smaller(area) {
-            return Ok(());
-        }
-        self.smallest.insert(area.area.offset, area.area.size)?;
         Ok(())
     }
 

@@ -9,7 +9,6 @@ ghost use Rattle.flash_map.specs.Faults.{by_device};
 ghost use Rattle.check_findings.specs.Map.MapFindings.{map_findings};
 ghost use Rattle.flash_map.specs.Areas.{image_areas};
 
-use crate::lists::push_if;
 use crate::map::finding::MapFinding;
 use crate::map::findings::findings_of;
 use flash_device::{Flash, Paged};
@@ -44,7 +43,7 @@ pub fn check_map<F: Flash>(alloc: Global, paged: &mut Paged<F>) -> Result<Checke
     let ImageMap { found, areas } = image_map(alloc, paged)?;
     let Some(map) = found else {
         let mut findings = Vec::new(alloc);
-        push_if(&mut findings, true, MapFinding::NoMap)?;
+        findings.push(MapFinding::NoMap)?;
         return Ok(CheckedMap {
             findings,
             found,

@@ -31,7 +31,7 @@ pub fn findings_of(
 {
     let mut findings = Vec::new(alloc);
     let has_other_size = u64::from(map.head.size) != len;
-    push_if(&mut findings, true, MapFinding::Map(*map))?;
+    findings.push(MapFinding::Map(*map))?;
     push_some(&mut findings, next.map(MapFinding::OtherMap))?;
     push_if(&mut findings, has_other_size, MapFinding::OtherSize)?;
     push_area_findings(&mut findings, len, areas)?;

@@ -24,13 +24,13 @@ loop-cell-preserved g c =
 pub returns-in-Ok-Tail-clause-findings : goal.returns-in-Ok-Tail-clause-findings
 returns-in-Ok-Tail-clause-findings g c =
     let is = c.in-Ok-Tail.field-0-is in
-    checking_tail g.F.Flash.facts c.args.region c.loop-cell.walk c.loop-cell.report c.loop-cell.count _ _ c.requires c.loop-cell.invariant.0 _ c.loop-cell.at _ _ c.push_tail.new.report _ (rw is at c.in-Ok-Tail.ensures.answer) c.loop-cell.invariant.1
+    checking_tail g.F.Flash.facts c.args.region c.loop-cell.walk c.loop-cell.report c.loop-cell.count _ _ c.requires c.loop-cell.invariant.0 _ c.loop-cell.at _ _ _ _ (rw is at c.in-Ok-Tail.ensures.answer) c.loop-cell.invariant.1
     (rw is at c.in-Ok-Tail.ensures.after) c.in_ok-push_tail-in-Ok-Tail.ensures.found c.in_ok-counted-in-Ok-Tail.ensures
 
 pub returns-in-Ok-End-clause-findings : goal.returns-in-Ok-End-clause-findings
 returns-in-Ok-End-clause-findings g c =
-    checking_end g.F.Flash.facts c.args.region c.loop-cell.walk c.loop-cell.report c.loop-cell.count _ _ c.requires c.loop-cell.invariant.0 c.push_if.new.self c.size-size.result _ (rw c.in-Ok-End.field-0-is at c.in-Ok-End.ensures.answer) c.size-size.ensures
-    c.in_ok-push_if-in-Ok-End.ensures c.in_ok-counted-in-Ok-End.ensures
+    checking_end g.F.Flash.facts c.args.region c.loop-cell.walk c.loop-cell.report c.loop-cell.count _ _ c.requires c.loop-cell.invariant.0 c.size-size.result _ _ (rw c.in-Ok-End.field-0-is at c.in-Ok-End.ensures.answer) c.size-size.ensures
+    c.in_ok-push-in-Ok-End.ensures.items c.in_ok-counted-in-Ok-End.ensures
 
 pub returns-in-Err-clause-findings : goal.returns-in-Err-clause-findings
 returns-in-Err-clause-findings g c = λ h.
