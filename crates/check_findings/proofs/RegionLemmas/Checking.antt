@@ -20,10 +20,11 @@ use Rattle.cbfs_walk.specs.declared.walk.WalkFault.{WalkFault}
 use Rattle.cbfs_walk.specs.declared.walk.WalkFault.TheVariants as walk
 use Rattle.cbfs_walk.proofs.Shapes.{shaped_step}
 use Rattle.flash_format.specs.Head.{head_of, is_free}
+use Rattle.flash_format.specs.declared.head.DamageKind.{DamageKind}
 use Rattle.check_findings.specs.Region.Counts.{IsCountBefore, nothing, count_after}
 use Rattle.check_findings.specs.Region.RegionFindings.{names_after, cell_findings, cells_findings, counts_of, end_findings, tail_findings, shape_findings, region_findings}
 use Rattle.check_findings.specs.Region.Names.{HasNames}
-use Rattle.check_findings.specs.Region.Reports.{Gains, counted, refused_findings}
+use Rattle.check_findings.specs.Region.Reports.{Gains, counted}
 use Rattle.flash_map.specs.declared.fault.CheckFault.{CheckFault}
 use Rattle.flash_map.specs.declared.fault.CheckFault.TheVariants as check
 use Rattle.check_findings.specs.declared.region.finding.RegionFinding.{RegionFinding}
@@ -88,12 +89,9 @@ by_tail : (x : List ℕ) (names : List (List ℕ)) (n : Count) (at : ℕ) → fi
 unfolding findings_by cut_findings cells_findings last
 by_tail x names n at = ap (λ m. tail_findings at x ++ m) (count_none n at)
 
-by_fault : (x : List ℕ) (before : List RegionFinding) (names : List (List ℕ)) (n : Count) (fault : WalkFault) → (fault ≡ walk.Device → ⊥) → before ++ findings_by x names n (Err fault) ≡ refused_findings before n fault
-unfolding findings_by cut_findings fault_findings cells_findings last
-by_fault x before names n walk.Device other = absurd (other refl)
-by_fault x before names n walk.RegionShape other = refl
-by_fault x before names n walk.NotCbfs other = refl
-by_fault x before names n (walk.Damaged at kind) other = ap (λ m. before ++ findings.Damaged at kind ∷ m) (count_none n at)
+by_damage : (x : List ℕ) (names : List (List ℕ)) (n : Count) (at : ℕ) (kind : DamageKind) → findings_by x names n (Err (walk.Damaged at kind)) ≡ findings.Damaged at kind ∷ counted n at
+unfolding findings_by cut_findings cells_findings last
+by_damage x names n at kind = ap (λ m. findings.Damaged at kind ∷ m) (count_none n at)
 
 -- a tail begins at the walk's offset
 tail_place : (x : List ℕ) (place at : ℕ) → (let a : Answer = Ok (steps.Tail at) in a) ≡ answer_at x place → at ≡ place
@@ -137,10 +135,10 @@ checking_start facts r report old lies none unnamed = record {
       ([], rw unnamed (λ q. refl), rw none (whole_findings x ∙ ap (λ n. findings_from x [] (nothing n) 0) (length-bytes_in r (facts old.device).content lies.inside)));
 }
 
--- a step is no device fault
-no_fault : (s : Step) (b : Answer) → (let a : Answer = Ok s in IsErrOf a walk.Device ⊎ (a ≡ b)) → Ok s ≡ b
-no_fault s b (inl e) = absurd cc
-no_fault s b (inr e) = e
+-- a result without a device fault
+no_fault : (a b : Answer) → (IsErrOf a walk.Device → ⊥) → IsErrOf a walk.Device ⊎ (a ≡ b) → a ≡ b
+no_fault a b other (inl e) = absurd (other e)
+no_fault a b other (inr e) = e
 
 module _ {F : Type 0} (facts : F → Device) (r : Range) (w : Walking) (report : Report) (count : Count) (old now : Pages F) (lies : LiesOn r (facts old.device)) (i : Checking facts r w report count old now) where
   abbrev x : List ℕ
@@ -150,17 +148,14 @@ module _ {F : Type 0} (facts : F → Device) (r : Range) (w : Walking) (report :
   abbrev pub Answers : Answer → Type 0
   Answers a = IsTrue (facts now.device).honest → w.ended ≡ None → IsErrOf a walk.Device ⊎ (a ≡ answer_at (bytes_in w.region (facts now.device).content) w.at)
 
-  answered : (a : Answer) → IsTrue (facts old.device).honest → a ≡ answer_at (bytes_in w.region (facts now.device).content) w.at
-      → (a ≡ answer_at x w.at) × IsPart x report (λ names. findings_by x names count a)
-  answered a h is =
+  answered : (a : Answer) → Answers a → (IsErrOf a walk.Device → ⊥) → IsTrue (facts old.device).honest → (a ≡ answer_at x w.at) × IsPart x report (λ names. findings_by x names count a)
+  answered a answer other h =
+      let is = no_fault a _ other (answer (honest_still i.read.device.calls.same_honesty h) i.going) in
       let len : length x ≡ r.size = length-bytes_in r (facts old.device).content lies.inside in
       let here : a ≡ answer_at x w.at = is ∙ ap (λ (k : Range). answer_at (bytes_in k (facts now.device).content) w.at) i.region ∙ ap (λ (l : List ℕ). answer_at (bytes_in r l) w.at) (i.read.device.unchanged h) in
       let known = i.so_far h in
       let step = by_step x known.0 count w.at (omega (arith, len, i.inside)) i.aligned ∙ ap (λ (b : Answer). findings_by x known.0 count b) (sym here) in
       (here, (known.0, known.1, known.2 ∙ ap (λ (l : List RegionFinding). report.findings.items ++ l) step))
-
-  step_answered : (s : Step) → Answers (Ok s) → IsTrue (facts old.device).honest → (Ok s ≡ answer_at x w.at) × IsPart x report (λ names. findings_by x names count (Ok s))
-  step_answered s answer h = answered (Ok s) h (no_fault s _ (answer (honest_still i.read.device.calls.same_honesty h) i.going))
 
   -- another cell
   pub checking_more : (c : Cell) (v : Walking) (next : Report) (more : Count) (mid new : Pages F) (n m : ℕ) → IsCellIn w.region.size c × (c.at ≡ w.at)
@@ -181,7 +176,7 @@ module _ {F : Type 0} (facts : F → Device) (r : Range) (w : Walking) (report :
     so_far = λ h.
         let k = honest_still i.read.device.calls.same_honesty h in
         let same : (facts mid.device).content ≡ (facts old.device).content = reads.device.unchanged k ∙ i.read.device.unchanged h in
-        let known = step_answered (steps.Cell c) answer h in
+        let known = answered (Ok (steps.Cell c)) answer (λ e. cc) h in
         let stands : StandsIn x c = ap (λ p. answer_at x p) given.1 ∙ sym known.0 in
         let names = known.1.0 in
         let found = cell_findings names c.at (cell_in x c) in
@@ -199,40 +194,42 @@ module _ {F : Type 0} (facts : F → Device) (r : Range) (w : Walking) (report :
 
   -- ---- the walk ended
 
-  -- the last findings and the counts follow
-  stopped : (s : Step) (next more all : List RegionFinding) (end : ℕ) → Answers (Ok s) → next ≡ report.findings.items ++ more → all ≡ next ++ counted count end
-      → ((names : List (List ℕ)) → findings_by x names count (Ok s) ≡ more ++ counted count end) → IsTrue (facts old.device).honest → all ≡ region_findings x
-  stopped s next more all end answer pushed is_all is h =
-      let known = (step_answered s answer h).1 in
-      is_all ∙ ap (λ (l : List RegionFinding). l ++ counted count end) pushed ∙ append_assoc report.findings.items more (counted count end)
-      ∙ sym (known.2 ∙ ap (λ (l : List RegionFinding). report.findings.items ++ l) (is known.0))
+  -- the last findings follow
+  stopped : (a : Answer) (more all : List RegionFinding) → Answers a → (IsErrOf a walk.Device → ⊥) → all ≡ report.findings.items ++ more → ((names : List (List ℕ)) → findings_by x names count a ≡ more) → IsTrue (facts old.device).honest → all ≡ region_findings x
+  stopped a more all answer other is_all is h =
+      let known = (answered a answer other h).1 in
+      is_all ∙ sym (known.2 ∙ ap (λ (l : List RegionFinding). report.findings.items ++ l) (is known.0))
+
+  -- the last findings and the counts
+  with_counts : (more next all : List RegionFinding) (end : ℕ) → next ≡ report.findings.items ++ more → all ≡ next ++ counted count end → all ≡ report.findings.items ++ (more ++ counted count end)
+  with_counts more next all end pushed is_all = is_all ∙ ap (λ (l : List RegionFinding). l ++ counted count end) pushed ∙ append_assoc report.findings.items more (counted count end)
 
   pub checking_end : (end : ℕ) (next all : List RegionFinding) → Answers (Ok steps.End) → end ≡ r.size → next ≡ report.findings.items ++ findings.Complete ∷ [] → all ≡ next ++ counted count end
       → IsTrue (facts old.device).honest → all ≡ region_findings x
   checking_end end next all answer place pushed is_all =
       let same : end ≡ length x = place ∙ sym (length-bytes_in r (facts old.device).content lies.inside) in
-      stopped steps.End next (findings.Complete ∷ []) all end answer pushed is_all (λ names. by_end x names count ∙ ap (λ p. findings.Complete ∷ counted count p) (sym same))
+      stopped (Ok steps.End) (findings.Complete ∷ counted count end) all answer (λ e. cc) (with_counts (findings.Complete ∷ []) next all end pushed is_all)
+      (λ names. by_end x names count ∙ ap (λ p. findings.Complete ∷ counted count p) (sym same))
 
   pub checking_tail : (at here n : ℕ) (mid : Pages F) (next all : List RegionFinding) → Answers (Ok (steps.Tail at)) → here ≡ w.at → HasRead facts n 0 now mid
       → OnHonestIn facts mid.device r (λ y. next ≡ report.findings.items ++ tail_findings here y) → all ≡ next ++ counted count here → IsTrue (facts old.device).honest → all ≡ region_findings x
   checking_tail at here n mid next all answer place reads pushed is_all h =
       let k = honest_still i.read.device.calls.same_honesty h in
       let content : (facts mid.device).content ≡ (facts old.device).content = reads.device.unchanged k ∙ i.read.device.unchanged h in
-      let same : at ≡ here = tail_place x w.at at (step_answered (steps.Tail at) answer h).0 ∙ sym place in
-      stopped (steps.Tail at) next (tail_findings here x) all here answer (rw content at (pushed (honest_still reads.device.calls.same_honesty k))) is_all
+      let same : at ≡ here = tail_place x w.at at (answered (Ok (steps.Tail at)) answer (λ e. cc) h).0 ∙ sym place in
+      stopped (Ok (steps.Tail at)) (tail_findings here x ++ counted count here) all answer (λ e. cc)
+      (with_counts (tail_findings here x) next all here (rw content at (pushed (honest_still reads.device.calls.same_honesty k))) is_all)
       (λ names. by_tail x names count at ∙ ap (λ p. tail_findings p x ++ counted count p) same) h
 
-  pub checking_refused : (fault : WalkFault) → Answers (Err fault) → IsTrue (facts old.device).honest → (result : Result (Vec RegionFinding Global) CheckFault)
-      → (fault ≡ walk.Device → IsErrOf result check.Device) → IfOk result (λ all. all.items ≡ refused_findings report.findings.items count fault)
-      → IfOk result (λ all. all.items ≡ region_findings x)
-  checking_refused fault answer h (Err other) device found = tt
-  checking_refused fault answer h (Ok all) device found = go (answer (honest_still i.read.device.calls.same_honesty h) i.going)
-    where
-      other : fault ≡ walk.Device → ⊥
-      other e = let bad : (let r : Result (Vec RegionFinding Global) CheckFault = Ok all in r) ≡ Err check.Device = device e in cc
+  pub checking_damage : (at : ℕ) (kind : DamageKind) (next all : List RegionFinding) → Answers (Err (walk.Damaged at kind)) → next ≡ report.findings.items ++ findings.Damaged at kind ∷ [] → all ≡ next ++ counted count at
+      → IsTrue (facts old.device).honest → all ≡ region_findings x
+  checking_damage at kind next all answer pushed is_all =
+      stopped (Err (walk.Damaged at kind)) (findings.Damaged at kind ∷ counted count at) all answer (λ e. cc) (with_counts (findings.Damaged at kind ∷ []) next all at pushed is_all) (λ names. by_damage x names count at kind)
 
-      go : (let a : Answer = Err fault in IsErrOf a walk.Device ⊎ (a ≡ answer_at (bytes_in w.region (facts now.device).content) w.at)) → all.items ≡ region_findings x
-      go (inl e) = absurd (other (let is : fault ≡ walk.Device = cc in is))
-      go (inr is) =
-          let known = (answered (Err fault) h is).1 in
-          found ∙ sym (known.2 ∙ by_fault x report.findings.items known.0 count fault other)
+  pub checking_size : (all : List RegionFinding) → Answers (Err walk.RegionShape) → all ≡ report.findings.items ++ findings.BadSize ∷ [] → IsTrue (facts old.device).honest → all ≡ region_findings x
+  unfolding findings_by fault_findings
+  checking_size all answer pushed = stopped (Err walk.RegionShape) (findings.BadSize ∷ []) all answer (λ e. cc) pushed (λ names. refl)
+
+  pub checking_absent : (all : List RegionFinding) → Answers (Err walk.NotCbfs) → all ≡ report.findings.items ++ findings.NotCbfs ∷ [] → IsTrue (facts old.device).honest → all ≡ region_findings x
+  unfolding findings_by fault_findings
+  checking_absent all answer pushed = stopped (Err walk.NotCbfs) (findings.NotCbfs ∷ []) all answer (λ e. cc) pushed (λ names. refl)

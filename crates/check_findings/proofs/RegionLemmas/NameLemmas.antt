@@ -1,15 +1,19 @@
 -- The names of components.
 use Rattle.std.proofs.Common.{◌≡◌, ℕ, Bool, true, false, cond, ◌||◌, List, ◌∷◌, refl, sym, ap, ◌∙◌}
 use Rattle.std.proofs.lemmas.Slice.Eq.{bytes_eq-Decides}
+use Rattle.std.specs.List.{list_any}
 use Rattle.std.specs.Str.{bytes_eq}
 use Rattle.std.specs.HashSet.{HashSet, Updates}
 use Rattle.std.specs.Set.{KeepsOthers}
 use Rattle.std.specs.Cmp.Lexicographic.{nat_list_eq_equiv}
 use Rattle.smallvec.specs.SmallVec.{SmallVec}
-use Rattle.check_findings.specs.Region.Names.{has, HasNames, is_among}
+use Rattle.check_findings.specs.Region.Names.{HasNames, is_among}
 
 abbrev Key : Type 0
 Key = SmallVec ℕ
+
+abbrev has : List ℕ → List Key → Bool
+has name keys = list_any (λ k. bytes_eq name k.items) keys
 
 or-cond : (b c d : Bool) → c ≡ d → cond b true c ≡ (b || d)
 or-cond true c d same = refl

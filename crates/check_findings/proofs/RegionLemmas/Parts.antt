@@ -8,7 +8,7 @@ use Rattle.flash_format.specs.Cut.{End, complete, tail, damage}
 use Rattle.flash_format.specs.Head.{head_of, is_free}
 use Rattle.flash_format.specs.Components.{cell_name, component_at}
 use Rattle.check_findings.specs.Region.Names.{is_among}
-use Rattle.check_findings.specs.Region.RegionFindings.{begins_with_entry, cell_findings, cells_findings, component_finding, count_findings, end_findings, entries_findings, entry_findings, filled_findings, free_findings, is_filled, metadata, names_after, room_finding, tail_bytes, tail_findings}
+use Rattle.check_findings.specs.Region.RegionFindings.{begins_with_entry, cell_findings, cells_findings, component_finding, count_findings, end_findings, entries_findings, entry_findings, filled_findings, free_findings, is_filled, names_after, room_finding, tail_bytes, tail_findings}
 use Rattle.check_findings.specs.declared.region.finding.RegionFinding.{RegionFinding}
 use Rattle.check_findings.specs.declared.region.finding.RegionFinding.TheVariants.{Component, Deleted, Complete, Tail, TailFilled, TailEntry, Damaged, Components, NoComponents, FreeBytes, LargestContent, NoRoom}
 
@@ -68,5 +68,5 @@ of_end x at (damage kind) = All-cons (IsIn end_part) (Damaged at kind) [] refl (
 pub of_counts : (components free room : ℕ) → All (IsIn count_part) (count_findings components free room)
 of_counts components free room =
     let first = cond_both (components == 0) NoComponents (Components components) (IsIn count_part) (λ e. refl) (λ e. refl) in
-    let last = cond_both (nat_le metadata room) (LargestContent (room - metadata)) NoRoom (IsIn count_part) (λ e. refl) (λ e. refl) in
+    let last = cond_both (nat_le 28 room) (LargestContent (room - 28)) NoRoom (IsIn count_part) (λ e. refl) (λ e. refl) in
     All-cons (IsIn count_part) _ (FreeBytes free ∷ room_finding room ∷ []) first (All-cons (IsIn count_part) (FreeBytes free) (room_finding room ∷ []) refl (All-cons (IsIn count_part) _ [] last (All-nil (IsIn count_part))))

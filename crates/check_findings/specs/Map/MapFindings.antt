@@ -45,12 +45,9 @@ overlap a b = ends_inside a.area b.area || ends_inside b.area a.area
 abbrev pub overlap_with : List NumberedArea → NumberedArea → List MapFinding
 overlap_with all a = option_to_list (option_map (findings.Overlap a) (find (overlap a) all))
 
-abbrev pub most_compared : ℕ
-most_compared = 4096
-
 abbrev pub overlap_findings : List NumberedArea → List MapFinding
 overlap_findings areas =
-    if nat_lt most_compared (length areas) then findings.TooManyAreas ∷ []
+    if nat_lt 4096 (length areas) then findings.TooManyAreas ∷ []
     else flat_map (overlap_with areas) areas
 
 abbrev pub holds_map : FoundMap → Area → Bool

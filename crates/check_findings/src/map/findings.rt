@@ -41,7 +41,7 @@ pub fn findings_of(
     Ok(findings)
 }
 
-pub fn push_some(findings: &mut MapFindings, finding: Option<MapFinding>) -> Pushed
+fn push_some(findings: &mut MapFindings, finding: Option<MapFinding>) -> Pushed
     ensures { OnOk result (findings.new.items ≡ findings.old.items ++ option_to_list finding) }
 {
     if let Some(finding) = finding {

@@ -6,7 +6,6 @@ ghost use Rattle.check_findings.specs.Map.MapFindings.{ends_inside, overlap, ove
 
 use crate::lists::{Pushed, push_if};
 use crate::map::finding::{MapFinding, MapFindings};
-use crate::map::findings::push_some;
 use flash_format::Area;
 use flash_map::NumberedArea;
 
@@ -20,9 +19,9 @@ pub fn push_overlap_findings(findings: &mut MapFindings, areas: &[NumberedArea])
         return push_if(findings, true, MapFinding::TooManyAreas);
     }
     for a in areas {
-        let other = first_overlap(areas, a);
-        let finding = other.map(|other| MapFinding::Overlap { area: *a, other });
-        push_some(findings, finding)?;
+        if let Some(other) = first_overlap(areas, a) {
+            findings.push(MapFinding::Overlap { area: *a, other })?;
+        }
     }
     Ok(())
 }

@@ -1,5 +1,5 @@
 //! The region check.
-ghost use Rattle.std.specs.Prelude.{◌≡◌, ◌↔◌, ◌+◌, ◌*◌, ◌/◌, ℕ, List, IfOk, IsErrOf, OnOk};
+ghost use Rattle.std.specs.Prelude.{◌≡◌, ◌+◌, ◌*◌, ◌/◌, ℕ, List, IfOk, OnOk};
 ghost use Rattle.flash_device.specs.Device.{fault_count};
 ghost use Rattle.flash_device.specs.Pages.{HasRead, OnHonestIn};
 ghost use Rattle.flash_device.specs.Regions.{LiesOn};
@@ -9,7 +9,7 @@ ghost use Rattle.flash_map.specs.Faults.{by_device};
 ghost use Rattle.check_findings.specs.Region.Names.{HasNames};
 ghost use Rattle.check_findings.specs.Region.RegionFindings.{cell_findings, names_after};
 ghost use Rattle.check_findings.specs.Region.RegionFindings.{region_findings};
-ghost use Rattle.check_findings.specs.Region.Reports.{Gains, refused_findings};
+ghost use Rattle.check_findings.specs.Region.Reports.{Gains};
 
 use crate::lists::push_if;
 use crate::region::count::Count;
@@ -65,28 +65,6 @@ fn push_cell<F: Flash>(
     Ok(())
 }
 
-/// Returns the findings if the walk ends with a fault.
-fn refused(
-    findings: Vec<RegionFinding>,
-    count: Count,
-    fault: WalkFault,
-) -> Result<Vec<RegionFinding>, CheckFault>
-    ensures found { IfOk result (λ all. all.items ≡ refused_findings findings.items count fault) }
-    ensures device { IsErrOf result CheckFault.Device ↔ (fault ≡ WalkFault.Device) }
-{
-    let mut findings = findings;
-    match fault {
-        WalkFault::Device => return Err(CheckFault::Device),
-        WalkFault::RegionShape => findings.push(RegionFinding::BadSize)?,
-        WalkFault::NotCbfs => findings.push(RegionFinding::NotCbfs)?,
-        WalkFault::Damaged { at, kind } => {
-            findings.push(RegionFinding::Damaged { at, kind })?;
-            return Ok(count.counted(findings, at)?);
-        }
-    }
-    Ok(findings)
-}
-
 /// Returns the findings of a region, entry by entry. The hash keys don't change them. Returns
 /// `Device` exactly if a read failed, and `Memory` if an allocation failed.
 pub fn check_region<F: Flash>(
@@ -125,7 +103,19 @@ pub fn check_region<F: Flash>(
                 report.findings.push(RegionFinding::Complete)?;
                 return Ok(count.counted(report.findings, size)?);
             }
-            Err(fault) => return refused(report.findings, count, fault),
+            Err(WalkFault::Damaged { at, kind }) => {
+                report.findings.push(RegionFinding::Damaged { at, kind })?;
+                return Ok(count.counted(report.findings, at)?);
+            }
+            Err(WalkFault::RegionShape) => {
+                report.findings.push(RegionFinding::BadSize)?;
+                return Ok(report.findings);
+            }
+            Err(WalkFault::NotCbfs) => {
+                report.findings.push(RegionFinding::NotCbfs)?;
+                return Ok(report.findings);
+            }
+            Err(WalkFault::Device) => return Err(CheckFault::Device),
         }
     }
 }
