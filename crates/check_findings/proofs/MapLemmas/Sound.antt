@@ -6,6 +6,7 @@ use Rattle.std.specs.Option.{option_map, option_map_or, option_to_list}
 use Rattle.std.specs.Str.{is_utf8}
 use Rattle.std.proofs.lemmas.Bool.{and_cases, and_parts, not-false, or_parts, cases_lt, ltb-false, leb-true, eqb-true, false≢true}
 use Rattle.std.proofs.lemmas.List.Elements.{All-nil, All-cons, All-contains}
+use Rattle.std.proofs.lemmas.Grind.{common_steps}
 use Rattle.std.proofs.lemmas.List.Folds.{list_any-append}
 use Rattle.std.proofs.lemmas.Slice.Eq.{bytes_eq-Decides}
 use lib.Chars.{codes}
@@ -56,22 +57,9 @@ find-none test (a ∷ areas) e =
 
 -- ---- of an area
 
-positive : (n : ℕ) → nat_eq n 0 ≡ false → 0 < n
-positive zero e = absurd cc
-positive (suc n) e = omega arith
-
-inside : (n : ℕ) (a : NumberedArea) → list_any every (area_findings n a) ≡ false → IsInside n a.area
+sound_area : (n : ℕ) (a : NumberedArea) → list_any every (area_findings n a) ≡ false → IsInside n a.area × (is_utf8 (text_of a.area.name) ≡ true)
 unfolding every
-inside n a none =
-    let parts = none_of every (finding_if (nat_lt n (area_end a.area)) (findings.AreaOutside a)) _ none in
-    let more = none_of every (finding_if (nat_eq a.area.size 0) (findings.AreaEmpty a)) _ parts.1 in
-    (positive a.area.size (untold every _ (findings.AreaEmpty a) refl more.0), ltb-false n (area_end a.area) (untold every _ (findings.AreaOutside a) refl parts.0))
-
-text : (n : ℕ) (a : NumberedArea) → list_any every (area_findings n a) ≡ false → is_utf8 (text_of a.area.name) ≡ true
-unfolding every
-text n a none =
-    let more = none_of every (finding_if (nat_lt n (area_end a.area)) (findings.AreaOutside a)) _ none in
-    not-false _ (untold every _ (findings.AreaNameNotText a) refl (none_of every (finding_if (nat_eq a.area.size 0) (findings.AreaEmpty a)) _ more.1).1)
+sound_area n a none = grind (arith, common_steps, none)
 
 -- ---- names
 
@@ -115,22 +103,8 @@ named test areas a passes none there =
 
 -- ---- overlaps
 
-not_inside : (a b : Area) → ends_inside a b ≡ false → (b.offset ≤ a.offset) ⊎ ((area_end a ≤ b.offset) ⊎ (area_end b ≤ area_end a))
-not_inside a b e = ⊎_elim (λ p. inl (ltb-false a.offset b.offset p)) (λ later. inr (⊎_elim (λ p. inl (ltb-false b.offset (area_end a) p)) (λ p. inr (ltb-false (area_end a) (area_end b) p)) (and_cases _ _ later))) (and_cases _ _ e)
-
 nest : (a b : Area) → ends_inside a b ≡ false → ends_inside b a ≡ false → Nest a b
-nest a b one other = ⊎_elim
-    (λ before. elim (not_inside a b one) [
-      | inl not_before ↦ absurd (omega (arith, before, not_before))
-      | inr (inl apart) ↦ inl (inl apart)
-      | inr (inr holds) ↦ inr (inl ((omega (arith, before), holds)))
-    ])
-    (λ behind. elim (not_inside b a other) [
-      | inl same ↦ ⊎_elim (λ longer. inr (inr ((behind, omega (arith, longer))))) (λ shorter. inr (inl ((same, shorter)))) (cases_lt (area_end a) (area_end b))
-      | inr (inl apart) ↦ inl (inr apart)
-      | inr (inr holds) ↦ inr (inr ((behind, holds)))
-    ])
-    (cases_lt a.offset b.offset)
+nest a b one other = grind (arith, common_steps, one, other)
 
 compared : (areas : List NumberedArea) (many : Bool) → list_any every (cond many (findings.TooManyAreas ∷ []) (flat_map (overlap_with areas) areas)) ≡ false → list_any every (flat_map (overlap_with areas) areas) ≡ false
 unfolding every
@@ -173,8 +147,8 @@ sound_of image map found e =
       found = found;
       size = eqb-true map.head.size n (not-false (nat_eq map.head.size n) (untold every _ findings.OtherSize refl b.0));
       only = uncaused findings.OtherMap next a.0;
-      inside = λ x there. inside n x (All-contains Is areas x each there);
-      text = λ x there. text n x (All-contains Is areas x each there);
+      inside = λ x there. (sound_area n x (All-contains Is areas x each there)).0;
+      text = λ x there. (sound_area n x (All-contains Is areas x each there)).1;
       named = λ x. named every _ x (λ first. refl) d.0;
       nested = nested areas f.0;
       held = held map (find (has_name (codes "FMAP")) areas) f.1;
