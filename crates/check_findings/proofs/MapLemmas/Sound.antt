@@ -48,12 +48,7 @@ uncaused f (Some x) none = absurd cc
 
 find-none : (test : NumberedArea → Bool) (areas : List NumberedArea) → find test areas ≡ None → All (λ (a : NumberedArea). test a ≡ false) areas
 find-none test [] e = All-nil (λ (a : NumberedArea). test a ≡ false)
-find-none test (a ∷ areas) e =
-    let parts = here (test a) (find test areas) e in All-cons (λ (b : NumberedArea). test b ≡ false) a areas parts.0 (find-none test areas parts.1)
-  where
-    here : (b : Bool) (o : Option NumberedArea) → cond b (Some a) o ≡ None → (b ≡ false) × (o ≡ None)
-    here false o e = (refl, e)
-    here true o e = absurd cc
+find-none test (a ∷ areas) e = All-cons (λ (b : NumberedArea). test b ≡ false) a areas (grind (arith, common_steps, e)) (find-none test areas (grind (arith, common_steps, e)))
 
 -- ---- of an area
 
@@ -91,15 +86,9 @@ first_named k (x ∷ areas) a (suc i, lt, is) none = go (has_name (text_of a.are
 pub named : (test : MapFinding → Bool) (areas : List Area) (a : NumberedArea) → ((first : NumberedArea) → test (findings.SameName a first) ≡ true)
     → list_any test (flat_map (name_findings (numbered_from 0 areas)) (numbered_from 0 areas)) ≡ false → Contains (numbered_from 0 areas) a → find (has_name (text_of a.area.name)) (numbered_from 0 areas) ≡ Some a
 named test areas a passes none there =
-    first_named 0 areas a there (go (find (has_name (text_of a.area.name)) all) (All-contains (λ (b : NumberedArea). list_any test (name_findings all b) ≡ false) all a (none_each test (name_findings all) all none) there))
-  where
-    all : List NumberedArea
-    all = numbered_from 0 areas
-
-    go : (o : Option NumberedArea) → list_any test (option_map_or (λ (first : NumberedArea). finding_if (nat_lt first.number a.number) (findings.SameName a first)) o []) ≡ false
-        → option_map_or (λ (first : NumberedArea). nat_lt first.number a.number) o false ≡ false
-    go None e = refl
-    go (Some first) e = untold test _ _ (passes first) e
+    let all = numbered_from 0 areas in
+    let none_here = All-contains (λ (b : NumberedArea). list_any test (name_findings all b) ≡ false) all a (none_each test (name_findings all) all none) there in
+    first_named 0 areas a there (grind (arith, common_steps, none_here, passes))
 
 -- ---- overlaps
 
@@ -108,8 +97,7 @@ nest a b one other = grind (arith, common_steps, one, other)
 
 compared : (areas : List NumberedArea) (many : Bool) → list_any every (cond many (findings.TooManyAreas ∷ []) (flat_map (overlap_with areas) areas)) ≡ false → list_any every (flat_map (overlap_with areas) areas) ≡ false
 unfolding every
-compared areas false e = e
-compared areas true e = absurd cc
+compared areas many e = grind (arith, common_steps, e)
 
 nested : (areas : List NumberedArea) → list_any every (overlap_findings areas) ≡ false → (a b : NumberedArea) → Contains areas a → Contains areas b → Nest a.area b.area
 nested areas none a b there here =
@@ -123,9 +111,7 @@ nested areas none a b there here =
 held : (map : FoundMap) (o : Option NumberedArea) → list_any every (map_area_findings map o) ≡ false → IsSomeAnd o (λ a. HoldsMap map a.area)
 unfolding every
 held map None e = absurd cc
-held map (Some a) e =
-    let parts = and_parts _ _ (not-false (holds_map map a.area) (untold every _ (findings.MapAreaMisses a) refl e)) in
-    (leb-true _ _ parts.0, leb-true _ _ parts.1)
+held map (Some a) e = grind (arith, common_steps, e)
 
 sound_of : (image : List ℕ) (map : FoundMap) → found_in image ≡ Some map → findings_of (length image) map (found_from (map.at + 1) image) (map_areas image map) ≡ findings.Map map ∷ [] → IsSound image map
 unfolding every
