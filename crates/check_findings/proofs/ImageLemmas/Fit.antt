@@ -1,5 +1,5 @@
 -- Regions without bad findings.
-use Rattle.std.proofs.Common.{◌≡◌, ◌≢◌, ℕ, ◌+◌, Bool, true, false, cond, List, [], ◌∷◌, ◌++◌, Option, Some, None, Contains, All, length, refl, sym, ap, ◌∙◌}
+use Rattle.std.proofs.Common.{arith, ◌≡◌, ◌≢◌, ℕ, ◌+◌, Bool, true, false, cond, List, [], ◌∷◌, ◌++◌, Option, Some, None, Contains, All, length, refl, sym, ap, ◌∙◌}
 use Rattle.std.specs.List.{list_any}
 use Rattle.std.proofs.lemmas.Bool.{false≢true, or_parts}
 use Rattle.std.proofs.lemmas.List.Elements.{All-nil, All-cons}
@@ -13,6 +13,7 @@ use Rattle.cbfs_walk.specs.Shaped.{place_after}
 use Rattle.cbfs_walk.specs.Shapes.{has_bad_size, is_absent, refused_or}
 use Rattle.cbfs_walk.specs.declared.walk.WalkFault.TheVariants as faults
 use Rattle.std.specs.List.{position_from}
+use Rattle.std.proofs.lemmas.Grind.{common_steps}
 use Rattle.check_findings.specs.Region.Laws.{IsBlankTail}
 use Rattle.check_findings.specs.Region.Names.{is_among}
 use Rattle.check_findings.specs.Region.RegionFindings.{cell_findings, cells_findings, component_finding, counts_of, end_findings, filled_findings, free_findings, is_filled, names_after, region_findings, shape_findings, tail_bytes, tail_findings}
@@ -29,9 +30,7 @@ bad_among needs all finding has bad = list_any_at (is_bad_region needs) all has.
 good_shape : (needs : Bool) (size absent : Bool) (rest : List RegionFinding)
     → list_any (is_bad_region needs) (refused_or shape_findings (cond size (Some faults.RegionShape) (cond absent (Some faults.NotCbfs) None)) rest) ≡ false
     → (cond size (Some faults.RegionShape) (cond absent (Some faults.NotCbfs) None) ≡ None) × (list_any (is_bad_region needs) rest ≡ false)
-good_shape needs true absent rest fit = absurd (false≢true (sym fit))
-good_shape needs false true rest fit = absurd (false≢true (sym fit))
-good_shape needs false false rest fit = (refl, fit)
+good_shape needs size absent rest fit = grind (arith, common_steps, fit)
 
 undamaged : (needs : Bool) (bytes : List ℕ) (at : ℕ) (end : End) (rest : List RegionFinding) → list_any (is_bad_region needs) (end_findings bytes at end ++ rest) ≡ false → (kind : DamageKind) → end ≢ damage kind
 undamaged needs bytes at end rest fit kind is = false≢true (sym (rw is at fit))
@@ -53,11 +52,7 @@ intact needs names at (x ∷ cells) fit =
 
 blank : (needs : Bool) (at : ℕ) (x : List ℕ) (rest : List RegionFinding) → list_any (is_bad_region needs) (tail_findings at x ++ rest) ≡ false → IsBlankTail at x
 unfolding tail_findings
-blank needs at x rest fit = none_filled at (tail_bytes at x) (go (position_from is_filled at (tail_bytes at x)) fit)
-  where
-    go : (o : Option ℕ) → list_any (is_bad_region needs) (filled_findings at x o ++ rest) ≡ false → o ≡ None
-    go None fit = refl
-    go (Some place) fit = absurd (false≢true (sym fit))
+blank needs at x rest fit = none_filled at (tail_bytes at x) (grind (arith, common_steps, fit))
 
 -- a region without bad findings is whole
 pub fit_region : (needs : Bool) (x : List ℕ) → list_any (is_bad_region needs) (region_findings x) ≡ false → IsWhole x

@@ -1,5 +1,5 @@
 -- Names, in order.
-use Rattle.std.proofs.Common.{◌≡◌, ◌∙◌, refl, cond, Option, Some, ℕ, ◌+◌, ◌<◌, Bool, true, false, not, List, [], ◌∷◌, ◌++◌, length, map, get_or, drop, sym, ap, append_assoc}
+use Rattle.std.proofs.Common.{arith, ◌≡◌, ◌∙◌, refl, cond, Option, Some, ℕ, ◌+◌, ◌<◌, Bool, true, false, not, List, [], ◌∷◌, ◌++◌, length, map, get_or, drop, sym, ap, append_assoc}
 use Rattle.std.proofs.lemmas.List.{drop_more, map-append}
 use Rattle.std.specs.Prelude.{◌||◌, is_some}
 use Rattle.std.specs.Ordering.{nat_cmp}
@@ -13,6 +13,7 @@ use Rattle.check_findings.specs.Image.Lookups.{HasNames, has_name as has_key}
 use Rattle.flash_map.specs.Areas.{has_name}
 use Rattle.std.specs.Borrow.{Bor}
 use Rattle.std.specs.List.{find, list_any}
+use Rattle.std.proofs.lemmas.Grind.{common_steps}
 use Rattle.flash_map.specs.declared.areas.NumberedArea.{NumberedArea}
 use Rattle.check_findings.specs.declared.image.finding.ImageFinding.{ImageFinding}
 use Rattle.check_findings.specs.declared.image.finding.ImageFinding.TheVariants.{NoArea}
@@ -26,10 +27,7 @@ has_more set before names name has = rw (map-append (λ (n : Bor (List ℕ)). n.
 
 -- another name
 either : {X : Type 0} (b any : Bool) (x : X) (o : Option X) → is_some o ≡ any → is_some (cond b (Some x) o) ≡ (any || (b || false))
-either true true x o is = refl
-either true false x o is = refl
-either false true x o is = is
-either false false x o is = is
+either b any x o is = grind (arith, common_steps, is)
 
 pub one_more : (old new : NameSet) (before : List (List ℕ)) (bs name : List ℕ) (x : Unit {0}) → UpdatesBy (λ x y. slice_cmp nat_cmp x.now y.now) (λ k. slice_cmp nat_cmp bs k.now) old.names new.names (Some x) → has_key old name ≡ list_any (λ n. bytes_eq n name) before → has_key new name ≡ list_any (λ n. bytes_eq n name) (before ++ bs ∷ [])
 one_more old new before bs name x puts has =
@@ -44,9 +42,5 @@ missing_more areas names i d missing before after all lt is pushed so_far =
     let later = names_findings areas (i + 1) (texts (drop (i + 1) names)) in
     ap (λ (l : List ImageFinding). l ++ later) pushed
     ∙ append_assoc before (cond missing (NoArea i ∷ []) []) later
-    ∙ ap (λ (l : List ImageFinding). before ++ l) (sym (rw (drop_more names i d lt, is) (ap (λ (l : List ImageFinding). l ++ later) (either_way missing))))
+    ∙ ap (λ (l : List ImageFinding). before ++ l) (sym (rw (drop_more names i d lt, is) (ap (λ (l : List ImageFinding). l ++ later) (grind (arith, common_steps)))))
     ∙ so_far
-  where
-    either_way : (b : Bool) → cond (not b) [] (NoArea i ∷ []) ≡ cond b (NoArea i ∷ []) []
-    either_way true = refl
-    either_way false = refl

@@ -7,6 +7,7 @@ use Rattle.std.proofs.lemmas.Bool.{leb-true}
 use Rattle.std.proofs.lemmas.Grind.{flat_map-append}
 use Rattle.std.proofs.lemmas.List.Elements.{All-append, All-cons, All-nil, All-push, filter_more}
 use Rattle.std.proofs.lemmas.List.Sums.{sum_by_push}
+use Rattle.std.proofs.lemmas.Grind.{common_steps}
 use Rattle.check_findings.specs.declared.map.finding.MapFinding.{MapFinding}
 use Rattle.flash_map.specs.declared.areas.NumberedArea.{NumberedArea}
 use Rattle.check_findings.specs.Map.MapFindings.{map_findings}
@@ -63,16 +64,9 @@ pub no_map_areas : (found : List MapFinding) → region_areas (map Map found) �
 no_map_areas [] = refl
 no_map_areas (finding ∷ found) = no_map_areas found
 
-no_name_area : (number : ℕ) (b : Bool) → region_areas (cond b [] (NoArea number ∷ [])) ≡ []
-no_name_area number true = refl
-no_name_area number false = refl
-
 pub no_name_areas : (areas : List NumberedArea) (number : ℕ) (names : List (List ℕ)) → region_areas (names_findings areas number names) ≡ []
 no_name_areas areas number [] = refl
-no_name_areas areas number (name ∷ names) =
-    flat_map-append region_area (cond (is_some (find (has_name name) areas)) [] (NoArea number ∷ [])) (names_findings areas (number + 1) names)
-    ∙ ap (λ (l : List NumberedArea). l ++ region_areas (names_findings areas (number + 1) names)) (no_name_area number (is_some (find (has_name name) areas)))
-    ∙ no_name_areas areas (number + 1) names
+no_name_areas areas number (name ∷ names) = grind (arith, common_steps, flat_map-append, no_name_areas areas (number + 1) names)
 
 -- the areas of all findings are the areas of the regions
 pub regions_of : (found : List MapFinding) (areas : List NumberedArea) (names : List (List ℕ)) (first regions second all : List ImageFinding) → first ≡ map Map found → second ≡ first ++ regions → all ≡ second ++ names_findings areas 0 names → region_areas all ≡ region_areas regions

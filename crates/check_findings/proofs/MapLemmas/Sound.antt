@@ -68,20 +68,9 @@ first_named : (k : ℕ) (areas : List Area) (a : NumberedArea) → Contains (num
     → option_map_or (λ (first : NumberedArea). nat_lt first.number a.number) (find (has_name (text_of a.area.name)) (numbered_from k areas)) false ≡ false → find (has_name (text_of a.area.name)) (numbered_from k areas) ≡ Some a
 first_named k [] a (i, lt, is) none = absurd (omega (arith, lt))
 first_named k (x ∷ areas) a (zero, lt, is) none = rw ((bytes_eq-Decides (text_of a.area.name) (text_of x.name)).1 (ap (λ (b : NumberedArea). text_of b.area.name) (sym is))) (ap Some is)
-first_named k (x ∷ areas) a (suc i, lt, is) none = go (has_name (text_of a.area.name) here) none (first_named (k + 1) areas a there)
-  where
-    here : NumberedArea
-    here = record { number = k; area = x }
-
-    there : Contains (numbered_from (k + 1) areas) a
-    there = (i, omega (arith, lt), is)
-
-    later : Option NumberedArea
-    later = find (has_name (text_of a.area.name)) (numbered_from (k + 1) areas)
-
-    go : (b : Bool) → option_map_or (λ (first : NumberedArea). nat_lt first.number a.number) (cond b (Some here) later) false ≡ false → (option_map_or (λ (first : NumberedArea). nat_lt first.number a.number) later false ≡ false → later ≡ Some a) → cond b (Some here) later ≡ Some a
-    go true e rest = absurd (omega (arith, ltb-false k a.number e, index-from (k + 1) areas a there))
-    go false e rest = rest e
+first_named k (x ∷ areas) a (suc i, lt, is) none =
+    let there : Contains (numbered_from (k + 1) areas) a = (i, omega (arith, lt), is) in
+    grind (arith, common_steps, none, index-from (k + 1) areas a there, first_named (k + 1) areas a there)
 
 pub named : (test : MapFinding → Bool) (areas : List Area) (a : NumberedArea) → ((first : NumberedArea) → test (findings.SameName a first) ≡ true)
     → list_any test (flat_map (name_findings (numbered_from 0 areas)) (numbered_from 0 areas)) ≡ false → Contains (numbered_from 0 areas) a → find (has_name (text_of a.area.name)) (numbered_from 0 areas) ≡ Some a

@@ -6,6 +6,7 @@ use Rattle.std.specs.Option.{option_or}
 use Rattle.std.proofs.lemmas.Bool.{cases_lt}
 use Rattle.std.proofs.lemmas.List.{drop_all, drop-drop, take_all, take-take}
 use Rattle.std.proofs.lemmas.List.Elements.{All-nil, All-cons, All-head, All-tail}
+use Rattle.std.proofs.lemmas.Grind.{common_steps}
 use Rattle.flash_device.specs.Device.{Device}
 use Rattle.flash_device.specs.Pages.{Pages, HasRead}
 use Rattle.flash_device.specs.Regions.{LiesOn, Range, bytes_in}
@@ -83,12 +84,7 @@ entries_last (suc n) at x =
 
 pub none_filled : (at : ℕ) (xs : List ℕ) → position_from is_filled at xs ≡ None → All (λ b. is_filled b ≡ false) xs
 none_filled at [] none = All-nil (λ b. is_filled b ≡ false)
-none_filled at (b ∷ xs) none = go (is_filled b) refl none (none_filled (at + 1) xs)
-  where
-    go : (filled : Bool) → is_filled b ≡ filled → cond filled (Some at) (position_from is_filled (at + 1) xs) ≡ None
-        → (position_from is_filled (at + 1) xs ≡ None → All (λ b. is_filled b ≡ false) xs) → All (λ b. is_filled b ≡ false) (b ∷ xs)
-    go true is e later = absurd cc
-    go false is e later = All-cons (λ b. is_filled b ≡ false) b xs is (later e)
+none_filled at (b ∷ xs) none = All-cons (λ c. is_filled c ≡ false) b xs (grind (arith, common_steps, none)) (none_filled (at + 1) xs (grind (arith, common_steps, none)))
 
 all_blank : (at : ℕ) (xs : List ℕ) → All (λ b. is_filled b ≡ false) xs → position_from is_filled at xs ≡ None
 all_blank at [] blank = refl
@@ -98,9 +94,5 @@ pub blank_tails : BlankTailsAreKnown
 unfolding tail_findings
 blank_tails at x = (
   λ blank. ap (λ o. Tail at ∷ filled_findings at x o) (all_blank at (tail_bytes at x) blank),
-  λ only. none_filled at (tail_bytes at x) (go (position_from is_filled at (tail_bytes at x)) only),
+  λ only. none_filled at (tail_bytes at x) (grind (arith, common_steps, only)),
 )
-  where
-    go : (o : Option ℕ) → Tail at ∷ filled_findings at x o ≡ Tail at ∷ [] → o ≡ None
-    go None e = refl
-    go (Some place) e = absurd cc
