@@ -26,14 +26,8 @@ pub has_more : (set : NameSet) (before : List (List ℕ)) (names : List (Bor (Li
 has_more set before names name has = rw (map-append (λ (n : Bor (List ℕ)). n.now) names (name ∷ []), sym (append_assoc before (texts names) (name.now ∷ []))) has
 
 -- another name
-either : {X : Type 0} (b any : Bool) (x : X) (o : Option X) → is_some o ≡ any → is_some (cond b (Some x) o) ≡ (any || (b || false))
-either b any x o is = grind (arith, common_steps, is)
-
 pub one_more : (old new : NameSet) (before : List (List ℕ)) (bs name : List ℕ) (x : Unit {0}) → UpdatesBy (λ x y. slice_cmp nat_cmp x.now y.now) (λ k. slice_cmp nat_cmp bs k.now) old.names new.names (Some x) → has_key old name ≡ list_any (λ n. bytes_eq n name) before → has_key new name ≡ list_any (λ n. bytes_eq n name) (before ++ bs ∷ [])
-one_more old new before bs name x puts has =
-    ap is_some (btree_map_updates_str bs old.names new.names (Some x) puts name)
-    ∙ either (bytes_eq bs name) _ x _ has
-    ∙ sym (list_any-append (λ n. bytes_eq n name) before (bs ∷ []))
+one_more old new before bs name x puts has = grind (arith, common_steps, list_any-append (λ n. bytes_eq n name) before (bs ∷ []), btree_map_updates_str bs old.names new.names (Some x) puts name, has)
 
 -- a finding for another name
 pub missing_more : (areas : List NumberedArea) (names : List (Bor (List ℕ))) (i : ℕ) (d : Bor (List ℕ)) (missing : Bool) (before after all : List ImageFinding) → i < length names → is_some (find (has_name (get_or names i d).now) areas) ≡ not missing

@@ -4,6 +4,7 @@ use Rattle.std.specs.Prelude.{map, ◌*◌, nat_le, All}
 use Rattle.std.proofs.lemmas.List.Elements.{All-append, All-head, All-tail, All-weaker, Contains-append_right}
 use Rattle.std.specs.Option.{option_map, option_or}
 use Rattle.std.specs.Str.{bytes_eq}
+use Rattle.std.proofs.lemmas.Grind.{common_steps}
 use Rattle.flash_format.specs.Head.{head_of, is_free}
 use Rattle.flash_format.specs.Cut.{cut}
 use Rattle.flash_format.specs.Components.{Component, component_at, components_from, components, cell_name}
@@ -49,24 +50,9 @@ of_cells : (name : List ℕ) (names : List (List ℕ)) (at : ℕ) (cells : List 
     → first_content name (cells_findings names at cells ++ last) ≡ option_map component_content (first_named name (components_from at cells))
 unfolding cells_findings components_from
 of_cells name names at [] last none = none
-of_cells name names at (x ∷ cells) last none = go (is_free (head_of x)) ((head_of x).kind == 0) (λ ns. of_cells name ns (at + length x) cells last none)
-  where
-    c : Component
-    c = component_at at x
-
-    others : List Component
-    others = components_from (at + length x) cells
-
-    own : (b : Bool) → option_or (cond b (Some (component_content c)) None) (option_map component_content (first_named name others)) ≡ option_map component_content (cond b (Some c) (first_named name others))
-    own true = refl
-    own false = refl
-
-    go : (free deleted : Bool) → ((ns : List (List ℕ)) → first_content name (cells_findings ns (at + length x) cells ++ last) ≡ option_map component_content (first_named name others))
-        → first_content name ((cond free (cond deleted (Deleted at ∷ []) []) (component_finding (is_among (cell_name x) names) c ∷ [])
-        ++ cells_findings (cond free names (cell_name x ∷ names)) (at + length x) cells) ++ last) ≡ option_map component_content (first_named name (cond free others (c ∷ others)))
-    go true true later = later names
-    go true false later = later names
-    go false deleted later = ap (option_or (cond (bytes_eq (cell_name x) name) (Some (component_content c)) None)) (later (cell_name x ∷ names)) ∙ own (bytes_eq (cell_name x) name)
+of_cells name names at (x ∷ cells) last none =
+    let later : (ns : List (List ℕ)) → first_content name (cells_findings ns (at + length x) cells ++ last) ≡ option_map component_content (first_named name (components_from (at + length x) cells)) = λ ns. of_cells name ns (at + length x) cells last none in
+    grind (arith, common_steps, later names, later (cell_name x ∷ names))
 
 of_shape : (name : List ℕ) (fault : WalkFault) → first_content name (shape_findings fault) ≡ None
 of_shape name walk.RegionShape = refl
@@ -110,13 +96,9 @@ module _ (image : List ℕ) (wish : Wish) where
   met_here : (all : List NumberedArea) (a : NumberedArea) (o : Option Content) → Contains all a → is_area wish.area a.area ≡ true
       → first_content wish.name (region_findings (bytes_of image a)) ≡ o → unmet_by a wish o ≡ None → IsMet image all wish
   met_here all a None checked named first none = absurd cc
-  met_here all a (Some content) checked named first none = go (is_met wish.place content a.area.size) refl none
-    where
-      go : (b : Bool) → is_met wish.place content a.area.size ≡ b → cond b None (Some (Elsewhere content.start)) ≡ None → IsMet image all wish
-      go false placed e = absurd cc
-      go true placed e =
-          let has = has_content (bytes_of image a) wish.name content first in
-          record { area = a; checked = checked; named = named; component = has.0; found = has.1; placed = rw has.2 placed }
+  met_here all a (Some content) checked named first none =
+      let has = has_content (bytes_of image a) wish.name content first in
+      record { area = a; checked = checked; named = named; component = has.0; found = has.1; placed = rw has.2 (grind (arith, common_steps, none)) }
 
   -- the first area with the name meets the need
   met_in : (all : List NumberedArea) (names : List (List ℕ)) (last : List ImageFinding) → unmet last wish ≡ Some Missing → (left : ℕ) (areas : List NumberedArea)

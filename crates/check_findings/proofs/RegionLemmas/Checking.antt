@@ -1,6 +1,7 @@
 -- The findings so far, and of the rest of a region.
 use Rattle.std.proofs.Common.{◌≡◌, ℕ, ◌+◌, ◌*◌, ◌/◌, ◌%◌, ◌≤◌, ◌⊎◌, inl, inr, Bool, true, false, cond, IsTrue, drop, List, [], ◌∷◌, ◌++◌, length, Option, Some, None, Result, Ok, Err, Vec, Global, refl, sym, ap, subst, ◌∙◌, arith, append_assoc}
 use Rattle.std.specs.Prelude.{◌==◌, IsErrOf, IfOk}
+use Rattle.std.proofs.lemmas.Grind.{common_steps}
 use mathlib.Core.Path.{fun_ext}
 use Rattle.flash_format.specs.Cut.{Cut, End, after, cut}
 use Rattle.flash_format.specs.Entry.{Entry, absent, cell, damaged, entry}
@@ -96,14 +97,7 @@ by_damage x names n at kind = ap (λ m. findings.Damaged at kind ∷ m) (count_n
 -- a tail begins at the walk's offset
 tail_place : (x : List ℕ) (place at : ℕ) → (let a : Answer = Ok (steps.Tail at) in a) ≡ answer_at x place → at ≡ place
 unfolding answer_at
-tail_place x place at = go (shape_fault_at x place) (length (drop place x) == 0) (entry (drop place x))
-  where
-    go : (o : Option WalkFault) (ended : Bool) (e : Entry) → (let a : Answer = Ok (steps.Tail at) in a) ≡ refused_or (λ fault. Err fault) o (cond ended (Ok steps.End) (answer_by (drop place x) place e)) → at ≡ place
-    go (Some fault) ended e is = absurd cc
-    go None true e is = absurd cc
-    go None false absent is = cc
-    go None false (damaged kind) is = absurd cc
-    go None false (cell span) is = absurd cc
+tail_place x place at is = grind (arith, common_steps, is)
 
 -- ---- the loop
 

@@ -22,18 +22,9 @@ use Rattle.check_findings.specs.declared.region.finding.RegionFinding.TheVariant
 pub filled_parts : (at n : ℕ) (xs : List ℕ) → position_from is_filled at xs ≡ option_or (position_from is_filled at (take n xs)) (position_from is_filled (at + n) (drop n xs))
 filled_parts at zero xs = ap (λ k. position_from is_filled k xs) (omega arith)
 filled_parts at (suc n) [] = refl
-filled_parts at (suc n) (b ∷ xs) = go (is_filled b) (filled_parts (at + 1) n xs ∙ ap (λ k. option_or (position_from is_filled (at + 1) (take n xs)) (position_from is_filled k (drop n xs))) (omega arith))
-  where
-    first : Option ℕ
-    first = position_from is_filled (at + 1) (take n xs)
-
-    rest : Option ℕ
-    rest = position_from is_filled (at + suc n) (drop n xs)
-
-    go : (filled : Bool) → position_from is_filled (at + 1) xs ≡ option_or first rest
-        → cond filled (Some at) (position_from is_filled (at + 1) xs) ≡ option_or (cond filled (Some at) first) rest
-    go true later = refl
-    go false later = later
+filled_parts at (suc n) (b ∷ xs) =
+    let place : at + 1 + n ≡ at + suc n = omega arith in
+    grind (arith, common_steps, rw place at (filled_parts (at + 1) n xs))
 
 -- the piece after the first k bytes of a range
 pub piece_is : (x : List ℕ) (at k end n : ℕ) → at + k ≤ end → n ≡ min (end - at - k) 4096 → slice_range x (at + k) (at + k + n) ≡ take 4096 (drop k (slice_range x at end))
