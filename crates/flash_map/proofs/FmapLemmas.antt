@@ -19,6 +19,7 @@ use Rattle.flash_format.proofs.Fronts.{has_signature-take, fmap_head_of-take, ar
 use Rattle.flash_format.proofs.MapSteps.{map_step, map_end, not_map_short}
 use Rattle.std.proofs.Common.{Bool, true, false, cond, refl, length-drop}
 use Rattle.std.proofs.lemmas.Bool.{leb-true, le-leb}
+use Rattle.std.proofs.lemmas.Grind.{common_steps}
 use Rattle.flash_device.proofs.BytesLemmas.{slice_range_is, length-slice_range}
 use Rattle.flash_device.proofs.DeviceLemmas.{honest_still}
 use Rattle.flash_device.proofs.WindowLemmas.{HasRead-then, HasRead-within}
@@ -202,18 +203,10 @@ found_some image from q h above none table e =
     rw (m, e) refl
 
 pub head_none : (x : List ℕ) → None ≡ map_head x → ¬ (is_map x ≡ true)
-head_none x e table = go (is_map x) table e
-  where
-    go : (b : Bool) → b ≡ true → None ≡ cond b (Some (fmap_head_of x)) None → ⊥
-    go true t e = absurd cc
-    go false t e = absurd cc
+head_none x e table = grind (arith, common_steps, e, table)
 
 pub head_some : (x : List ℕ) (h : FmapHead) → Some h ≡ map_head x → (is_map x ≡ true) × (h ≡ fmap_head_of x)
-head_some x h e = go (is_map x) refl e
-  where
-    go : (b : Bool) → is_map x ≡ b → Some h ≡ cond b (Some (fmap_head_of x)) None → (is_map x ≡ true) × (h ≡ fmap_head_of x)
-    go true m p = (m, cc)
-    go false m p = absurd cc
+head_some x h e = grind (arith, common_steps, e)
 
 -- from the head's own bytes
 pub map_head-take : (x : List ℕ) → 56 ≤ length x → map_head_in (take 56 x) (length x) ≡ map_head x

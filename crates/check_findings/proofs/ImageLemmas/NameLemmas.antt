@@ -32,9 +32,4 @@ one_more old new before bs name x puts has = grind (arith, common_steps, list_an
 -- a finding for another name
 pub missing_more : (areas : List NumberedArea) (names : List (Bor (List ℕ))) (i : ℕ) (d : Bor (List ℕ)) (missing : Bool) (before after all : List ImageFinding) → i < length names → is_some (find (has_name (get_or names i d).now) areas) ≡ not missing
     → after ≡ before ++ cond missing (NoArea i ∷ []) [] → before ++ names_findings areas i (texts (drop i names)) ≡ all → after ++ names_findings areas (i + 1) (texts (drop (i + 1) names)) ≡ all
-missing_more areas names i d missing before after all lt is pushed so_far =
-    let later = names_findings areas (i + 1) (texts (drop (i + 1) names)) in
-    ap (λ (l : List ImageFinding). l ++ later) pushed
-    ∙ append_assoc before (cond missing (NoArea i ∷ []) []) later
-    ∙ ap (λ (l : List ImageFinding). before ++ l) (sym (rw (drop_more names i d lt, is) (ap (λ (l : List ImageFinding). l ++ later) (grind (arith, common_steps)))))
-    ∙ so_far
+missing_more areas names i d missing before after all lt is pushed so_far = grind (arith, common_steps, append_assoc, drop_more names i d lt, is, pushed, so_far)

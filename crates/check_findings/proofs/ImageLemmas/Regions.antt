@@ -44,14 +44,7 @@ checked_more n i left a f findings fits is had = rw (flat_map-append region_area
 pub found_more : (image : List ℕ) (names : List (List ℕ)) (left i : ℕ) (areas : List NumberedArea) (d : NumberedArea) (f : ImageFinding) (before after all : List ImageFinding) → i < length areas → after ≡ before ++ f ∷ [] → f ≡ area_finding image names left (get_or areas i d)
     → before ++ areas_findings image names left (drop i areas) ≡ all → after ++ areas_findings image names (left_after left (get_or areas i d)) (drop (i + 1) areas) ≡ all
 unfolding areas_findings
-found_more image names left i areas d f before after all lt pushed is so_far =
-    let a = get_or areas i d in
-    let rest = areas_findings image names (left_after left a) (drop (i + 1) areas) in
-    ap (λ (l : List ImageFinding). l ++ rest) pushed
-    ∙ append_assoc before (f ∷ []) rest
-    ∙ ap (λ (g : ImageFinding). before ++ g ∷ rest) is
-    ∙ ap (λ (l : List ImageFinding). before ++ l) (sym (rw (drop-cons areas i d lt, add-one i) refl))
-    ∙ so_far
+found_more image names left i areas d f before after all lt pushed is so_far = grind (arith, common_steps, append_assoc, drop-cons areas i d lt, add-one i, pushed, is, so_far)
 
 pub found_all : (image : List ℕ) (names : List (List ℕ)) (left i : ℕ) (areas : List NumberedArea) (before all : List ImageFinding) → i ≡ length areas → before ++ areas_findings image names left (drop i areas) ≡ all → before ≡ all
 unfolding areas_findings
