@@ -17,7 +17,7 @@ use Rattle.flash_format.specs.declared.flashmap.Area.{Area}
 use Rattle.flash_format.specs.Flashmap.{is_map, map_from, fmap_head_of, has_signature, is_valid_head, area_of, map_len}
 use Rattle.flash_format.proofs.Fronts.{has_signature-take, fmap_head_of-take, area_of-take}
 use Rattle.flash_format.proofs.MapSteps.{map_step, map_end, not_map_short}
-use Rattle.std.proofs.Common.{Bool, true, false, cond, refl, length-drop}
+use Rattle.std.proofs.Common.{Bool, true, false, refl, length-drop}
 use Rattle.std.proofs.lemmas.Bool.{leb-true, le-leb}
 use Rattle.std.proofs.lemmas.Grind.{common_steps}
 use Rattle.flash_device.proofs.BytesLemmas.{slice_range_is, length-slice_range}

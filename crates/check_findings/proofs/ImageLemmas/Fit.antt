@@ -1,7 +1,7 @@
 -- Regions without bad findings.
-use Rattle.std.proofs.Common.{arith, ◌≡◌, ◌≢◌, ℕ, ◌+◌, Bool, true, false, cond, List, [], ◌∷◌, ◌++◌, Option, Some, None, Contains, All, length, refl, sym, ap, ◌∙◌}
+use Rattle.std.proofs.Common.{arith, ◌≡◌, ◌≢◌, ℕ, ◌+◌, Bool, true, false, cond, List, [], ◌∷◌, ◌++◌, Some, None, Contains, All, length, sym, ap, ◌∙◌}
 use Rattle.std.specs.List.{list_any}
-use Rattle.std.proofs.lemmas.Bool.{false≢true, or_parts}
+use Rattle.std.proofs.lemmas.Bool.{false≢true}
 use Rattle.std.proofs.lemmas.List.Elements.{All-nil, All-cons}
 use Rattle.std.proofs.lemmas.List.Folds.{list_any_at}
 use Rattle.flash_format.specs.declared.head.DamageKind.{DamageKind}
@@ -12,11 +12,10 @@ use Rattle.flash_format.specs.Components.{Component, component_at, components_fr
 use Rattle.cbfs_walk.specs.Shaped.{place_after}
 use Rattle.cbfs_walk.specs.Shapes.{has_bad_size, is_absent, refused_or}
 use Rattle.cbfs_walk.specs.declared.walk.WalkFault.TheVariants as faults
-use Rattle.std.specs.List.{position_from}
 use Rattle.std.proofs.lemmas.Grind.{common_steps}
 use Rattle.check_findings.specs.Region.Laws.{IsBlankTail}
 use Rattle.check_findings.specs.Region.Names.{is_among}
-use Rattle.check_findings.specs.Region.RegionFindings.{cell_findings, cells_findings, component_finding, counts_of, end_findings, filled_findings, free_findings, is_filled, names_after, region_findings, shape_findings, tail_bytes, tail_findings}
+use Rattle.check_findings.specs.Region.RegionFindings.{cell_findings, cells_findings, component_finding, counts_of, end_findings, free_findings, names_after, region_findings, shape_findings, tail_bytes, tail_findings}
 use Rattle.check_findings.specs.declared.region.finding.RegionFinding.{RegionFinding}
 use Rattle.check_findings.proofs.MapLemmas.Sound.{none_of}
 use Rattle.check_findings.proofs.RegionLemmas.Tails.{none_filled}
@@ -39,9 +38,7 @@ intact_cell : (needs : Bool) (names : List (List ℕ)) (at : ℕ) (x : List ℕ)
     → list_any (is_bad_region needs) (cond free (free_findings at (head_of x)) (component_finding (is_among (cell_name x) names) (component_at at x) ∷ [])) ≡ false → All IsIntact others
     → All IsIntact (cond free others (component_at at x ∷ others))
 intact_cell needs names at x others true fit rest = rest
-intact_cell needs names at x others false fit rest =
-    let digest = (or_parts (is_among (cell_name x) names) _ (or_parts _ false fit).0).1 in
-    All-cons IsIntact (component_at at x) others (λ stored is. false≢true (sym (rw is at digest))) rest
+intact_cell needs names at x others false fit rest = All-cons IsIntact (component_at at x) others (λ stored is. grind (arith, common_steps, is, fit)) rest
 
 intact : (needs : Bool) (names : List (List ℕ)) (at : ℕ) (cells : List (List ℕ)) → list_any (is_bad_region needs) (cells_findings names at cells) ≡ false → All IsIntact (components_from at cells)
 unfolding cells_findings components_from

@@ -1,7 +1,7 @@
 -- Names, in order.
-use Rattle.std.proofs.Common.{arith, ◌≡◌, ◌∙◌, refl, cond, Option, Some, ℕ, ◌+◌, ◌<◌, Bool, true, false, not, List, [], ◌∷◌, ◌++◌, length, map, get_or, drop, sym, ap, append_assoc}
+use Rattle.std.proofs.Common.{arith, ◌≡◌, cond, Some, ℕ, ◌+◌, ◌<◌, Bool, not, List, [], ◌∷◌, ◌++◌, length, map, get_or, drop, sym, append_assoc}
 use Rattle.std.proofs.lemmas.List.{drop_more, map-append}
-use Rattle.std.specs.Prelude.{◌||◌, is_some}
+use Rattle.std.specs.Prelude.{is_some}
 use Rattle.std.specs.Ordering.{nat_cmp}
 use Rattle.std.specs.Str.{bytes_eq}
 use Rattle.std.specs.Cmp.Lexicographic.{slice_cmp}

@@ -1,23 +1,20 @@
 -- The first content of a name in the findings belongs to the component that a search finds.
-use Rattle.std.proofs.Common.{◌≡◌, ℕ, ◌+◌, Bool, true, false, cond, List, [], ◌∷◌, ◌++◌, length, Option, Some, None, Ok, ◌==◌, refl, sym, ap, subst, ◌∙◌, append_assoc, append-nil, Contains, arith}
+use Rattle.std.proofs.Common.{◌≡◌, ℕ, ◌+◌, Bool, true, false, cond, List, [], ◌∷◌, ◌++◌, length, Option, Some, None, Ok, refl, sym, ap, subst, ◌∙◌, append_assoc, append-nil, Contains, arith}
 use Rattle.std.specs.Prelude.{map, ◌*◌, nat_le, All}
 use Rattle.std.proofs.lemmas.List.Elements.{All-append, All-head, All-tail, All-weaker, Contains-append_right}
-use Rattle.std.specs.Option.{option_map, option_or}
-use Rattle.std.specs.Str.{bytes_eq}
+use Rattle.std.specs.Option.{option_map}
 use Rattle.std.proofs.lemmas.Grind.{common_steps}
-use Rattle.flash_format.specs.Head.{head_of, is_free}
 use Rattle.flash_format.specs.Cut.{cut}
-use Rattle.flash_format.specs.Components.{Component, component_at, components_from, components, cell_name}
+use Rattle.flash_format.specs.Components.{Component, components_from, components, cell_name}
 use Rattle.cbfs_walk.specs.Finding.{component_in, first_named}
 use Rattle.cbfs_walk.specs.Shapes.{shape_fault, refused_or}
 use Rattle.cbfs_walk.specs.Shaped.{place_after}
 use Rattle.cbfs_walk.specs.declared.walk.WalkFault.{WalkFault}
 use Rattle.cbfs_walk.specs.declared.walk.WalkFault.TheVariants as walk
 use Rattle.check_findings.specs.Region.Counts.{free_bytes, largest_room}
-use Rattle.check_findings.specs.Region.Names.{is_among}
-use Rattle.check_findings.specs.Region.RegionFindings.{cells_findings, component_content, component_finding, counts_of, end_findings, region_findings, shape_findings}
+use Rattle.check_findings.specs.Region.RegionFindings.{cells_findings, component_content, counts_of, end_findings, region_findings, shape_findings}
 use Rattle.flash_format.specs.Flashmap.{is_area}
-use Rattle.check_findings.specs.Image.Needs.{Wish, content_named, first_content, is_met, unmet, unmet_by}
+use Rattle.check_findings.specs.Image.Needs.{Wish, content_named, first_content, unmet, unmet_by}
 use Rattle.check_findings.specs.Image.Laws.{IsMet, NeedsAreThere}
 use Rattle.check_findings.specs.Image.ImageFindings.{areas_findings, bytes_of, expected_names, has_one_of, image_findings, left_after, names_findings, region_finding, regions_findings, wanted_areas}
 use Rattle.check_findings.specs.Image.RegionAreas.{region_areas}
@@ -26,10 +23,9 @@ use Rattle.flash_map.specs.Areas.{image_areas}
 use Rattle.flash_map.specs.declared.areas.NumberedArea.{NumberedArea}
 use Rattle.check_findings.specs.declared.image.finding.ImageFinding.{ImageFinding}
 use Rattle.check_findings.specs.declared.image.finding.ImageFinding.TheVariants.{Map, NotChecked, Region}
-use Rattle.check_findings.specs.declared.image.needs.NeedFinding.TheVariants.{Elsewhere, Missing}
+use Rattle.check_findings.specs.declared.image.needs.NeedFinding.TheVariants.{Missing}
 use Rattle.check_findings.specs.declared.region.finding.Content.{Content}
 use Rattle.check_findings.specs.declared.region.finding.RegionFinding.{RegionFinding}
-use Rattle.check_findings.specs.declared.region.finding.RegionFinding.TheVariants.{Deleted}
 use Rattle.check_findings.specs.declared.region.finding.RegionFinding.TheVariants.{Component as OfComponent}
 use Rattle.check_findings.proofs.RegionLemmas.Parts.{Part, IsIn, cell_part, end_part, count_part, of_end, of_counts}
 use Rattle.check_findings.proofs.ImageLemmas.Regions.{no_map_areas, no_name_areas, regions_of}

@@ -1,7 +1,6 @@
 -- The checked areas in order, and all findings.
 use Rattle.std.proofs.Common.{◌≡◌, ◌∙◌, ℕ, ◌+◌, ◌-◌, ◌*◌, ◌<◌, ◌≤◌, Bool, true, false, cond, All, IsTrue, List, [], ◌∷◌, ◌++◌, length, get_or, drop, take, nat_le, refl, sym, ap, arith, add-one, append_assoc, append-nil, drop-cons, length-append}
-use Rattle.std.specs.Prelude.{filter, map, is_some}
-use Rattle.std.specs.List.{find}
+use Rattle.std.specs.Prelude.{filter, map}
 use Rattle.std.proofs.Math.Seq.{drop-length}
 use Rattle.std.proofs.lemmas.Bool.{leb-true}
 use Rattle.std.proofs.lemmas.Grind.{flat_map-append}
@@ -11,9 +10,9 @@ use Rattle.std.proofs.lemmas.Grind.{common_steps}
 use Rattle.check_findings.specs.declared.map.finding.MapFinding.{MapFinding}
 use Rattle.flash_map.specs.declared.areas.NumberedArea.{NumberedArea}
 use Rattle.check_findings.specs.Map.MapFindings.{map_findings}
-use Rattle.flash_map.specs.Areas.{area_end, has_name, image_areas}
+use Rattle.flash_map.specs.Areas.{area_end, image_areas}
 use Rattle.check_findings.specs.declared.image.finding.ImageFinding.{ImageFinding}
-use Rattle.check_findings.specs.declared.image.finding.ImageFinding.TheVariants.{Map, NoArea}
+use Rattle.check_findings.specs.declared.image.finding.ImageFinding.TheVariants.{Map}
 use Rattle.check_findings.specs.Image.ImageFindings.{area_finding, areas_findings, expected_names, image_findings, left_after, names_findings, wanted_areas}
 use Rattle.check_findings.specs.Image.RegionAreas.{AreChecked, region_area, region_areas}
 

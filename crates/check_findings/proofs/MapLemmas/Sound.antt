@@ -1,10 +1,10 @@
 -- A map without other findings is sound.
-use Rattle.std.proofs.Common.{◌≡◌, ◌⊎◌, inl, inr, ⊎_elim, ℕ, zero, suc, ◌+◌, ◌<◌, ◌≤◌, Bool, true, false, not, cond, nat_lt, nat_eq, All, List, [], ◌∷◌, ◌++◌, length, Option, Some, None, refl, sym, ap, subst, ◌∙◌, arith}
+use Rattle.std.proofs.Common.{◌≡◌, ℕ, zero, suc, ◌+◌, ◌≤◌, Bool, true, false, not, cond, nat_lt, nat_eq, All, List, [], ◌∷◌, ◌++◌, length, Option, Some, None, refl, sym, ap, subst, ◌∙◌, arith}
 use Rattle.std.specs.Prelude.{Contains, IsSomeAnd}
 use Rattle.std.specs.List.{find, flat_map, list_any}
 use Rattle.std.specs.Option.{option_map, option_map_or, option_to_list}
 use Rattle.std.specs.Str.{is_utf8}
-use Rattle.std.proofs.lemmas.Bool.{and_cases, and_parts, not-false, or_parts, cases_lt, ltb-false, leb-true, eqb-true, false≢true}
+use Rattle.std.proofs.lemmas.Bool.{not-false, or_parts, eqb-true}
 use Rattle.std.proofs.lemmas.List.Elements.{All-nil, All-cons, All-contains}
 use Rattle.std.proofs.lemmas.Grind.{common_steps}
 use Rattle.std.proofs.lemmas.List.Folds.{list_any-append}
@@ -17,8 +17,8 @@ use Rattle.flash_map.specs.Fmap.{found_from, found_in}
 use Rattle.flash_map.specs.declared.areas.NumberedArea.{NumberedArea}
 use Rattle.check_findings.specs.declared.map.finding.MapFinding.{MapFinding}
 use Rattle.check_findings.specs.declared.map.finding.MapFinding.TheVariants as findings
-use Rattle.check_findings.specs.Map.MapFindings.{area_findings, ends_inside, finding_if, findings_of, holds_map, map_area_findings, map_findings, name_findings, overlap, overlap_findings, overlap_with}
-use Rattle.flash_map.specs.Areas.{area_end, has_name, map_areas, numbered_from}
+use Rattle.check_findings.specs.Map.MapFindings.{area_findings, ends_inside, finding_if, findings_of, map_area_findings, map_findings, name_findings, overlap, overlap_findings, overlap_with}
+use Rattle.flash_map.specs.Areas.{has_name, map_areas, numbered_from}
 use Rattle.check_findings.specs.Map.Laws.{HoldsMap, IsInside, IsSound, Nest, CleanMapsAreSound}
 
 -- ---- no findings
@@ -38,13 +38,11 @@ module _ (test : MapFinding → Bool) where
       let parts = none_of test (f a) (flat_map f areas) none in All-cons (λ (b : NumberedArea). list_any test (f b) ≡ false) a areas parts.0 (none_each f areas parts.1)
 
   untold : (b : Bool) (finding : MapFinding) → test finding ≡ true → list_any test (finding_if b finding) ≡ false → b ≡ false
-  untold false finding passes none = refl
-  untold true finding passes none = absurd (false≢true (sym (rw passes at none)))
+  untold b finding passes none = grind (arith, common_steps, passes, none)
 
 uncaused : {X : Type 0} (f : X → MapFinding) (cause : Option X) → list_any every (option_to_list (option_map f cause)) ≡ false → cause ≡ None
 unfolding every
-uncaused f None none = refl
-uncaused f (Some x) none = absurd cc
+uncaused f cause none = grind (arith, common_steps, none)
 
 find-none : (test : NumberedArea → Bool) (areas : List NumberedArea) → find test areas ≡ None → All (λ (a : NumberedArea). test a ≡ false) areas
 find-none test [] e = All-nil (λ (a : NumberedArea). test a ≡ false)

@@ -1,21 +1,19 @@
 -- The findings so far, and of the rest of a region.
-use Rattle.std.proofs.Common.{◌≡◌, ℕ, ◌+◌, ◌*◌, ◌/◌, ◌%◌, ◌≤◌, ◌⊎◌, inl, inr, Bool, true, false, cond, IsTrue, drop, List, [], ◌∷◌, ◌++◌, length, Option, Some, None, Result, Ok, Err, Vec, Global, refl, sym, ap, subst, ◌∙◌, arith, append_assoc}
-use Rattle.std.specs.Prelude.{◌==◌, IsErrOf, IfOk}
+use Rattle.std.proofs.Common.{◌≡◌, ℕ, ◌+◌, ◌*◌, ◌/◌, ◌%◌, ◌≤◌, ◌⊎◌, inl, inr, IsTrue, List, [], ◌∷◌, ◌++◌, length, Option, Some, None, Ok, Err, refl, sym, ap, subst, ◌∙◌, arith, append_assoc}
+use Rattle.std.specs.Prelude.{IsErrOf}
 use Rattle.std.proofs.lemmas.Grind.{common_steps}
 use mathlib.Core.Path.{fun_ext}
 use Rattle.flash_format.specs.Cut.{Cut, End, after, cut}
-use Rattle.flash_format.specs.Entry.{Entry, absent, cell, damaged, entry}
 use Rattle.flash_device.specs.Device.{Device}
 use Rattle.flash_device.specs.Pages.{Pages, HasRead, OnHonestIn}
 use Rattle.flash_device.proofs.WindowLemmas.{HasRead-none, HasRead-then, HasRead-within}
 use Rattle.flash_device.specs.Regions.{Range, LiesOn, bytes_in}
 use Rattle.flash_device.proofs.DeviceLemmas.{honest_still, length-bytes_in}
 use Rattle.cbfs_walk.specs.Cells.{IsCellIn, cell_in}
-use Rattle.cbfs_walk.specs.Walks.{reads_over, Answer, Walking, walk_of, answer_at, answer_by, StandsIn}
-use Rattle.cbfs_walk.specs.Shapes.{shape_fault, shape_fault_at, refused_or}
+use Rattle.cbfs_walk.specs.Walks.{reads_over, Answer, Walking, walk_of, answer_at, StandsIn}
+use Rattle.cbfs_walk.specs.Shapes.{shape_fault, refused_or}
 use Rattle.cbfs_walk.specs.Shaped.{reading_of, ReadsCells, by_answer, place_after}
 use Rattle.cbfs_walk.specs.declared.cell.Cell.{Cell}
-use Rattle.cbfs_walk.specs.declared.walk.Step.{Step}
 use Rattle.cbfs_walk.specs.declared.walk.Step.TheVariants as steps
 use Rattle.cbfs_walk.specs.declared.walk.WalkFault.{WalkFault}
 use Rattle.cbfs_walk.specs.declared.walk.WalkFault.TheVariants as walk
@@ -26,8 +24,6 @@ use Rattle.check_findings.specs.Region.Counts.{IsCountBefore, nothing, count_aft
 use Rattle.check_findings.specs.Region.RegionFindings.{names_after, cell_findings, cells_findings, counts_of, end_findings, tail_findings, shape_findings, region_findings}
 use Rattle.check_findings.specs.Region.Names.{HasNames}
 use Rattle.check_findings.specs.Region.Reports.{Gains, counted}
-use Rattle.flash_map.specs.declared.fault.CheckFault.{CheckFault}
-use Rattle.flash_map.specs.declared.fault.CheckFault.TheVariants as check
 use Rattle.check_findings.specs.declared.region.finding.RegionFinding.{RegionFinding}
 use Rattle.check_findings.specs.declared.region.finding.RegionFinding.TheVariants as findings
 use Rattle.check_findings.specs.declared.region.count.Count.{Count}

@@ -1,5 +1,5 @@
 -- The bytes after the entries.
-use Rattle.std.proofs.Common.{◌≡◌, ℕ, ◌+◌, ◌-◌, ◌*◌, ◌<◌, ◌≤◌, IsTrue, Bool, true, false, cond, zero, suc, All, List, [], ◌∷◌, ◌++◌, length, Option, Some, None, min, refl, sym, ap, ◌∙◌, arith, append_assoc, append-nil, take, drop, length-take, ⊎_elim}
+use Rattle.std.proofs.Common.{◌≡◌, ℕ, ◌+◌, ◌-◌, ◌*◌, ◌<◌, ◌≤◌, IsTrue, false, zero, suc, All, List, [], ◌∷◌, ◌++◌, length, None, min, refl, sym, ap, ◌∙◌, arith, append_assoc, append-nil, take, drop, length-take, ⊎_elim}
 use Rattle.std.specs.Prelude.{slice_range}
 use Rattle.std.specs.List.{position_from}
 use Rattle.std.specs.Option.{option_or}
