@@ -1,11 +1,11 @@
-//! Errors of a read with allocations.
+//! Errors of searches that allocate.
 ghost use Rattle.std.specs.Prelude.{◌≡◌};
 ghost use Rattle.flash_map.specs.declared.fault.CheckFault.TheVariants as faults;
 
 use flash_device::FlashFault;
 use std::alloc::{AllocError, AllocFailed};
 
-/// The error of a check, which then has no findings.
+/// The error of a search or check, which then has no result.
 #[derive(Clone, Copy, Debug, PartialEq, Eq, Drop)]
 pub enum CheckFault {
     /// A read failed.
