@@ -666,14 +666,13 @@ libraries() {
             library_tests | cbfstool | fmaptool | cbfscheck) continue ;;
         esac
         exported "$name" > used
-        other=$(sed -n 's/.*re-exports all names of \[\([a-z_]*\)\].*/\1/p' "$file")
-        if [ -n "$other" ]; then
+        for other in $(sed -n 's/.*re-exports all names of //p' "$file" | grep -oE '\[[a-z_]*\]' | tr -d '[]'); do
             exported "$other" > others
             LC_ALL=C comm -23 others used > lacking
             [ ! -s lacking ] || fail "claims: $name lacks names of $other: $(tr '\n' ' ' < lacking)"
             LC_ALL=C comm -13 others used > own
             mv own used
-        fi
+        done
         sed -n '/^|---/,/^$/s/^| \([^|]*\) |.*/\1/p' "$file" | grep -oE '`[^`]*`' | tr -d '`' | LC_ALL=C sort > named
         [ -s used ] && diff used named > differ || fail "claims: the README of $name names others: $(cat differ)"
     done

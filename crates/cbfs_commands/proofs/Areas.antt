@@ -4,8 +4,8 @@ use Rattle.std.specs.List.{flat_map}
 use Rattle.std.specs.Option.{option_map, option_map_or}
 use Rattle.std.proofs.lemmas.List.{drop-drop}
 use Rattle.flash_format.specs.Flashmap.{area_of, areas_at, areas_from, map_of, fmap_head_of}
-use Rattle.flash_device.specs.Fmap.{found_in}
-use Rattle.flash_device.specs.declared.fmap.FoundMap.{FoundMap}
+use Rattle.flash_map.specs.Fmap.{found_in}
+use Rattle.flash_map.specs.declared.search.FoundMap.{FoundMap}
 use Rattle.cbfs_commands.specs.Rows.{area_row, map_row, layout}
 use Rattle.cbfs_commands.proofs.Telling.{text_then}
 use Rattle.cbfs_commands.specs.Printouts.{Printout, refuses, shows}

@@ -8,9 +8,10 @@ use Rattle.flash_format.specs.Components.{Component, components, is_packed}
 use Rattle.flash_format.specs.Cut.{End, complete, tail, damage, cut}
 use Rattle.flash_format.specs.Entry.{entry}
 use Rattle.flash_format.specs.Flashmap.{areas_at, fmap_head_of, map_len, map_of, area_in}
-use Rattle.flash_device.specs.Fmap.{map_head}
-use Rattle.flash_device.specs.Regions.{Range, bytes_in, region_by_area, region_of, region_under}
-use Rattle.flash_device.specs.declared.fmap.StoreFault.{StoreFault}
+use Rattle.flash_map.specs.Fmap.{map_head}
+use Rattle.flash_device.specs.Regions.{Range, bytes_in}
+use Rattle.flash_map.specs.Regions.{region_by_area, region_of, region_under}
+use Rattle.flash_map.specs.declared.search.StoreFault.{StoreFault}
 use Rattle.cbfs_walk.specs.Finding.{Found, component_in, first_named, found_or, not_found}
 use Rattle.cbfs_walk.specs.Shaped.{place_after}
 use Rattle.cbfs_walk.specs.Shapes.{has_bad_size, is_absent, refused_or, shape_fault}

@@ -3,7 +3,8 @@ use Rattle.std.proofs.Common.{◌≡◌, ℕ, false, List, [], length, Result, O
 use Rattle.std.specs.Prelude.{if◌then◌else◌}
 use Rattle.std.specs.Result.{result_unwrap_or}
 use Rattle.flash_device.specs.Device.{overwritten}
-use Rattle.flash_device.specs.Regions.{Range, bytes_in, region_of}
+use Rattle.flash_device.specs.Regions.{Range, bytes_in}
+use Rattle.flash_map.specs.Regions.{region_of}
 use Rattle.cbfs_edit.specs.Additions.{NewComponent, added, addition_in, new_component}
 use Rattle.cbfs_edit.specs.Removals.{removal_in, removed}
 use Rattle.cbfs_commands.specs.declared.refusal.Refusal.{Refusal}

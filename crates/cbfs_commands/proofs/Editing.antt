@@ -1,9 +1,10 @@
 -- A region after a refused edit.
 use Rattle.std.proofs.Common.{◌≡◌, ◌≢◌, ◌⊎◌, [], inl, inr, ℕ, List, Result, Ok, Err, IsErrOf, refl, sym, ◌∙◌}
 use Rattle.std.specs.Result.{IsErrAnd, result_unwrap_or}
-use Rattle.flash_device.specs.Regions.{Range, bytes_in, region_of}
-use Rattle.flash_device.specs.declared.fmap.StoreFault.{StoreFault}
-use Rattle.flash_device.specs.declared.fmap.StoreFault.TheVariants as store
+use Rattle.flash_device.specs.Regions.{Range, bytes_in}
+use Rattle.flash_map.specs.Regions.{region_of}
+use Rattle.flash_map.specs.declared.search.StoreFault.{StoreFault}
+use Rattle.flash_map.specs.declared.search.StoreFault.TheVariants as store
 use Rattle.cbfs_edit.specs.declared.addition.HashChoice.{HashChoice}
 use Rattle.cbfs_edit.specs.declared.addition.Placed.{Placed}
 use Rattle.cbfs_edit.specs.declared.fault.EditFault.{EditFault}

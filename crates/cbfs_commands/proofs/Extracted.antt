@@ -6,7 +6,7 @@ use Rattle.flash_format.specs.Made.{made_attributes}
 use Rattle.flash_format.specs.declared.digest.Digest.{Digest}
 use Rattle.flash_device.specs.Device.{overwritten}
 use Rattle.flash_device.specs.Regions.{Range, bytes_in}
-use Rattle.flash_device.specs.declared.fmap.StoreFault.{StoreFault}
+use Rattle.flash_map.specs.declared.search.StoreFault.{StoreFault}
 use Rattle.flash_device.proofs.DeviceLemmas.{length-bytes_in}
 use Rattle.cbfs_edit.specs.Additions.{added}
 use Rattle.cbfs_edit.proofs.Added.{added_length}

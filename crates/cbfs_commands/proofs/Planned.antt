@@ -10,10 +10,11 @@ use Rattle.std.proofs.lemmas.List.Kept.{AllPairs-cons}
 use Rattle.flash_format.specs.declared.flashmap.FmapHead.{FmapHead}
 use Rattle.flash_format.specs.declared.flashmap.Area.{Area}
 use Rattle.flash_format.specs.Flashmap.{fmap_head_len, fmap_head_of, has_signature, is_map, is_valid_head, map_len}
-use Rattle.flash_device.specs.Fmap.{map_head}
+use Rattle.flash_map.specs.Fmap.{map_head}
 use Rattle.flash_device.specs.Laws.{LieApart}
-use Rattle.flash_device.specs.Regions.{Range, region_by_area}
-use Rattle.flash_device.proofs.FmapLemmas.{head_some, valid_fits}
+use Rattle.flash_device.specs.Regions.{Range}
+use Rattle.flash_map.specs.Regions.{region_by_area}
+use Rattle.flash_map.proofs.FmapLemmas.{head_some, valid_fits}
 use Rattle.cbfs_walk.specs.Shapes.{has_bad_size}
 use Rattle.cbfs_commands.specs.declared.create.plan.Plan.{Plan}
 use Rattle.cbfs_commands.specs.declared.refusal.Refusal.{Refusal}

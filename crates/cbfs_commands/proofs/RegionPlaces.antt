@@ -7,9 +7,10 @@ use Rattle.std.proofs.lemmas.List.{take-take}
 use Rattle.flash_format.specs.declared.flashmap.Area.{Area}
 use Rattle.flash_format.specs.Flashmap.{map_of, area_in}
 use Rattle.flash_device.specs.Device.{overwritten}
-use Rattle.flash_device.specs.Regions.{Range, LiesIn, bytes_in, region_by_area, region_of, region_under}
-use Rattle.flash_device.specs.declared.fmap.StoreFault.{StoreFault}
-use Rattle.flash_device.specs.declared.fmap.StoreFault.TheVariants as faults
+use Rattle.flash_device.specs.Regions.{Range, LiesIn, bytes_in}
+use Rattle.flash_map.specs.Regions.{region_by_area, region_of, region_under}
+use Rattle.flash_map.specs.declared.search.StoreFault.{StoreFault}
+use Rattle.flash_map.specs.declared.search.StoreFault.TheVariants as faults
 use Rattle.flash_device.proofs.BytesLemmas.{overwritten-range, slice_range_is}
 use Rattle.flash_device.proofs.RegionLemmas.{written_in}
 

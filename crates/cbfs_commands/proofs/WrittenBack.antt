@@ -1,8 +1,9 @@
 -- Bytes read from a region are written back.
 use Rattle.std.proofs.Common.{◌≡◌, ℕ, List, length, Result, Ok, Err, sym, ◌∙◌, ap, refl}
 use Rattle.std.proofs.lemmas.Bool.{eq-eqb}
-use Rattle.flash_device.specs.Regions.{Range, bytes_in, region_of}
-use Rattle.flash_device.specs.declared.fmap.StoreFault.{StoreFault}
+use Rattle.flash_device.specs.Regions.{Range, bytes_in}
+use Rattle.flash_map.specs.Regions.{region_of}
+use Rattle.flash_map.specs.declared.search.StoreFault.{StoreFault}
 use Rattle.flash_device.proofs.BytesLemmas.{overwritten-same}
 use Rattle.flash_device.proofs.DeviceLemmas.{length-bytes_in}
 use Rattle.cbfs_commands.specs.declared.refusal.Refusal.{Refusal}

@@ -9,9 +9,10 @@ use Rattle.flash_format.specs.declared.flashmap.FmapHead.{FmapHead}
 use Rattle.flash_format.specs.declared.flashmap.Area.{Area}
 use Rattle.flash_format.specs.Flashmap.{fmap_head_len, map_len, areas_from, is_area}
 use Rattle.flash_device.specs.Device.{overwritten}
-use Rattle.flash_device.specs.Fmap.{map_head}
+use Rattle.flash_map.specs.Fmap.{map_head}
 use Rattle.flash_device.specs.Laws.{with_edit}
-use Rattle.flash_device.specs.Regions.{Range, region_by_area}
+use Rattle.flash_device.specs.Regions.{Range}
+use Rattle.flash_map.specs.Regions.{region_by_area}
 use Rattle.cbfs_walk.specs.Shapes.{has_bad_size}
 use Rattle.cbfs_edit.specs.Formats.{formatted}
 use Rattle.cbfs_commands.specs.declared.create.plan.Plan.{Plan}

@@ -11,7 +11,8 @@ use Rattle.std.specs.Result.{ForOk, result_ok, result_unwrap_or}
 use Rattle.flash_format.specs.Flashmap.{area_len}
 use Rattle.flash_device.specs.Device.{SameOutside, overwritten, Device, Calls, fault_count}
 use Rattle.flash_device.specs.Pages.{Pages, OnHonest}
-use Rattle.flash_device.specs.Regions.{Range, bytes_in, region_of}
+use Rattle.flash_device.specs.Regions.{Range, bytes_in}
+use Rattle.flash_map.specs.Regions.{region_of}
 use Rattle.cbfs_edit.specs.Additions.{added, addition_in, new_component}
 use Rattle.cbfs_edit.specs.Removals.{removal_in, removed}
 use Rattle.cbfs_edit.specs.Changes.{LeavesWhole}

@@ -7,7 +7,8 @@ use Rattle.flash_format.specs.Flashmap.{text_of}
 use Rattle.flash_format.specs.declared.flashmap.Area.{Area}
 use Rattle.flash_format.specs.declared.flashmap.FmapHead.{FmapHead}
 use Rattle.flash_device.specs.Device.{overwritten}
-use Rattle.flash_device.specs.Regions.{Range, bytes_in, region_of}
+use Rattle.flash_device.specs.Regions.{Range, bytes_in}
+use Rattle.flash_map.specs.Regions.{region_of}
 use Rattle.flash_device.specs.Laws.{LieApart}
 use Rattle.cbfs_edit.specs.Additions.{NewComponent, added}
 use Rattle.cbfs_edit.specs.Formats.{IsOneFreeCell}

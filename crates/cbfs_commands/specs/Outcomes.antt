@@ -4,7 +4,8 @@ use Rattle.std.specs.Option.{option_map_or}
 use Rattle.flash_format.specs.Components.{Component, is_packed}
 use Rattle.flash_format.specs.Cut.{Cut, cut}
 use Rattle.flash_device.specs.Device.{FirstWritten, PartWritten}
-use Rattle.flash_device.specs.Regions.{Range, bytes_in, region_of}
+use Rattle.flash_device.specs.Regions.{Range, bytes_in}
+use Rattle.flash_map.specs.Regions.{region_of}
 use Rattle.cbfs_edit.specs.Changes.{AddLeavesBefore, AddLeavesWhole}
 use Rattle.cbfs_edit.specs.Additions.{NewComponent}
 use Rattle.cbfs_edit.specs.declared.place.Spot.{Spot}

@@ -1,7 +1,7 @@
 -- Errors of the lower layers as errors of a command.
 use Rattle.std.specs.Prelude.{ℕ, ◌⊎◌, Result, Ok, Err, IsErrOf}
-use Rattle.flash_device.specs.declared.fmap.StoreFault.{StoreFault}
-use Rattle.flash_device.specs.declared.fmap.StoreFault.TheVariants as store
+use Rattle.flash_map.specs.declared.search.StoreFault.{StoreFault}
+use Rattle.flash_map.specs.declared.search.StoreFault.TheVariants as store
 use Rattle.flash_device.specs.declared.paged.CopyFault.{CopyFault}
 use Rattle.flash_device.specs.declared.paged.CopyFault.TheVariants as copy
 use Rattle.cbfs_walk.specs.declared.walk.WalkFault.{WalkFault}

@@ -21,7 +21,7 @@ pub fn add<F: Flash, S: Source>(
         (adds region.now name.now kind hash spot) paged.old paged.new (S.facts source.old)
         (S.facts source.new) result }
 {
-    let region = flash_device::region(paged, region)?;
+    let region = flash_map::region(paged, region)?;
     cbfs_edit::add(paged, region, name, kind, hash, spot, source)?;
     Ok(())
 }

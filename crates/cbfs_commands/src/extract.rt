@@ -42,7 +42,7 @@ pub fn extract<F: Flash, W: Sink>(
         paged.old paged.new out.old out.new result (λ image.
         printed_in image region.now (λ x. extract_region x name.now)) }
 {
-    let region = flash_device::region(paged, region)?;
+    let region = flash_map::region(paged, region)?;
     match find(paged, region, name)? {
         Some(cell) => extract_component(paged, region, &cell, out),
         None => Err(Refusal::NotFound),

@@ -10,8 +10,9 @@ ghost use Rattle.cbfs_commands.specs.Printouts.{HasOutput, shows};
 use crate::refusal::Refusal;
 use crate::row::{Row, push_decimal, put_row};
 use arrayvec::ArrayVec;
-use flash_device::{Flash, FoundMap, Paged, Sink, area, find_fmap};
+use flash_device::{Flash, Paged, Sink};
 use flash_format::{Area, push_hexadecimal, push_name, push_text};
+use flash_map::{FoundMap, area, find_fmap};
 
 #[tactic(auto, unfolding(crate::specs::Rows::map_row))]
 fn set_map_row(row: &mut Row, map: &FoundMap)

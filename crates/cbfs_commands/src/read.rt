@@ -34,6 +34,6 @@ pub fn read<F: Flash, W: Sink>(
         (2 * length (F.facts paged.old.device).content + 64)
         paged.old paged.new out.old out.new result (λ image. printed_in image name.now shows) }
 {
-    let region = flash_device::region(paged, name)?;
+    let region = flash_map::region(paged, name)?;
     copy_out(paged, region.start(), region.size(), out)
 }

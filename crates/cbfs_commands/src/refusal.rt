@@ -7,8 +7,9 @@ ghost use Rattle.cbfs_commands.specs.declared.refusal.Refusal.TheVariants as ref
 
 use cbfs_edit::EditFault;
 use cbfs_walk::WalkFault;
-use flash_device::{CopyFault, FlashFault, SinkFault, SourceFault, StoreFault};
+use flash_device::{CopyFault, FlashFault, SinkFault, SourceFault};
 use flash_format::DamageKind;
+use flash_map::StoreFault;
 use thiserror::Error;
 
 /// The errors of a command, with numbers and messages.

@@ -11,7 +11,7 @@ pub fn remove<F: Flash>(paged: &mut Paged<F>, region: &[u8], name: &[u8]) -> Res
     ensures { HasChanged F.facts (2 * length (F.facts paged.old.device).content + 64)
         (removes region.now name.now) paged.old paged.new no_source no_source result }
 {
-    let region = flash_device::region(paged, region)?;
+    let region = flash_map::region(paged, region)?;
     cbfs_edit::remove(paged, region, name)?;
     Ok(())
 }

@@ -15,7 +15,7 @@ pub fn write<F: Flash, S: Source>(
     ensures { HasChanged F.facts (2 * length (F.facts paged.old.device).content + 64)
         (replaces name.now) paged.old paged.new (S.facts source.old) (S.facts source.new) result }
 {
-    let region = flash_device::region(paged, name)?;
+    let region = flash_map::region(paged, name)?;
     if source.len() != region.size() {
         return Err(Refusal::SourceSize);
     }

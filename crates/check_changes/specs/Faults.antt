@@ -1,7 +1,7 @@
 -- Errors of a comparison.
 use Rattle.std.specs.Prelude.{ℕ}
-use Rattle.check_findings.specs.declared.fault.CheckFault.{CheckFault}
-use Rattle.check_findings.specs.declared.fault.CheckFault.TheVariants as check
+use Rattle.flash_map.specs.declared.fault.CheckFault.{CheckFault}
+use Rattle.flash_map.specs.declared.fault.CheckFault.TheVariants as check
 use Rattle.check_changes.specs.declared.fault.ChangeFault.{ChangeFault}
 use Rattle.check_changes.specs.declared.fault.ChangeFault.TheVariants as faults
 

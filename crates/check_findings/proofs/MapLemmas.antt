@@ -1,3 +1,1 @@
-pub mod MapAreas
-pub mod NameLemmas
 pub mod Sound

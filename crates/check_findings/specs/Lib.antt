@@ -1,4 +1,3 @@
-pub mod Faults
 pub mod Map
 pub mod Region
 pub mod Image

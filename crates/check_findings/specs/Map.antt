@@ -1,3 +1,2 @@
 pub mod MapFindings
-pub mod Names
 pub mod Laws

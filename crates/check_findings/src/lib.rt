@@ -1,23 +1,18 @@
 //! Checks a flash image: its flash map and its CBFS regions.
 #![tactic(auto)]
 
-mod fault;
 mod image;
 mod lists;
 mod map;
 mod region;
 mod text;
 
-pub use fault::CheckFault;
 pub use image::{
     CheckedImage, ImageFinding, Need, NeedFinding, NeededPlace, RegionFindings, cbfs_areas,
     check_image, fit_images_are_whole, fit_regions_are_whole, fit_regions_lose_nothing,
     is_bad_hash, is_bad_map, needs_are_there, unmet,
 };
-pub use map::{
-    AreaNames, CheckedMap, ImageMap, MapFinding, NumberedArea, check_map, clean_maps_are_sound,
-    image_map,
-};
+pub use map::{CheckedMap, MapFinding, check_map, clean_maps_are_sound};
 pub use region::{
     Content, HashFinding, Name, RegionFinding, blank_tails_are_known, check_region,
     unshadowed_components_are_found,

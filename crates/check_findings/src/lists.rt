@@ -1,7 +1,9 @@
 //! Growing lists.
 ghost use Rattle.std.specs.Prelude.{◌≡◌, [], ◌∷◌, ◌++◌, OnOk, if◌then◌else◌};
 
-use crate::fault::Pushed;
+use std::alloc::AllocError;
+
+pub type Pushed = Result<(), AllocError>;
 
 pub fn push_if<T: Drop>(list: &mut Vec<T>, condition: bool, element: T) -> Pushed
     ensures { OnOk result (list.new.items

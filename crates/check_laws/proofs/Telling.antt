@@ -2,7 +2,7 @@
 use Rattle.std.proofs.Common.{◌≡◌, ◌≢◌, ℕ, Bool, List, None, Ok, refl}
 use Rattle.flash_format.specs.declared.head.DamageKind.{DamageKind}
 use Rattle.flash_format.specs.Cut.{End, complete, tail, damage, cut}
-use Rattle.check_findings.specs.declared.map.finding.NumberedArea.{NumberedArea}
+use Rattle.flash_map.specs.declared.areas.NumberedArea.{NumberedArea}
 use Rattle.cbfs_walk.specs.Finding.{not_found}
 use Rattle.cbfs_walk.specs.Shaped.{place_after}
 use Rattle.check_findings.specs.Image.Laws.{IsFit, IsWhole}

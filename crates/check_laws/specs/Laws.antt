@@ -5,7 +5,7 @@ use Rattle.std.specs.List.{list_any}
 use Rattle.flash_format.specs.Components.{Component, components}
 use Rattle.flash_format.specs.Cut.{cut}
 use Rattle.flash_format.specs.Flashmap.{text_of}
-use Rattle.check_findings.specs.declared.map.finding.NumberedArea.{NumberedArea}
+use Rattle.flash_map.specs.declared.areas.NumberedArea.{NumberedArea}
 use Rattle.check_findings.specs.Region.RegionFindings.{region_findings}
 use Rattle.check_findings.specs.Image.ImageFindings.{bytes_of, image_findings}
 use Rattle.check_findings.specs.Image.RegionAreas.{region_areas}

@@ -7,7 +7,7 @@ use Rattle.flash_format.specs.TypeNames.{name_of_type}
 use Rattle.std.proofs.lemmas.List.Concat.{flat_map-cons}
 use Rattle.std.proofs.lemmas.List.Folds.{list_any-append}
 use Rattle.check_findings.specs.declared.region.finding.Content.{Content}
-use Rattle.check_findings.specs.declared.map.finding.NumberedArea.{NumberedArea}
+use Rattle.flash_map.specs.declared.areas.NumberedArea.{NumberedArea}
 use Rattle.check_report.specs.declared.request.Asked.{Asked}
 use Rattle.check_findings.specs.declared.region.finding.HashFinding.{HashFinding}
 use Rattle.check_findings.specs.declared.region.finding.HashFinding.TheVariants as hashes

@@ -7,8 +7,8 @@ use Prim.Native.String.{String}
 use Rattle.check_changes.specs.declared.regions.change.RegionChange.{RegionChange}
 use Rattle.check_changes.specs.declared.regions.change.RegionChange.TheVariants.{Compared}
 use Rattle.check_changes.specs.declared.regions.change.RegionChange.TheVariants.{NotCompared}
-use Rattle.check_findings.specs.declared.map.finding.NumberedArea.{NumberedArea}
-use Rattle.check_findings.specs.Map.MapFindings.{has_name}
+use Rattle.flash_map.specs.declared.areas.NumberedArea.{NumberedArea}
+use Rattle.flash_map.specs.Areas.{has_name}
 use Rattle.check_changes.specs.declared.areas.change.MapChange.{MapChange}
 use Rattle.check_changes.specs.declared.areas.change.MapChange.TheVariants as maps
 use Rattle.check_changes.specs.declared.areas.change.AreaChange.{AreaChange}

@@ -1,10 +1,10 @@
 -- The result of a check, on honest devices.
 use Rattle.std.specs.Prelude.{◌≡◌, ℕ, List, None, IsSomeAnd, ◌++◌, length, map, is_none}
 use Rattle.std.specs.Prelude.{if◌then◌else◌}
-use Rattle.flash_device.specs.Fmap.{found_in}
-use Rattle.check_findings.specs.declared.map.finding.NumberedArea.{NumberedArea}
+use Rattle.flash_map.specs.Fmap.{found_in}
+use Rattle.flash_map.specs.declared.areas.NumberedArea.{NumberedArea}
 use Rattle.check_findings.specs.declared.image.finding.ImageFinding.{ImageFinding}
-use Rattle.check_findings.specs.Map.MapFindings.{image_areas}
+use Rattle.flash_map.specs.Areas.{image_areas}
 use Rattle.check_findings.specs.Image.ImageFindings.{cbfs_areas, image_findings}
 use Rattle.check_changes.specs.Areas.AreaChanges.{area_changes}
 use Rattle.check_changes.specs.Areas.Blocks.{different_blocks}

@@ -7,7 +7,7 @@ ghost use Rattle.check_report.specs.ChangeRows as of;
 use crate::kept::{is_kept, verdict_of};
 use crate::rows::{Row, Verdict};
 use check_changes::{AreaChange, MapChange};
-use check_findings::NumberedArea;
+use flash_map::NumberedArea;
 
 /// Returns the row of a difference of an area.
 fn changed<'a>(kept: &[&[u8]], area: &'a NumberedArea, row: Row<'a>) -> Row<'a>

@@ -2,9 +2,9 @@
 ghost use Rattle.std.specs.Prelude.{◌≡◌, ◌+◌, ◌*◌, ◌/◌, ◌≤◌, length, IfOk};
 ghost use Rattle.flash_format.specs.Flashmap.{area_len};
 ghost use Rattle.flash_device.specs.Device.{fault_count};
-ghost use Rattle.flash_device.specs.Fmap.{found_in};
+ghost use Rattle.flash_map.specs.Fmap.{found_in};
 ghost use Rattle.flash_device.specs.Pages.{HasRead, OnHonest};
-ghost use Rattle.check_findings.specs.Faults.{by_device};
+ghost use Rattle.flash_map.specs.Faults.{by_device};
 ghost use Rattle.check_findings.specs.Image.RegionAreas.{region_areas, sum_sizes};
 ghost use Rattle.check_changes.specs.Images.{HasReadFor, OnBoth, lengths};
 ghost use Rattle.check_report.specs.Changes.{IsComparison, IsInspectedChange, IsOldImage};
@@ -14,8 +14,9 @@ use crate::inspection::{Changes, Comparison, Inspection, OldImage};
 use crate::names::{need_areas, with_areas};
 use crate::request::Request;
 use check_changes::{Areas, ChangeFault, Images, image_changes, map_changes, region_changes};
-use check_findings::{CheckFault, CheckedImage, NumberedArea, cbfs_areas, check_image, image_map};
-use flash_device::{Flash, FoundMap, Paged};
+use check_findings::{CheckedImage, cbfs_areas, check_image};
+use flash_device::{Flash, Paged};
+use flash_map::{CheckFault, FoundMap, NumberedArea, image_map};
 use std::alloc::Global;
 use std::hash::RandomState;
 

@@ -11,8 +11,8 @@ use crate::fault::WriteFault;
 use crate::kept::verdict_of;
 use crate::rows::{RowWriter, Verdict};
 use check_changes::{AreaChange, ComponentChange, MapChange, RegionChange};
-use check_findings::NumberedArea;
 use flash_device::Sink;
+use flash_map::NumberedArea;
 
 /// Adds rows for the image lengths, and for the number of different blocks of 4096 bytes.
 pub fn add_image_changes<W: Sink + Drop>(

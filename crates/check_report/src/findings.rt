@@ -10,8 +10,9 @@ use crate::map::{map_row, verdict_of};
 use crate::region::add_region;
 use crate::request::Asked;
 use crate::rows::{Row, RowWriter, Verdict};
-use check_findings::{ImageFinding, NumberedArea};
+use check_findings::ImageFinding;
 use flash_device::Sink;
+use flash_map::NumberedArea;
 
 fn missing_row<'a>(names: &[&'a [u8]], number: usize) -> Row<'a>
     ensures { seen_row result ≡ of.missing_row (names_in names.now) number }

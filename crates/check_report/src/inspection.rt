@@ -21,8 +21,9 @@ use crate::needs::add_needs;
 use crate::request::Request;
 use crate::rows::{Printer, RowWriter};
 use check_changes::{AreaChange, MapChange, RegionChange};
-use check_findings::{ImageFinding, ImageMap, NumberedArea};
+use check_findings::ImageFinding;
 use flash_device::Sink;
+use flash_map::{ImageMap, NumberedArea};
 use std::alloc::Global;
 
 /// The differences between two images.

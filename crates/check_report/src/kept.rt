@@ -8,8 +8,8 @@ ghost use Rattle.check_report.specs.ChangeRows as of;
 
 use crate::fault::WriteFault;
 use crate::rows::{RowWriter, Verdict};
-use check_findings::NumberedArea;
 use flash_device::Sink;
+use flash_map::NumberedArea;
 
 /// Returns whether the area has a kept name.
 pub fn is_kept(kept: &[&[u8]], area: NumberedArea) -> bool

@@ -5,7 +5,8 @@ ghost use Rattle.check_report.specs.ChangeRows as of;
 ghost use Rattle.check_report.specs.Rows.Rows.{area_name};
 ghost use Rattle.check_report.specs.Names.{names_in};
 
-use check_findings::{Need, NumberedArea};
+use check_findings::Need;
+use flash_map::NumberedArea;
 use std::alloc::{AllocError, Global};
 
 pub fn need_areas<'a>(alloc: Global, needs: &[Need<'a>]) -> Result<Vec<&'a [u8]>, AllocError>

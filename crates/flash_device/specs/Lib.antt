@@ -1,6 +1,5 @@
 pub mod Device
 pub mod Failing
-pub mod Fmap
 pub mod Laws
 pub mod Numbers
 pub mod Output

@@ -3,7 +3,7 @@
 ghost use Rattle.std.specs.Prelude.{◌≡◌, ℕ, ◌+◌, ◌≤◌, List, length};
 ghost use Rattle.flash_device.specs.Device.{overwritten};
 ghost use Rattle.flash_device.specs.Regions.{Range, LiesIn, bytes_in};
-ghost use Rattle.flash_device.specs.Laws.{WritesInRegions, WrittenMapsAreFound, LieApart, with_edit};
+ghost use Rattle.flash_device.specs.Laws.{WritesInRegions, LieApart, with_edit};
 
 /// Proves the effect of image writes on a region.
 pub fn writes_are_seen_by_regions()
@@ -23,9 +23,4 @@ pub fn separate_edits_swap()
         → LiesIn s image → LieApart r s
         → length (first (bytes_in r image)) ≡ r.size → length (last (bytes_in s image)) ≡ s.size
         → with_edit s last (with_edit r first image) ≡ with_edit r first (with_edit s last image) }
-{}
-
-/// Proves that a search finds a written map, if no valid map begins lower.
-pub fn written_maps_are_found()
-    ensures { WrittenMapsAreFound }
 {}

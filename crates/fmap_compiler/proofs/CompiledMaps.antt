@@ -1,8 +1,8 @@
 -- A search finds a written table.
 use Rattle.std.proofs.Common.{List, ℕ, sym, subst}
 use Rattle.flash_device.specs.Device.{overwritten}
-use Rattle.flash_device.specs.Laws.{FindsMap, NoMapBelow}
-use Rattle.flash_device.proofs.WrittenMaps.{maps_found}
+use Rattle.flash_map.specs.Laws.{FindsMap, NoMapBelow}
+use Rattle.flash_map.proofs.WrittenMaps.{maps_found}
 use Rattle.fmd_lang.specs.Table.{table_bytes, table_head}
 use Rattle.fmd_lang.proofs.TableBytes.{table_read}
 use Rattle.fmap_compiler.specs.Laws.{CompiledMapsAreFound}

@@ -1,7 +1,7 @@
 -- The table of a text as a flash map in an image.
 use Rattle.std.specs.Prelude.{ℕ, ◌≤◌, List, length}
 use Rattle.flash_device.specs.Device.{overwritten}
-use Rattle.flash_device.specs.Laws.{FindsMap, NoMapBelow}
+use Rattle.flash_map.specs.Laws.{FindsMap, NoMapBelow}
 use Rattle.fmd_lang.specs.Words.{words}
 use Rattle.fmd_lang.specs.Tree.{Tree}
 use Rattle.fmd_lang.specs.Grammar.{IsSection}

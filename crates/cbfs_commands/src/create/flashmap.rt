@@ -7,13 +7,14 @@ ghost use lib.Chars.{codes};
 ghost use Rattle.flash_format.specs.declared.flashmap.Area.{Area};
 ghost use Rattle.flash_format.specs.Flashmap.{fmap_head_len, map_len, areas_from};
 ghost use Rattle.flash_device.specs.Device.{Reads, fault_count, refusals};
-ghost use Rattle.flash_device.specs.Fmap.{map_head};
+ghost use Rattle.flash_map.specs.Fmap.{map_head};
 ghost use Rattle.cbfs_commands.specs.Creations.{head_for, first_area};
 ghost use Rattle.cbfs_commands.specs.Refusals.{by_source};
 
 use crate::refusal::Refusal;
-use flash_device::{Source, SourceFault, area_in_source, map_in_source};
+use flash_device::{Source, SourceFault};
 use flash_format::{Area, FmapHead};
+use flash_map::{area_in_source, map_in_source};
 
 /// The maximum number of regions of a new image.
 pub const MOST_REGIONS: usize = 16;

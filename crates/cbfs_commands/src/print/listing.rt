@@ -114,6 +114,6 @@ pub fn print<F: Flash, W: Sink>(
         paged.old paged.new out.old out.new result (λ image.
         printed_in image name.now (λ x. print_region x verbose)) }
 {
-    let region = flash_device::region(paged, name)?;
+    let region = flash_map::region(paged, name)?;
     print_region(paged, region, verbose, out)
 }

@@ -4,8 +4,8 @@ use Rattle.std.specs.List.{find, flat_map, list_any}
 use Rattle.std.specs.Option.{option_map_or, option_and_then}
 use Rattle.flash_format.specs.Flashmap.{text_of}
 use Rattle.flash_device.specs.Regions.{bytes_in}
-use Rattle.check_findings.specs.declared.map.finding.NumberedArea.{NumberedArea}
-use Rattle.check_findings.specs.Map.MapFindings.{has_name}
+use Rattle.flash_map.specs.declared.areas.NumberedArea.{NumberedArea}
+use Rattle.flash_map.specs.Areas.{has_name}
 use Rattle.check_changes.specs.declared.areas.change.AreaChange.{AreaChange}
 use Rattle.check_changes.specs.declared.areas.change.AreaChange.TheVariants.{Added, Gone, Moved, Resized, FlagsChanged, Differs, NotCompared}
 use Rattle.check_changes.specs.declared.areas.pairs.AreaPair.{AreaPair}

@@ -1,8 +1,8 @@
 -- A law about changes of areas.
 use Rattle.std.specs.Prelude.{◌≡◌, ◌≢◌, ℕ, ◌+◌, ◌<◌, ◌≤◌, Bool, false, ◌&&◌, List, Contains, IsTrue, length, slice_index, nat_lt, nat_le, Some}
 use Rattle.std.specs.List.{list_any}
-use Rattle.check_findings.specs.declared.map.finding.NumberedArea.{NumberedArea}
-use Rattle.check_findings.specs.Map.MapFindings.{area_end}
+use Rattle.flash_map.specs.declared.areas.NumberedArea.{NumberedArea}
+use Rattle.flash_map.specs.Areas.{area_end}
 use Rattle.check_changes.specs.declared.areas.change.AreaChange.{AreaChange}
 use Rattle.check_changes.specs.declared.areas.change.AreaChange.TheVariants.{Differs, NotCompared}
 use Rattle.check_changes.specs.Areas.AreaChanges.{pairs, area_changes}

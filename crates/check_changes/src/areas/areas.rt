@@ -13,8 +13,8 @@ use crate::areas::pairs::{AreaPair, pairs, push_gone};
 use crate::fault::ChangeFault;
 use crate::images::{Images, taken};
 use crate::lists::push_if;
-use check_findings::NumberedArea;
 use flash_device::Flash;
+use flash_map::NumberedArea;
 use std::alloc::{AllocError, Global};
 
 /// The limit of compared bytes, in lengths of the new image: 65535 areas may each have its length.

@@ -1,5 +1,5 @@
 //! The changes between two flash maps.
-use check_findings::NumberedArea;
+use flash_map::NumberedArea;
 
 /// A change between the areas of two images.
 #[derive(Clone, Copy, Drop)]

@@ -4,7 +4,7 @@ ghost use Rattle.check_changes.specs.Areas.MapChanges as maps;
 
 use crate::areas::change::MapChange;
 use crate::lists::push_if;
-use flash_device::FoundMap;
+use flash_map::FoundMap;
 use std::alloc::{AllocError, Global};
 
 /// Returns the changes of offset, base address and name of the map; none if the new image has no

@@ -1,10 +1,10 @@
 //! Areas by name.
 ghost use Rattle.std.specs.Prelude.{◌≡◌, IfOk};
 ghost use Rattle.std.proofs.Props.{props};
-ghost use Rattle.check_findings.specs.Map.Names.{Notes};
+ghost use Rattle.flash_map.specs.Names.{Notes};
 ghost use Rattle.check_changes.specs.Areas.AreaChanges.{is_reached, namesake};
 
-use check_findings::{AreaNames, NumberedArea};
+use flash_map::{AreaNames, NumberedArea};
 use std::alloc::{AllocError, Global};
 
 /// The areas of a map, and the first area of each name.

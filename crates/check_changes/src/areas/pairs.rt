@@ -8,8 +8,8 @@ use crate::areas::change::AreaChange;
 use crate::areas::names::NamedAreas;
 use crate::images::{Lengths, RegionPair};
 use crate::lists::push_if;
-use check_findings::NumberedArea;
 use flash_device::PIECE;
+use flash_map::NumberedArea;
 use std::alloc::{AllocError, Global};
 
 /// An area of the new map, and the first old area with its name.

@@ -7,12 +7,13 @@ ghost use Rattle.cbfs_walk.specs.Cells.{IsCellIn};
 ghost use Rattle.cbfs_walk.specs.Walks.{StandsIn};
 ghost use Rattle.check_changes.specs.Components.Listings.{IsListedIn, Lists, cell_states};
 ghost use Rattle.check_changes.specs.Components.Listings.{spans, states_in};
-ghost use Rattle.check_findings.specs.Faults.{by_device};
+ghost use Rattle.flash_map.specs.Faults.{by_device};
 
 use crate::lists::push;
 use cbfs_walk::{Cell, Step, Walk, WalkFault, cells_stand_in_their_image, name};
-use check_findings::{CheckFault, Name};
+use check_findings::Name;
 use flash_device::{Flash, Paged, Region};
+use flash_map::CheckFault;
 use std::alloc::{AllocError, Global};
 
 /// A component from a walk.

@@ -2,7 +2,7 @@
 ghost use Rattle.std.specs.Prelude.{◌≡◌};
 
 use crate::components::ComponentChange;
-use check_findings::NumberedArea;
+use flash_map::NumberedArea;
 use std::marker::Model;
 
 /// The changes between the components of two regions.

@@ -1,7 +1,7 @@
 //! The changes of each region's components.
 ghost use Rattle.std.specs.Prelude.{◌≡◌, ◌+◌, ◌-◌, ◌*◌, ◌/◌, ◌≤◌, ◌++◌, List, length, IfOk, OnOk};
 ghost use Rattle.check_findings.specs.Image.RegionAreas.{region_area, region_areas, sum_sizes};
-ghost use Rattle.check_findings.specs.declared.map.finding.NumberedArea.{NumberedArea};
+ghost use Rattle.flash_map.specs.declared.areas.NumberedArea.{NumberedArea};
 ghost use Rattle.check_changes.specs.Images.{HasReadFor, OnBoth, lengths};
 ghost use Rattle.check_changes.specs.Regions.RegionChanges.{changes_in, region_changes};
 
@@ -11,8 +11,9 @@ use crate::fault::ChangeFault;
 use crate::images::{Images, taken};
 use crate::lists::push;
 use crate::regions::change::{ComponentChanges, RegionChange};
-use check_findings::{ImageFinding, NumberedArea};
+use check_findings::ImageFinding;
 use flash_device::Flash;
+use flash_map::NumberedArea;
 use std::alloc::Global;
 use std::hash::RandomState;
 

@@ -1,7 +1,7 @@
 -- Regions without bad findings.
-use Rattle.std.proofs.Common.{◌≡◌, ◌≢◌, ℕ, ◌+◌, Bool, true, false, cond, List, [], ◌∷◌, ◌++◌, Option, Some, None, Contains, All, length, refl, sym, ap, ◌∙◌}
+use Rattle.std.proofs.Common.{arith, ◌≡◌, ◌≢◌, ℕ, ◌+◌, Bool, true, false, cond, List, [], ◌∷◌, ◌++◌, Some, None, Contains, All, length, sym, ap, ◌∙◌}
 use Rattle.std.specs.List.{list_any}
-use Rattle.std.proofs.lemmas.Bool.{false≢true, or_parts}
+use Rattle.std.proofs.lemmas.Bool.{false≢true}
 use Rattle.std.proofs.lemmas.List.Elements.{All-nil, All-cons}
 use Rattle.std.proofs.lemmas.List.Folds.{list_any_at}
 use Rattle.flash_format.specs.declared.head.DamageKind.{DamageKind}
@@ -12,10 +12,10 @@ use Rattle.flash_format.specs.Components.{Component, component_at, components_fr
 use Rattle.cbfs_walk.specs.Shaped.{place_after}
 use Rattle.cbfs_walk.specs.Shapes.{has_bad_size, is_absent, refused_or}
 use Rattle.cbfs_walk.specs.declared.walk.WalkFault.TheVariants as faults
-use Rattle.std.specs.List.{position_from}
+use Rattle.std.proofs.lemmas.Grind.{common_steps}
 use Rattle.check_findings.specs.Region.Laws.{IsBlankTail}
 use Rattle.check_findings.specs.Region.Names.{is_among}
-use Rattle.check_findings.specs.Region.RegionFindings.{cell_findings, cells_findings, component_finding, counts_of, end_findings, filled_findings, free_findings, is_filled, names_after, region_findings, shape_findings, tail_bytes, tail_findings}
+use Rattle.check_findings.specs.Region.RegionFindings.{cell_findings, cells_findings, component_finding, counts_of, end_findings, free_findings, names_after, region_findings, shape_findings, tail_bytes, tail_findings}
 use Rattle.check_findings.specs.declared.region.finding.RegionFinding.{RegionFinding}
 use Rattle.check_findings.proofs.MapLemmas.Sound.{none_of}
 use Rattle.check_findings.proofs.RegionLemmas.Tails.{none_filled}
@@ -29,9 +29,7 @@ bad_among needs all finding has bad = list_any_at (is_bad_region needs) all has.
 good_shape : (needs : Bool) (size absent : Bool) (rest : List RegionFinding)
     → list_any (is_bad_region needs) (refused_or shape_findings (cond size (Some faults.RegionShape) (cond absent (Some faults.NotCbfs) None)) rest) ≡ false
     → (cond size (Some faults.RegionShape) (cond absent (Some faults.NotCbfs) None) ≡ None) × (list_any (is_bad_region needs) rest ≡ false)
-good_shape needs true absent rest fit = absurd (false≢true (sym fit))
-good_shape needs false true rest fit = absurd (false≢true (sym fit))
-good_shape needs false false rest fit = (refl, fit)
+good_shape needs size absent rest fit = grind (arith, common_steps, fit)
 
 undamaged : (needs : Bool) (bytes : List ℕ) (at : ℕ) (end : End) (rest : List RegionFinding) → list_any (is_bad_region needs) (end_findings bytes at end ++ rest) ≡ false → (kind : DamageKind) → end ≢ damage kind
 undamaged needs bytes at end rest fit kind is = false≢true (sym (rw is at fit))
@@ -40,9 +38,7 @@ intact_cell : (needs : Bool) (names : List (List ℕ)) (at : ℕ) (x : List ℕ)
     → list_any (is_bad_region needs) (cond free (free_findings at (head_of x)) (component_finding (is_among (cell_name x) names) (component_at at x) ∷ [])) ≡ false → All IsIntact others
     → All IsIntact (cond free others (component_at at x ∷ others))
 intact_cell needs names at x others true fit rest = rest
-intact_cell needs names at x others false fit rest =
-    let digest = (or_parts (is_among (cell_name x) names) _ (or_parts _ false fit).0).1 in
-    All-cons IsIntact (component_at at x) others (λ stored is. false≢true (sym (rw is at digest))) rest
+intact_cell needs names at x others false fit rest = All-cons IsIntact (component_at at x) others (λ stored is. grind (arith, common_steps, is, fit)) rest
 
 intact : (needs : Bool) (names : List (List ℕ)) (at : ℕ) (cells : List (List ℕ)) → list_any (is_bad_region needs) (cells_findings names at cells) ≡ false → All IsIntact (components_from at cells)
 unfolding cells_findings components_from
@@ -53,11 +49,7 @@ intact needs names at (x ∷ cells) fit =
 
 blank : (needs : Bool) (at : ℕ) (x : List ℕ) (rest : List RegionFinding) → list_any (is_bad_region needs) (tail_findings at x ++ rest) ≡ false → IsBlankTail at x
 unfolding tail_findings
-blank needs at x rest fit = none_filled at (tail_bytes at x) (go (position_from is_filled at (tail_bytes at x)) fit)
-  where
-    go : (o : Option ℕ) → list_any (is_bad_region needs) (filled_findings at x o ++ rest) ≡ false → o ≡ None
-    go None fit = refl
-    go (Some place) fit = absurd (false≢true (sym fit))
+blank needs at x rest fit = none_filled at (tail_bytes at x) (grind (arith, common_steps, fit))
 
 -- a region without bad findings is whole
 pub fit_region : (needs : Bool) (x : List ℕ) → list_any (is_bad_region needs) (region_findings x) ≡ false → IsWhole x

@@ -1,19 +1,21 @@
 -- Images without bad findings.
-use Rattle.std.proofs.Common.{◌≡◌, ◌∙◌, ℕ, ◌+◌, ◌≤◌, Bool, true, false, not, ◌||◌, cond, All, Contains, List, [], ◌∷◌, ◌++◌, ◌*◌, drop, length, nat_eq, nat_le, Option, Some, None, Ok, refl, sym, ap, subst}
+use Rattle.std.proofs.Common.{arith, ◌≡◌, ◌∙◌, ℕ, ◌+◌, ◌≤◌, Bool, true, false, not, ◌||◌, cond, All, Contains, List, [], ◌∷◌, ◌++◌, ◌*◌, drop, length, nat_eq, nat_le, Option, Some, None, Ok, refl, sym, ap, subst}
 use Rattle.std.specs.Prelude.{filter, map}
 use Rattle.std.specs.List.{find, flat_map, list_any}
 use Rattle.std.specs.Option.{option_map, option_map_or, option_to_list}
 use Rattle.std.proofs.lemmas.Bool.{and_parts, le-ltb, leb-true, or_parts}
 use Rattle.std.proofs.lemmas.List.Elements.{All-nil, All-cons, All-head, All-tail, All-filter, All-weaker, All-contains_itself, filter_passes}
+use Rattle.std.proofs.lemmas.Grind.{common_steps}
 use Rattle.flash_format.specs.declared.flashmap.Area.{Area}
 use Rattle.flash_format.specs.Flashmap.{areas_at, fmap_head_of, is_area, map_of, text_of}
-use Rattle.flash_device.specs.declared.fmap.FoundMap.{FoundMap}
-use Rattle.flash_device.specs.Fmap.{found_from, found_in}
-use Rattle.flash_device.specs.Regions.{region_of, region_under}
+use Rattle.flash_map.specs.declared.search.FoundMap.{FoundMap}
+use Rattle.flash_map.specs.Fmap.{found_from, found_in}
+use Rattle.flash_map.specs.Regions.{region_of, region_under}
 use Rattle.check_findings.specs.declared.map.finding.MapFinding.{MapFinding}
 use Rattle.check_findings.specs.declared.map.finding.MapFinding.TheVariants.{NoMap, OtherMap, OtherSize}
-use Rattle.check_findings.specs.declared.map.finding.NumberedArea.{NumberedArea}
-use Rattle.check_findings.specs.Map.MapFindings.{area_end, area_findings, finding_if, findings_of, has_name, image_areas, map_areas, map_findings, name_findings, numbered_from}
+use Rattle.flash_map.specs.declared.areas.NumberedArea.{NumberedArea}
+use Rattle.check_findings.specs.Map.MapFindings.{area_findings, finding_if, findings_of, map_findings, name_findings}
+use Rattle.flash_map.specs.Areas.{area_end, has_name, image_areas, map_areas, numbered_from}
 use Rattle.check_findings.proofs.MapLemmas.Sound.{named, none_of}
 use Rattle.check_findings.specs.declared.image.finding.ImageFinding.{ImageFinding}
 use Rattle.check_findings.specs.declared.image.finding.ImageFinding.TheVariants.{Map, NotChecked}
@@ -38,11 +40,7 @@ fit_names n map next areas fit =
 
 find_area : (name : List ℕ) (k : ℕ) (areas : List Area) → option_map (λ (a : NumberedArea). a.area) (find (has_name name) (numbered_from k areas)) ≡ find (is_area name) areas
 find_area name k [] = refl
-find_area name k (area ∷ areas) = go (is_area name area) (find (has_name name) (numbered_from (k + 1) areas)) ∙ ap (λ (o : Option Area). cond (is_area name area) (Some area) o) (find_area name (k + 1) areas)
-  where
-    go : (b : Bool) (o : Option NumberedArea) → option_map (λ (a : NumberedArea). a.area) (cond b (Some (record { number = k; area = area })) o) ≡ cond b (Some area) (option_map (λ (a : NumberedArea). a.area) o)
-    go true o = refl
-    go false o = refl
+find_area name k (area ∷ areas) = grind (arith, common_steps, find_area name (k + 1) areas)
 
 reached : (image name : List ℕ) (map : FoundMap) (a : NumberedArea) → found_in image ≡ Some map → find (has_name name) (map_areas image map) ≡ Some a → area_end a.area ≤ length image → region_of image name ≡ Ok (range_of a)
 unfolding region_of

@@ -1,7 +1,7 @@
 -- Names, in order.
-use Rattle.std.proofs.Common.{◌≡◌, ◌∙◌, refl, cond, Option, Some, ℕ, ◌+◌, ◌<◌, Bool, true, false, not, List, [], ◌∷◌, ◌++◌, length, map, get_or, drop, sym, ap, append_assoc}
+use Rattle.std.proofs.Common.{arith, ◌≡◌, cond, Some, ℕ, ◌+◌, ◌<◌, Bool, not, List, [], ◌∷◌, ◌++◌, length, map, get_or, drop, sym, append_assoc}
 use Rattle.std.proofs.lemmas.List.{drop_more, map-append}
-use Rattle.std.specs.Prelude.{◌||◌, is_some}
+use Rattle.std.specs.Prelude.{is_some}
 use Rattle.std.specs.Ordering.{nat_cmp}
 use Rattle.std.specs.Str.{bytes_eq}
 use Rattle.std.specs.Cmp.Lexicographic.{slice_cmp}
@@ -10,10 +10,11 @@ use Rattle.std.proofs.lemmas.List.Folds.{list_any-append}
 use Rattle.std.proofs.lemmas.Map.Text.{btree_map_updates_str}
 use Rattle.check_findings.specs.declared.image.names.NameSet.{NameSet}
 use Rattle.check_findings.specs.Image.Lookups.{HasNames, has_name as has_key}
-use Rattle.check_findings.specs.Map.MapFindings.{has_name}
+use Rattle.flash_map.specs.Areas.{has_name}
 use Rattle.std.specs.Borrow.{Bor}
 use Rattle.std.specs.List.{find, list_any}
-use Rattle.check_findings.specs.declared.map.finding.NumberedArea.{NumberedArea}
+use Rattle.std.proofs.lemmas.Grind.{common_steps}
+use Rattle.flash_map.specs.declared.areas.NumberedArea.{NumberedArea}
 use Rattle.check_findings.specs.declared.image.finding.ImageFinding.{ImageFinding}
 use Rattle.check_findings.specs.declared.image.finding.ImageFinding.TheVariants.{NoArea}
 use Rattle.check_findings.specs.Image.ImageFindings.{names_findings}
@@ -25,28 +26,10 @@ pub has_more : (set : NameSet) (before : List (List ℕ)) (names : List (Bor (Li
 has_more set before names name has = rw (map-append (λ (n : Bor (List ℕ)). n.now) names (name ∷ []), sym (append_assoc before (texts names) (name.now ∷ []))) has
 
 -- another name
-either : {X : Type 0} (b any : Bool) (x : X) (o : Option X) → is_some o ≡ any → is_some (cond b (Some x) o) ≡ (any || (b || false))
-either true true x o is = refl
-either true false x o is = refl
-either false true x o is = is
-either false false x o is = is
-
 pub one_more : (old new : NameSet) (before : List (List ℕ)) (bs name : List ℕ) (x : Unit {0}) → UpdatesBy (λ x y. slice_cmp nat_cmp x.now y.now) (λ k. slice_cmp nat_cmp bs k.now) old.names new.names (Some x) → has_key old name ≡ list_any (λ n. bytes_eq n name) before → has_key new name ≡ list_any (λ n. bytes_eq n name) (before ++ bs ∷ [])
-one_more old new before bs name x puts has =
-    ap is_some (btree_map_updates_str bs old.names new.names (Some x) puts name)
-    ∙ either (bytes_eq bs name) _ x _ has
-    ∙ sym (list_any-append (λ n. bytes_eq n name) before (bs ∷ []))
+one_more old new before bs name x puts has = grind (arith, common_steps, list_any-append (λ n. bytes_eq n name) before (bs ∷ []), btree_map_updates_str bs old.names new.names (Some x) puts name, has)
 
 -- a finding for another name
 pub missing_more : (areas : List NumberedArea) (names : List (Bor (List ℕ))) (i : ℕ) (d : Bor (List ℕ)) (missing : Bool) (before after all : List ImageFinding) → i < length names → is_some (find (has_name (get_or names i d).now) areas) ≡ not missing
     → after ≡ before ++ cond missing (NoArea i ∷ []) [] → before ++ names_findings areas i (texts (drop i names)) ≡ all → after ++ names_findings areas (i + 1) (texts (drop (i + 1) names)) ≡ all
-missing_more areas names i d missing before after all lt is pushed so_far =
-    let later = names_findings areas (i + 1) (texts (drop (i + 1) names)) in
-    ap (λ (l : List ImageFinding). l ++ later) pushed
-    ∙ append_assoc before (cond missing (NoArea i ∷ []) []) later
-    ∙ ap (λ (l : List ImageFinding). before ++ l) (sym (rw (drop_more names i d lt, is) (ap (λ (l : List ImageFinding). l ++ later) (either_way missing))))
-    ∙ so_far
-  where
-    either_way : (b : Bool) → cond (not b) [] (NoArea i ∷ []) ≡ cond b (NoArea i ∷ []) []
-    either_way true = refl
-    either_way false = refl
+missing_more areas names i d missing before after all lt is pushed so_far = grind (arith, common_steps, append_assoc, drop_more names i d lt, is, pushed, so_far)

@@ -1,33 +1,31 @@
 -- The first content of a name in the findings belongs to the component that a search finds.
-use Rattle.std.proofs.Common.{◌≡◌, ℕ, ◌+◌, Bool, true, false, cond, List, [], ◌∷◌, ◌++◌, length, Option, Some, None, Ok, ◌==◌, refl, sym, ap, subst, ◌∙◌, append_assoc, append-nil, Contains, arith}
+use Rattle.std.proofs.Common.{◌≡◌, ℕ, ◌+◌, Bool, true, false, cond, List, [], ◌∷◌, ◌++◌, length, Option, Some, None, Ok, refl, sym, ap, subst, ◌∙◌, append_assoc, append-nil, Contains, arith}
 use Rattle.std.specs.Prelude.{map, ◌*◌, nat_le, All}
 use Rattle.std.proofs.lemmas.List.Elements.{All-append, All-head, All-tail, All-weaker, Contains-append_right}
-use Rattle.std.specs.Option.{option_map, option_or}
-use Rattle.std.specs.Str.{bytes_eq}
-use Rattle.flash_format.specs.Head.{head_of, is_free}
+use Rattle.std.specs.Option.{option_map}
+use Rattle.std.proofs.lemmas.Grind.{common_steps}
 use Rattle.flash_format.specs.Cut.{cut}
-use Rattle.flash_format.specs.Components.{Component, component_at, components_from, components, cell_name}
+use Rattle.flash_format.specs.Components.{Component, components_from, components, cell_name}
 use Rattle.cbfs_walk.specs.Finding.{component_in, first_named}
 use Rattle.cbfs_walk.specs.Shapes.{shape_fault, refused_or}
 use Rattle.cbfs_walk.specs.Shaped.{place_after}
 use Rattle.cbfs_walk.specs.declared.walk.WalkFault.{WalkFault}
 use Rattle.cbfs_walk.specs.declared.walk.WalkFault.TheVariants as walk
 use Rattle.check_findings.specs.Region.Counts.{free_bytes, largest_room}
-use Rattle.check_findings.specs.Region.Names.{is_among}
-use Rattle.check_findings.specs.Region.RegionFindings.{cells_findings, component_content, component_finding, counts_of, end_findings, region_findings, shape_findings}
+use Rattle.check_findings.specs.Region.RegionFindings.{cells_findings, component_content, counts_of, end_findings, region_findings, shape_findings}
 use Rattle.flash_format.specs.Flashmap.{is_area}
-use Rattle.check_findings.specs.Image.Needs.{Wish, content_named, first_content, is_met, unmet, unmet_by}
+use Rattle.check_findings.specs.Image.Needs.{Wish, content_named, first_content, unmet, unmet_by}
 use Rattle.check_findings.specs.Image.Laws.{IsMet, NeedsAreThere}
 use Rattle.check_findings.specs.Image.ImageFindings.{areas_findings, bytes_of, expected_names, has_one_of, image_findings, left_after, names_findings, region_finding, regions_findings, wanted_areas}
 use Rattle.check_findings.specs.Image.RegionAreas.{region_areas}
-use Rattle.check_findings.specs.Map.MapFindings.{image_areas, map_findings}
-use Rattle.check_findings.specs.declared.map.finding.NumberedArea.{NumberedArea}
+use Rattle.check_findings.specs.Map.MapFindings.{map_findings}
+use Rattle.flash_map.specs.Areas.{image_areas}
+use Rattle.flash_map.specs.declared.areas.NumberedArea.{NumberedArea}
 use Rattle.check_findings.specs.declared.image.finding.ImageFinding.{ImageFinding}
 use Rattle.check_findings.specs.declared.image.finding.ImageFinding.TheVariants.{Map, NotChecked, Region}
-use Rattle.check_findings.specs.declared.image.needs.NeedFinding.TheVariants.{Elsewhere, Missing}
+use Rattle.check_findings.specs.declared.image.needs.NeedFinding.TheVariants.{Missing}
 use Rattle.check_findings.specs.declared.region.finding.Content.{Content}
 use Rattle.check_findings.specs.declared.region.finding.RegionFinding.{RegionFinding}
-use Rattle.check_findings.specs.declared.region.finding.RegionFinding.TheVariants.{Deleted}
 use Rattle.check_findings.specs.declared.region.finding.RegionFinding.TheVariants.{Component as OfComponent}
 use Rattle.check_findings.proofs.RegionLemmas.Parts.{Part, IsIn, cell_part, end_part, count_part, of_end, of_counts}
 use Rattle.check_findings.proofs.ImageLemmas.Regions.{no_map_areas, no_name_areas, regions_of}
@@ -48,24 +46,9 @@ of_cells : (name : List ℕ) (names : List (List ℕ)) (at : ℕ) (cells : List 
     → first_content name (cells_findings names at cells ++ last) ≡ option_map component_content (first_named name (components_from at cells))
 unfolding cells_findings components_from
 of_cells name names at [] last none = none
-of_cells name names at (x ∷ cells) last none = go (is_free (head_of x)) ((head_of x).kind == 0) (λ ns. of_cells name ns (at + length x) cells last none)
-  where
-    c : Component
-    c = component_at at x
-
-    others : List Component
-    others = components_from (at + length x) cells
-
-    own : (b : Bool) → option_or (cond b (Some (component_content c)) None) (option_map component_content (first_named name others)) ≡ option_map component_content (cond b (Some c) (first_named name others))
-    own true = refl
-    own false = refl
-
-    go : (free deleted : Bool) → ((ns : List (List ℕ)) → first_content name (cells_findings ns (at + length x) cells ++ last) ≡ option_map component_content (first_named name others))
-        → first_content name ((cond free (cond deleted (Deleted at ∷ []) []) (component_finding (is_among (cell_name x) names) c ∷ [])
-        ++ cells_findings (cond free names (cell_name x ∷ names)) (at + length x) cells) ++ last) ≡ option_map component_content (first_named name (cond free others (c ∷ others)))
-    go true true later = later names
-    go true false later = later names
-    go false deleted later = ap (option_or (cond (bytes_eq (cell_name x) name) (Some (component_content c)) None)) (later (cell_name x ∷ names)) ∙ own (bytes_eq (cell_name x) name)
+of_cells name names at (x ∷ cells) last none =
+    let later : (ns : List (List ℕ)) → first_content name (cells_findings ns (at + length x) cells ++ last) ≡ option_map component_content (first_named name (components_from (at + length x) cells)) = λ ns. of_cells name ns (at + length x) cells last none in
+    grind (arith, common_steps, later names, later (cell_name x ∷ names))
 
 of_shape : (name : List ℕ) (fault : WalkFault) → first_content name (shape_findings fault) ≡ None
 of_shape name walk.RegionShape = refl
@@ -109,13 +92,9 @@ module _ (image : List ℕ) (wish : Wish) where
   met_here : (all : List NumberedArea) (a : NumberedArea) (o : Option Content) → Contains all a → is_area wish.area a.area ≡ true
       → first_content wish.name (region_findings (bytes_of image a)) ≡ o → unmet_by a wish o ≡ None → IsMet image all wish
   met_here all a None checked named first none = absurd cc
-  met_here all a (Some content) checked named first none = go (is_met wish.place content a.area.size) refl none
-    where
-      go : (b : Bool) → is_met wish.place content a.area.size ≡ b → cond b None (Some (Elsewhere content.start)) ≡ None → IsMet image all wish
-      go false placed e = absurd cc
-      go true placed e =
-          let has = has_content (bytes_of image a) wish.name content first in
-          record { area = a; checked = checked; named = named; component = has.0; found = has.1; placed = rw has.2 placed }
+  met_here all a (Some content) checked named first none =
+      let has = has_content (bytes_of image a) wish.name content first in
+      record { area = a; checked = checked; named = named; component = has.0; found = has.1; placed = rw has.2 (grind (arith, common_steps, none)) }
 
   -- the first area with the name meets the need
   met_in : (all : List NumberedArea) (names : List (List ℕ)) (last : List ImageFinding) → unmet last wish ≡ Some Missing → (left : ℕ) (areas : List NumberedArea)

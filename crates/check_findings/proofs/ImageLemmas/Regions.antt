@@ -1,17 +1,18 @@
 -- The checked areas in order, and all findings.
 use Rattle.std.proofs.Common.{◌≡◌, ◌∙◌, ℕ, ◌+◌, ◌-◌, ◌*◌, ◌<◌, ◌≤◌, Bool, true, false, cond, All, IsTrue, List, [], ◌∷◌, ◌++◌, length, get_or, drop, take, nat_le, refl, sym, ap, arith, add-one, append_assoc, append-nil, drop-cons, length-append}
-use Rattle.std.specs.Prelude.{filter, map, is_some}
-use Rattle.std.specs.List.{find}
+use Rattle.std.specs.Prelude.{filter, map}
 use Rattle.std.proofs.Math.Seq.{drop-length}
 use Rattle.std.proofs.lemmas.Bool.{leb-true}
 use Rattle.std.proofs.lemmas.Grind.{flat_map-append}
 use Rattle.std.proofs.lemmas.List.Elements.{All-append, All-cons, All-nil, All-push, filter_more}
 use Rattle.std.proofs.lemmas.List.Sums.{sum_by_push}
+use Rattle.std.proofs.lemmas.Grind.{common_steps}
 use Rattle.check_findings.specs.declared.map.finding.MapFinding.{MapFinding}
-use Rattle.check_findings.specs.declared.map.finding.NumberedArea.{NumberedArea}
-use Rattle.check_findings.specs.Map.MapFindings.{area_end, has_name, image_areas, map_findings}
+use Rattle.flash_map.specs.declared.areas.NumberedArea.{NumberedArea}
+use Rattle.check_findings.specs.Map.MapFindings.{map_findings}
+use Rattle.flash_map.specs.Areas.{area_end, image_areas}
 use Rattle.check_findings.specs.declared.image.finding.ImageFinding.{ImageFinding}
-use Rattle.check_findings.specs.declared.image.finding.ImageFinding.TheVariants.{Map, NoArea}
+use Rattle.check_findings.specs.declared.image.finding.ImageFinding.TheVariants.{Map}
 use Rattle.check_findings.specs.Image.ImageFindings.{area_finding, areas_findings, expected_names, image_findings, left_after, names_findings, wanted_areas}
 use Rattle.check_findings.specs.Image.RegionAreas.{AreChecked, region_area, region_areas}
 
@@ -42,14 +43,7 @@ checked_more n i left a f findings fits is had = rw (flat_map-append region_area
 pub found_more : (image : List ℕ) (names : List (List ℕ)) (left i : ℕ) (areas : List NumberedArea) (d : NumberedArea) (f : ImageFinding) (before after all : List ImageFinding) → i < length areas → after ≡ before ++ f ∷ [] → f ≡ area_finding image names left (get_or areas i d)
     → before ++ areas_findings image names left (drop i areas) ≡ all → after ++ areas_findings image names (left_after left (get_or areas i d)) (drop (i + 1) areas) ≡ all
 unfolding areas_findings
-found_more image names left i areas d f before after all lt pushed is so_far =
-    let a = get_or areas i d in
-    let rest = areas_findings image names (left_after left a) (drop (i + 1) areas) in
-    ap (λ (l : List ImageFinding). l ++ rest) pushed
-    ∙ append_assoc before (f ∷ []) rest
-    ∙ ap (λ (g : ImageFinding). before ++ g ∷ rest) is
-    ∙ ap (λ (l : List ImageFinding). before ++ l) (sym (rw (drop-cons areas i d lt, add-one i) refl))
-    ∙ so_far
+found_more image names left i areas d f before after all lt pushed is so_far = grind (arith, common_steps, append_assoc, drop-cons areas i d lt, add-one i, pushed, is, so_far)
 
 pub found_all : (image : List ℕ) (names : List (List ℕ)) (left i : ℕ) (areas : List NumberedArea) (before all : List ImageFinding) → i ≡ length areas → before ++ areas_findings image names left (drop i areas) ≡ all → before ≡ all
 unfolding areas_findings
@@ -62,16 +56,9 @@ pub no_map_areas : (found : List MapFinding) → region_areas (map Map found) �
 no_map_areas [] = refl
 no_map_areas (finding ∷ found) = no_map_areas found
 
-no_name_area : (number : ℕ) (b : Bool) → region_areas (cond b [] (NoArea number ∷ [])) ≡ []
-no_name_area number true = refl
-no_name_area number false = refl
-
 pub no_name_areas : (areas : List NumberedArea) (number : ℕ) (names : List (List ℕ)) → region_areas (names_findings areas number names) ≡ []
 no_name_areas areas number [] = refl
-no_name_areas areas number (name ∷ names) =
-    flat_map-append region_area (cond (is_some (find (has_name name) areas)) [] (NoArea number ∷ [])) (names_findings areas (number + 1) names)
-    ∙ ap (λ (l : List NumberedArea). l ++ region_areas (names_findings areas (number + 1) names)) (no_name_area number (is_some (find (has_name name) areas)))
-    ∙ no_name_areas areas (number + 1) names
+no_name_areas areas number (name ∷ names) = grind (arith, common_steps, flat_map-append, no_name_areas areas (number + 1) names)
 
 -- the areas of all findings are the areas of the regions
 pub regions_of : (found : List MapFinding) (areas : List NumberedArea) (names : List (List ℕ)) (first regions second all : List ImageFinding) → first ≡ map Map found → second ≡ first ++ regions → all ≡ second ++ names_findings areas 0 names → region_areas all ≡ region_areas regions

@@ -1,22 +1,24 @@
 -- A map without other findings is sound.
-use Rattle.std.proofs.Common.{◌≡◌, ◌⊎◌, inl, inr, ⊎_elim, ℕ, zero, suc, ◌+◌, ◌<◌, ◌≤◌, Bool, true, false, not, cond, nat_lt, nat_eq, All, List, [], ◌∷◌, ◌++◌, length, Option, Some, None, refl, sym, ap, subst, ◌∙◌, arith}
+use Rattle.std.proofs.Common.{◌≡◌, ℕ, zero, suc, ◌+◌, ◌≤◌, Bool, true, false, not, cond, nat_lt, nat_eq, All, List, [], ◌∷◌, ◌++◌, length, Option, Some, None, refl, sym, ap, subst, ◌∙◌, arith}
 use Rattle.std.specs.Prelude.{Contains, IsSomeAnd}
 use Rattle.std.specs.List.{find, flat_map, list_any}
 use Rattle.std.specs.Option.{option_map, option_map_or, option_to_list}
 use Rattle.std.specs.Str.{is_utf8}
-use Rattle.std.proofs.lemmas.Bool.{and_cases, and_parts, not-false, or_parts, cases_lt, ltb-false, leb-true, eqb-true, false≢true}
+use Rattle.std.proofs.lemmas.Bool.{not-false, or_parts, eqb-true}
 use Rattle.std.proofs.lemmas.List.Elements.{All-nil, All-cons, All-contains}
+use Rattle.std.proofs.lemmas.Grind.{common_steps}
 use Rattle.std.proofs.lemmas.List.Folds.{list_any-append}
 use Rattle.std.proofs.lemmas.Slice.Eq.{bytes_eq-Decides}
 use lib.Chars.{codes}
 use Rattle.flash_format.specs.declared.flashmap.Area.{Area}
 use Rattle.flash_format.specs.Flashmap.{text_of}
-use Rattle.flash_device.specs.declared.fmap.FoundMap.{FoundMap}
-use Rattle.flash_device.specs.Fmap.{found_from, found_in}
-use Rattle.check_findings.specs.declared.map.finding.NumberedArea.{NumberedArea}
+use Rattle.flash_map.specs.declared.search.FoundMap.{FoundMap}
+use Rattle.flash_map.specs.Fmap.{found_from, found_in}
+use Rattle.flash_map.specs.declared.areas.NumberedArea.{NumberedArea}
 use Rattle.check_findings.specs.declared.map.finding.MapFinding.{MapFinding}
 use Rattle.check_findings.specs.declared.map.finding.MapFinding.TheVariants as findings
-use Rattle.check_findings.specs.Map.MapFindings.{area_end, area_findings, ends_inside, finding_if, findings_of, has_name, holds_map, map_area_findings, map_areas, map_findings, name_findings, numbered_from, overlap, overlap_findings, overlap_with}
+use Rattle.check_findings.specs.Map.MapFindings.{area_findings, ends_inside, finding_if, findings_of, map_area_findings, map_findings, name_findings, overlap, overlap_findings, overlap_with}
+use Rattle.flash_map.specs.Areas.{has_name, map_areas, numbered_from}
 use Rattle.check_findings.specs.Map.Laws.{HoldsMap, IsInside, IsSound, Nest, CleanMapsAreSound}
 
 -- ---- no findings
@@ -36,41 +38,21 @@ module _ (test : MapFinding → Bool) where
       let parts = none_of test (f a) (flat_map f areas) none in All-cons (λ (b : NumberedArea). list_any test (f b) ≡ false) a areas parts.0 (none_each f areas parts.1)
 
   untold : (b : Bool) (finding : MapFinding) → test finding ≡ true → list_any test (finding_if b finding) ≡ false → b ≡ false
-  untold false finding passes none = refl
-  untold true finding passes none = absurd (false≢true (sym (rw passes at none)))
+  untold b finding passes none = grind (arith, common_steps, passes, none)
 
 uncaused : {X : Type 0} (f : X → MapFinding) (cause : Option X) → list_any every (option_to_list (option_map f cause)) ≡ false → cause ≡ None
 unfolding every
-uncaused f None none = refl
-uncaused f (Some x) none = absurd cc
+uncaused f cause none = grind (arith, common_steps, none)
 
 find-none : (test : NumberedArea → Bool) (areas : List NumberedArea) → find test areas ≡ None → All (λ (a : NumberedArea). test a ≡ false) areas
 find-none test [] e = All-nil (λ (a : NumberedArea). test a ≡ false)
-find-none test (a ∷ areas) e =
-    let parts = here (test a) (find test areas) e in All-cons (λ (b : NumberedArea). test b ≡ false) a areas parts.0 (find-none test areas parts.1)
-  where
-    here : (b : Bool) (o : Option NumberedArea) → cond b (Some a) o ≡ None → (b ≡ false) × (o ≡ None)
-    here false o e = (refl, e)
-    here true o e = absurd cc
+find-none test (a ∷ areas) e = All-cons (λ (b : NumberedArea). test b ≡ false) a areas (grind (arith, common_steps, e)) (find-none test areas (grind (arith, common_steps, e)))
 
 -- ---- of an area
 
-positive : (n : ℕ) → nat_eq n 0 ≡ false → 0 < n
-positive zero e = absurd cc
-positive (suc n) e = omega arith
-
-inside : (n : ℕ) (a : NumberedArea) → list_any every (area_findings n a) ≡ false → IsInside n a.area
+sound_area : (n : ℕ) (a : NumberedArea) → list_any every (area_findings n a) ≡ false → IsInside n a.area × (is_utf8 (text_of a.area.name) ≡ true)
 unfolding every
-inside n a none =
-    let parts = none_of every (finding_if (nat_lt n (area_end a.area)) (findings.AreaOutside a)) _ none in
-    let more = none_of every (finding_if (nat_eq a.area.size 0) (findings.AreaEmpty a)) _ parts.1 in
-    (positive a.area.size (untold every _ (findings.AreaEmpty a) refl more.0), ltb-false n (area_end a.area) (untold every _ (findings.AreaOutside a) refl parts.0))
-
-text : (n : ℕ) (a : NumberedArea) → list_any every (area_findings n a) ≡ false → is_utf8 (text_of a.area.name) ≡ true
-unfolding every
-text n a none =
-    let more = none_of every (finding_if (nat_lt n (area_end a.area)) (findings.AreaOutside a)) _ none in
-    not-false _ (untold every _ (findings.AreaNameNotText a) refl (none_of every (finding_if (nat_eq a.area.size 0) (findings.AreaEmpty a)) _ more.1).1)
+sound_area n a none = grind (arith, common_steps, none)
 
 -- ---- names
 
@@ -84,57 +66,25 @@ first_named : (k : ℕ) (areas : List Area) (a : NumberedArea) → Contains (num
     → option_map_or (λ (first : NumberedArea). nat_lt first.number a.number) (find (has_name (text_of a.area.name)) (numbered_from k areas)) false ≡ false → find (has_name (text_of a.area.name)) (numbered_from k areas) ≡ Some a
 first_named k [] a (i, lt, is) none = absurd (omega (arith, lt))
 first_named k (x ∷ areas) a (zero, lt, is) none = rw ((bytes_eq-Decides (text_of a.area.name) (text_of x.name)).1 (ap (λ (b : NumberedArea). text_of b.area.name) (sym is))) (ap Some is)
-first_named k (x ∷ areas) a (suc i, lt, is) none = go (has_name (text_of a.area.name) here) none (first_named (k + 1) areas a there)
-  where
-    here : NumberedArea
-    here = record { number = k; area = x }
-
-    there : Contains (numbered_from (k + 1) areas) a
-    there = (i, omega (arith, lt), is)
-
-    later : Option NumberedArea
-    later = find (has_name (text_of a.area.name)) (numbered_from (k + 1) areas)
-
-    go : (b : Bool) → option_map_or (λ (first : NumberedArea). nat_lt first.number a.number) (cond b (Some here) later) false ≡ false → (option_map_or (λ (first : NumberedArea). nat_lt first.number a.number) later false ≡ false → later ≡ Some a) → cond b (Some here) later ≡ Some a
-    go true e rest = absurd (omega (arith, ltb-false k a.number e, index-from (k + 1) areas a there))
-    go false e rest = rest e
+first_named k (x ∷ areas) a (suc i, lt, is) none =
+    let there : Contains (numbered_from (k + 1) areas) a = (i, omega (arith, lt), is) in
+    grind (arith, common_steps, none, index-from (k + 1) areas a there, first_named (k + 1) areas a there)
 
 pub named : (test : MapFinding → Bool) (areas : List Area) (a : NumberedArea) → ((first : NumberedArea) → test (findings.SameName a first) ≡ true)
     → list_any test (flat_map (name_findings (numbered_from 0 areas)) (numbered_from 0 areas)) ≡ false → Contains (numbered_from 0 areas) a → find (has_name (text_of a.area.name)) (numbered_from 0 areas) ≡ Some a
 named test areas a passes none there =
-    first_named 0 areas a there (go (find (has_name (text_of a.area.name)) all) (All-contains (λ (b : NumberedArea). list_any test (name_findings all b) ≡ false) all a (none_each test (name_findings all) all none) there))
-  where
-    all : List NumberedArea
-    all = numbered_from 0 areas
-
-    go : (o : Option NumberedArea) → list_any test (option_map_or (λ (first : NumberedArea). finding_if (nat_lt first.number a.number) (findings.SameName a first)) o []) ≡ false
-        → option_map_or (λ (first : NumberedArea). nat_lt first.number a.number) o false ≡ false
-    go None e = refl
-    go (Some first) e = untold test _ _ (passes first) e
+    let all = numbered_from 0 areas in
+    let none_here = All-contains (λ (b : NumberedArea). list_any test (name_findings all b) ≡ false) all a (none_each test (name_findings all) all none) there in
+    first_named 0 areas a there (grind (arith, common_steps, none_here, passes))
 
 -- ---- overlaps
 
-not_inside : (a b : Area) → ends_inside a b ≡ false → (b.offset ≤ a.offset) ⊎ ((area_end a ≤ b.offset) ⊎ (area_end b ≤ area_end a))
-not_inside a b e = ⊎_elim (λ p. inl (ltb-false a.offset b.offset p)) (λ later. inr (⊎_elim (λ p. inl (ltb-false b.offset (area_end a) p)) (λ p. inr (ltb-false (area_end a) (area_end b) p)) (and_cases _ _ later))) (and_cases _ _ e)
-
 nest : (a b : Area) → ends_inside a b ≡ false → ends_inside b a ≡ false → Nest a b
-nest a b one other = ⊎_elim
-    (λ before. elim (not_inside a b one) [
-      | inl not_before ↦ absurd (omega (arith, before, not_before))
-      | inr (inl apart) ↦ inl (inl apart)
-      | inr (inr holds) ↦ inr (inl ((omega (arith, before), holds)))
-    ])
-    (λ behind. elim (not_inside b a other) [
-      | inl same ↦ ⊎_elim (λ longer. inr (inr ((behind, omega (arith, longer))))) (λ shorter. inr (inl ((same, shorter)))) (cases_lt (area_end a) (area_end b))
-      | inr (inl apart) ↦ inl (inr apart)
-      | inr (inr holds) ↦ inr (inr ((behind, holds)))
-    ])
-    (cases_lt a.offset b.offset)
+nest a b one other = grind (arith, common_steps, one, other)
 
 compared : (areas : List NumberedArea) (many : Bool) → list_any every (cond many (findings.TooManyAreas ∷ []) (flat_map (overlap_with areas) areas)) ≡ false → list_any every (flat_map (overlap_with areas) areas) ≡ false
 unfolding every
-compared areas false e = e
-compared areas true e = absurd cc
+compared areas many e = grind (arith, common_steps, e)
 
 nested : (areas : List NumberedArea) → list_any every (overlap_findings areas) ≡ false → (a b : NumberedArea) → Contains areas a → Contains areas b → Nest a.area b.area
 nested areas none a b there here =
@@ -148,9 +98,7 @@ nested areas none a b there here =
 held : (map : FoundMap) (o : Option NumberedArea) → list_any every (map_area_findings map o) ≡ false → IsSomeAnd o (λ a. HoldsMap map a.area)
 unfolding every
 held map None e = absurd cc
-held map (Some a) e =
-    let parts = and_parts _ _ (not-false (holds_map map a.area) (untold every _ (findings.MapAreaMisses a) refl e)) in
-    (leb-true _ _ parts.0, leb-true _ _ parts.1)
+held map (Some a) e = grind (arith, common_steps, e)
 
 sound_of : (image : List ℕ) (map : FoundMap) → found_in image ≡ Some map → findings_of (length image) map (found_from (map.at + 1) image) (map_areas image map) ≡ findings.Map map ∷ [] → IsSound image map
 unfolding every
@@ -172,8 +120,8 @@ sound_of image map found e =
       found = found;
       size = eqb-true map.head.size n (not-false (nat_eq map.head.size n) (untold every _ findings.OtherSize refl b.0));
       only = uncaused findings.OtherMap next a.0;
-      inside = λ x there. inside n x (All-contains Is areas x each there);
-      text = λ x there. text n x (All-contains Is areas x each there);
+      inside = λ x there. (sound_area n x (All-contains Is areas x each there)).0;
+      text = λ x there. (sound_area n x (All-contains Is areas x each there)).1;
       named = λ x. named every _ x (λ first. refl) d.0;
       nested = nested areas f.0;
       held = held map (find (has_name (codes "FMAP")) areas) f.1;

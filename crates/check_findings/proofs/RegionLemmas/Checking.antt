@@ -1,30 +1,29 @@
 -- The findings so far, and of the rest of a region.
-use Rattle.std.proofs.Common.{◌≡◌, ℕ, ◌+◌, ◌*◌, ◌/◌, ◌%◌, ◌≤◌, ◌⊎◌, inl, inr, Bool, true, false, cond, IsTrue, drop, List, [], ◌∷◌, ◌++◌, length, Option, Some, None, Result, Ok, Err, Vec, Global, refl, sym, ap, subst, ◌∙◌, arith, append_assoc}
-use Rattle.std.specs.Prelude.{◌==◌, IsErrOf, IfOk}
+use Rattle.std.proofs.Common.{◌≡◌, ℕ, ◌+◌, ◌*◌, ◌/◌, ◌%◌, ◌≤◌, ◌⊎◌, inl, inr, IsTrue, List, [], ◌∷◌, ◌++◌, length, Option, Some, None, Ok, Err, refl, sym, ap, subst, ◌∙◌, arith, append_assoc}
+use Rattle.std.specs.Prelude.{IsErrOf}
+use Rattle.std.proofs.lemmas.Grind.{common_steps}
 use mathlib.Core.Path.{fun_ext}
 use Rattle.flash_format.specs.Cut.{Cut, End, after, cut}
-use Rattle.flash_format.specs.Entry.{Entry, absent, cell, damaged, entry}
 use Rattle.flash_device.specs.Device.{Device}
-use Rattle.flash_device.specs.Pages.{Pages, HasRead}
+use Rattle.flash_device.specs.Pages.{Pages, HasRead, OnHonestIn}
 use Rattle.flash_device.proofs.WindowLemmas.{HasRead-none, HasRead-then, HasRead-within}
 use Rattle.flash_device.specs.Regions.{Range, LiesOn, bytes_in}
 use Rattle.flash_device.proofs.DeviceLemmas.{honest_still, length-bytes_in}
 use Rattle.cbfs_walk.specs.Cells.{IsCellIn, cell_in}
-use Rattle.cbfs_walk.specs.Walks.{reads_over, Answer, Walking, walk_of, answer_at, answer_by, StandsIn}
-use Rattle.cbfs_walk.specs.Shapes.{shape_fault, shape_fault_at, refused_or}
+use Rattle.cbfs_walk.specs.Walks.{reads_over, Answer, Walking, walk_of, answer_at, StandsIn}
+use Rattle.cbfs_walk.specs.Shapes.{shape_fault, refused_or}
 use Rattle.cbfs_walk.specs.Shaped.{reading_of, ReadsCells, by_answer, place_after}
 use Rattle.cbfs_walk.specs.declared.cell.Cell.{Cell}
-use Rattle.cbfs_walk.specs.declared.walk.Step.{Step}
 use Rattle.cbfs_walk.specs.declared.walk.Step.TheVariants as steps
 use Rattle.cbfs_walk.specs.declared.walk.WalkFault.{WalkFault}
 use Rattle.cbfs_walk.specs.declared.walk.WalkFault.TheVariants as walk
 use Rattle.cbfs_walk.proofs.Shapes.{shaped_step}
 use Rattle.flash_format.specs.Head.{head_of, is_free}
+use Rattle.flash_format.specs.declared.head.DamageKind.{DamageKind}
 use Rattle.check_findings.specs.Region.Counts.{IsCountBefore, nothing, count_after}
 use Rattle.check_findings.specs.Region.RegionFindings.{names_after, cell_findings, cells_findings, counts_of, end_findings, tail_findings, shape_findings, region_findings}
-use Rattle.check_findings.specs.Region.Reports.{HasReported, Reported, Reports, counted, nothing_reported, refused_findings, with_cell, with_findings}
-use Rattle.check_findings.specs.declared.fault.CheckFault.{CheckFault}
-use Rattle.check_findings.specs.declared.fault.CheckFault.TheVariants as check
+use Rattle.check_findings.specs.Region.Names.{HasNames}
+use Rattle.check_findings.specs.Region.Reports.{Gains, counted}
 use Rattle.check_findings.specs.declared.region.finding.RegionFinding.{RegionFinding}
 use Rattle.check_findings.specs.declared.region.finding.RegionFinding.TheVariants as findings
 use Rattle.check_findings.specs.declared.region.count.Count.{Count}
@@ -37,83 +36,70 @@ use Rattle.check_findings.proofs.RegionLemmas.CountLemmas.{count_all, count_more
 last : List ℕ → End → ℕ → List RegionFinding → List RegionFinding
 last bytes end at counts = end_findings bytes at end ++ counts
 
--- all findings of a region after these findings and counts, if the cut continues at an offset
-cut_findings : List ℕ → ℕ → Cut → Reported → Count → List RegionFinding
-cut_findings bytes at k t n = t.findings ++ (cells_findings t.names at k.cells ++ last bytes k.end (place_after at k.cells) (count_all n at k.cells))
+-- the findings of a region after these names and counts, if the cut continues at an offset
+cut_findings : List ℕ → ℕ → Cut → List (List ℕ) → Count → List RegionFinding
+cut_findings bytes at k names n = cells_findings names at k.cells ++ last bytes k.end (place_after at k.cells) (count_all n at k.cells)
 
-cell_step : List ℕ → Cell → (Reported → Count → List RegionFinding) → Reported → Count → List RegionFinding
-cell_step x given later t n = later (with_cell t given.at x) (count_after n (is_free given.head) given.at given.span)
+cell_step : List ℕ → Cell → (List (List ℕ) → Count → List RegionFinding) → List (List ℕ) → Count → List RegionFinding
+cell_step x given later names n = cell_findings names given.at x ++ later (names_after names x) (count_after n (is_free given.head) given.at given.span)
 
-fault_findings : WalkFault → Reported → Count → List RegionFinding
-fault_findings fault t n = t.findings ++ shape_findings fault
+fault_findings : WalkFault → List (List ℕ) → Count → List RegionFinding
+fault_findings fault names n = shape_findings fault
 
-joined : (before here later end : List RegionFinding) → before ++ ((here ++ later) ++ end) ≡ (before ++ here) ++ (later ++ end)
-joined before here later end = ap (λ (l : List RegionFinding). before ++ l) (append_assoc here later end) ∙ sym (append_assoc before here (later ++ end))
-
-cell_more : (bytes : List ℕ) (at : ℕ) (x : List ℕ) (k : Cut) (t : Reported) (n : Count)
-    → cut_findings bytes at (after (x ∷ []) k) t n ≡ cut_findings bytes (at + length x) k (with_cell t at x) (count_after n (is_free (head_of x)) at (length x))
+cell_more : (bytes : List ℕ) (at : ℕ) (x : List ℕ) (k : Cut) (names : List (List ℕ)) (n : Count)
+    → cut_findings bytes at (after (x ∷ []) k) names n ≡ cell_findings names at x ++ cut_findings bytes (at + length x) k (names_after names x) (count_after n (is_free (head_of x)) at (length x))
 unfolding cut_findings cells_findings last
-cell_more bytes at x k t n =
-    let next = count_after n (is_free (head_of x)) at (length x) in
-    ap (λ (m : List RegionFinding). t.findings ++ ((cell_findings t.names at x ++ cells_findings (names_after t.names x) (at + length x) k.cells) ++ last bytes k.end (place_after (at + length x) k.cells) m)) (count_more n at x k.cells)
-    ∙ joined t.findings (cell_findings t.names at x) (cells_findings (names_after t.names x) (at + length x) k.cells) (last bytes k.end (place_after (at + length x) k.cells) (count_all next (at + length x) k.cells))
+cell_more bytes at x k names n =
+    let later = cells_findings (names_after names x) (at + length x) k.cells in
+    ap (λ (m : List RegionFinding). (cell_findings names at x ++ later) ++ last bytes k.end (place_after (at + length x) k.cells) m) (count_more n at x k.cells)
+    ∙ append_assoc (cell_findings names at x) later _
 
 law : (bytes : List ℕ) → ReadsCells (cut_findings bytes) cell_step
 unfolding cell_step
-law bytes at x k = fun_ext (λ (t : Reported). fun_ext (λ (n : Count). cell_more bytes at x k t n))
+law bytes at x k = fun_ext (λ (names : List (List ℕ)). fun_ext (λ (n : Count). cell_more bytes at x k names n))
 
 -- the findings from an offset on
-pub findings_from : List ℕ → Reported → Count → ℕ → List RegionFinding
-findings_from x t n at = reading_of fault_findings (cut_findings x) x at t n
+pub findings_from : List ℕ → List (List ℕ) → Count → ℕ → List RegionFinding
+findings_from x names n at = reading_of fault_findings (cut_findings x) x at names n
 
-whole_counts : (x : List ℕ) → (cells_findings [] 0 (cut x).cells ++ last x (cut x).end (place_after 0 (cut x).cells) (counts_of (length x) (cut x).cells)) ≡ cut_findings x 0 (cut x) nothing_reported (nothing (length x))
-unfolding cut_findings last
-whole_counts x = ap (λ (m : List RegionFinding). cells_findings [] 0 (cut x).cells ++ last x (cut x).end (place_after 0 (cut x).cells) m) (sym (count_whole (length x) (cut x).cells))
-
-whole_findings : (x : List ℕ) → region_findings x ≡ findings_from x nothing_reported (nothing (length x)) 0
-unfolding findings_from fault_findings region_findings reading_of last
+whole_findings : (x : List ℕ) → region_findings x ≡ findings_from x [] (nothing (length x)) 0
+unfolding findings_from fault_findings region_findings reading_of cut_findings last
 whole_findings x = go (shape_fault x)
   where
-    go : (o : Option WalkFault) → refused_or shape_findings o (cells_findings [] 0 (cut x).cells ++ last x (cut x).end (place_after 0 (cut x).cells) (counts_of (length x) (cut x).cells)) ≡ refused_or fault_findings o (cut_findings x 0 (cut x)) nothing_reported (nothing (length x))
-    go None = whole_counts x
+    go : (o : Option WalkFault) → refused_or shape_findings o (cells_findings [] 0 (cut x).cells ++ last x (cut x).end (place_after 0 (cut x).cells) (counts_of (length x) (cut x).cells)) ≡ refused_or fault_findings o (cut_findings x 0 (cut x)) [] (nothing (length x))
+    go None = ap (λ (m : List RegionFinding). cells_findings [] 0 (cut x).cells ++ last x (cut x).end (place_after 0 (cut x).cells) m) (sym (count_whole (length x) (cut x).cells))
     go (Some fault) = refl
 
 -- the same by the result of the walk
-findings_by : List ℕ → Reported → Count → Answer → List RegionFinding
-findings_by x t n answer = by_answer fault_findings (cut_findings x) cell_step x answer t n
+findings_by : List ℕ → List (List ℕ) → Count → Answer → List RegionFinding
+findings_by x names n answer = by_answer fault_findings (cut_findings x) cell_step x answer names n
 
-by_step : (x : List ℕ) (t : Reported) (n : Count) (at : ℕ) → at ≤ length x → at % 64 ≡ 0 → findings_from x t n at ≡ findings_by x t n (answer_at x at)
+by_step : (x : List ℕ) (names : List (List ℕ)) (n : Count) (at : ℕ) → at ≤ length x → at % 64 ≡ 0 → findings_from x names n at ≡ findings_by x names n (answer_at x at)
 unfolding findings_from findings_by
-by_step x t n at inside aligned = ap (λ (f : Reported → Count → List RegionFinding). f t n) (shaped_step fault_findings (cut_findings x) cell_step (law x) x at inside aligned)
+by_step x names n at inside aligned = ap (λ (f : List (List ℕ) → Count → List RegionFinding). f names n) (shaped_step fault_findings (cut_findings x) cell_step (law x) x at inside aligned)
 
-by_end : (x : List ℕ) (t : Reported) (n : Count) → findings_by x t n (Ok steps.End) ≡ t.findings ++ findings.Complete ∷ counted n (length x)
+by_end : (x : List ℕ) (names : List (List ℕ)) (n : Count) → findings_by x names n (Ok steps.End) ≡ findings.Complete ∷ counted n (length x)
 unfolding findings_by cut_findings cells_findings last
-by_end x t n = ap (λ m. t.findings ++ findings.Complete ∷ m) (count_none n (length x))
+by_end x names n = ap (λ m. findings.Complete ∷ m) (count_none n (length x))
 
-by_tail : (x : List ℕ) (t : Reported) (n : Count) (at : ℕ) → findings_by x t n (Ok (steps.Tail at)) ≡ t.findings ++ (tail_findings at x ++ counted n at)
+by_tail : (x : List ℕ) (names : List (List ℕ)) (n : Count) (at : ℕ) → findings_by x names n (Ok (steps.Tail at)) ≡ tail_findings at x ++ counted n at
 unfolding findings_by cut_findings cells_findings last
-by_tail x t n at = ap (λ m. t.findings ++ (tail_findings at x ++ m)) (count_none n at)
+by_tail x names n at = ap (λ m. tail_findings at x ++ m) (count_none n at)
 
-by_fault : (x : List ℕ) (t : Reported) (n : Count) (fault : WalkFault) → (fault ≡ walk.Device → ⊥) → findings_by x t n (Err fault) ≡ refused_findings t.findings n fault
-unfolding findings_by cut_findings fault_findings cells_findings last
-by_fault x t n walk.Device other = absurd (other refl)
-by_fault x t n walk.RegionShape other = refl
-by_fault x t n walk.NotCbfs other = refl
-by_fault x t n (walk.Damaged at kind) other = ap (λ m. t.findings ++ findings.Damaged at kind ∷ m) (count_none n at)
+by_damage : (x : List ℕ) (names : List (List ℕ)) (n : Count) (at : ℕ) (kind : DamageKind) → findings_by x names n (Err (walk.Damaged at kind)) ≡ findings.Damaged at kind ∷ counted n at
+unfolding findings_by cut_findings cells_findings last
+by_damage x names n at kind = ap (λ m. findings.Damaged at kind ∷ m) (count_none n at)
 
 -- a tail begins at the walk's offset
 tail_place : (x : List ℕ) (place at : ℕ) → (let a : Answer = Ok (steps.Tail at) in a) ≡ answer_at x place → at ≡ place
 unfolding answer_at
-tail_place x place at = go (shape_fault_at x place) (length (drop place x) == 0) (entry (drop place x))
-  where
-    go : (o : Option WalkFault) (ended : Bool) (e : Entry) → (let a : Answer = Ok (steps.Tail at) in a) ≡ refused_or (λ fault. Err fault) o (cond ended (Ok steps.End) (answer_by (drop place x) place e)) → at ≡ place
-    go (Some fault) ended e is = absurd cc
-    go None true e is = absurd cc
-    go None false absent is = cc
-    go None false (damaged kind) is = absurd cc
-    go None false (cell span) is = absurd cc
+tail_place x place at is = grind (arith, common_steps, is)
 
 -- ---- the loop
+
+-- the findings of a region begin with the report's, and the others follow from the report's names
+abbrev pub IsPart : List ℕ → Report → (List (List ℕ) → List RegionFinding) → Type 0
+IsPart x report rest = (names : List (List ℕ)) × HasNames report.names.keys names × (region_findings x ≡ report.findings.items ++ rest names)
 
 -- the check has reached the walk's offset
 pub record Checking {F : Type 0} (facts : F → Device) (r : Range) (w : Walking) (report : Report) (count : Count) (old now : Pages F) : Type 0 where
@@ -123,7 +109,7 @@ pub record Checking {F : Type 0} (facts : F → Device) (r : Range) (w : Walking
   pub aligned : w.at % 64 ≡ 0
   pub read : HasRead facts (w.at / 16) 0 old now
   pub before : IsCountBefore w.at count
-  pub so_far : IsTrue (facts old.device).honest → (t : Reported) × HasReported report t × (region_findings (bytes_in r (facts old.device).content) ≡ findings_from (bytes_in r (facts old.device).content) t count w.at)
+  pub so_far : OnHonestIn facts old.device r (λ x. IsPart x report (λ names. findings_from x names count w.at))
 
 pub checking_start : {F : Type 0} (facts : F → Device) (r : Range) (report : Report) (old : Pages F) → LiesOn r (facts old.device) → report.findings.items ≡ [] → report.names.keys ≡ []
     → Checking facts r (walk_of r) report (nothing r.size) old old
@@ -134,13 +120,15 @@ checking_start facts r report old lies none unnamed = record {
   aligned = refl;
   read = HasRead-within facts 0 (0 / 16) 0 old old (omega arith) (HasRead-none facts old);
   before = (omega arith, omega arith);
-  so_far = λ h. (nothing_reported, (none, rw unnamed (λ q. refl)), whole_findings (bytes_in r (facts old.device).content) ∙ ap (λ n. findings_from (bytes_in r (facts old.device).content) nothing_reported (nothing n) 0) (length-bytes_in r (facts old.device).content lies.inside));
+  so_far = λ h.
+      let x = bytes_in r (facts old.device).content in
+      ([], rw unnamed (λ q. refl), rw none (whole_findings x ∙ ap (λ n. findings_from x [] (nothing n) 0) (length-bytes_in r (facts old.device).content lies.inside)));
 }
 
--- a step is no device fault
-no_fault : (s : Step) (b : Answer) → (let a : Answer = Ok s in IsErrOf a walk.Device ⊎ (a ≡ b)) → Ok s ≡ b
-no_fault s b (inl e) = absurd cc
-no_fault s b (inr e) = e
+-- a result without a device fault
+no_fault : (a b : Answer) → (IsErrOf a walk.Device → ⊥) → IsErrOf a walk.Device ⊎ (a ≡ b) → a ≡ b
+no_fault a b other (inl e) = absurd (other e)
+no_fault a b other (inr e) = e
 
 module _ {F : Type 0} (facts : F → Device) (r : Range) (w : Walking) (report : Report) (count : Count) (old now : Pages F) (lies : LiesOn r (facts old.device)) (i : Checking facts r w report count old now) where
   abbrev x : List ℕ
@@ -150,16 +138,14 @@ module _ {F : Type 0} (facts : F → Device) (r : Range) (w : Walking) (report :
   abbrev pub Answers : Answer → Type 0
   Answers a = IsTrue (facts now.device).honest → w.ended ≡ None → IsErrOf a walk.Device ⊎ (a ≡ answer_at (bytes_in w.region (facts now.device).content) w.at)
 
-  answered : (a : Answer) → IsTrue (facts old.device).honest → a ≡ answer_at (bytes_in w.region (facts now.device).content) w.at
-      → (a ≡ answer_at x w.at) × ((t : Reported) × HasReported report t × (region_findings x ≡ findings_by x t count a))
-  answered a h is =
+  answered : (a : Answer) → Answers a → (IsErrOf a walk.Device → ⊥) → IsTrue (facts old.device).honest → (a ≡ answer_at x w.at) × IsPart x report (λ names. findings_by x names count a)
+  answered a answer other h =
+      let is = no_fault a _ other (answer (honest_still i.read.device.calls.same_honesty h) i.going) in
       let len : length x ≡ r.size = length-bytes_in r (facts old.device).content lies.inside in
       let here : a ≡ answer_at x w.at = is ∙ ap (λ (k : Range). answer_at (bytes_in k (facts now.device).content) w.at) i.region ∙ ap (λ (l : List ℕ). answer_at (bytes_in r l) w.at) (i.read.device.unchanged h) in
       let known = i.so_far h in
-      (here, (known.0, known.1, known.2 ∙ by_step x known.0 count w.at (omega (arith, len, i.inside)) i.aligned ∙ ap (λ (b : Answer). findings_by x known.0 count b) (sym here)))
-
-  step_answered : (s : Step) → Answers (Ok s) → IsTrue (facts old.device).honest → (Ok s ≡ answer_at x w.at) × ((t : Reported) × HasReported report t × (region_findings x ≡ findings_by x t count (Ok s)))
-  step_answered s answer h = answered (Ok s) h (no_fault s _ (answer (honest_still i.read.device.calls.same_honesty h) i.going))
+      let step = by_step x known.0 count w.at (omega (arith, len, i.inside)) i.aligned ∙ ap (λ (b : Answer). findings_by x known.0 count b) (sym here) in
+      (here, (known.0, known.1, known.2 ∙ ap (λ (l : List RegionFinding). report.findings.items ++ l) step))
 
   -- another cell
   pub checking_more : (c : Cell) (v : Walking) (next : Report) (more : Count) (mid new : Pages F) (n m : ℕ) → IsCellIn w.region.size c × (c.at ≡ w.at)
@@ -167,10 +153,10 @@ module _ {F : Type 0} (facts : F → Device) (r : Range) (w : Walking) (report :
       → Answers (Ok (steps.Cell c))
       → v ≡ record w { at = w.at + c.span; steps = w.steps + 1 }
       → IsCountBefore (c.at + c.span) more → more ≡ count_after count (is_free c.head) c.at c.span
-      → (IsTrue (facts mid.device).honest → StandsIn (bytes_in r (facts mid.device).content) c → (t : Reported) → HasReported report t → HasReported next (with_cell t c.at (cell_in (bytes_in r (facts mid.device).content) c)))
+      → OnHonestIn facts mid.device r (λ y. StandsIn y c → (names : List (List ℕ)) → HasNames report.names.keys names → Gains report next (names_after names (cell_in y c)) (cell_findings names c.at (cell_in y c)))
       → Checking facts r v next more old new
   unfolding findings_by cell_step findings_from
-  checking_more c v next more mid new n m given reads few over fewer answer moved before is_more reports = rw moved (record {
+  checking_more c v next more mid new n m given reads few over fewer answer moved before is_more gains = rw moved (record {
     region = i.region;
     going = i.going;
     inside = omega (arith, cell_of_region.inside, given.1);
@@ -180,13 +166,16 @@ module _ {F : Type 0} (facts : F → Device) (r : Range) (w : Walking) (report :
     so_far = λ h.
         let k = honest_still i.read.device.calls.same_honesty h in
         let same : (facts mid.device).content ≡ (facts old.device).content = reads.device.unchanged k ∙ i.read.device.unchanged h in
-        let known = step_answered (steps.Cell c) answer h in
+        let known = answered (Ok (steps.Cell c)) answer (λ e. cc) h in
         let stands : StandsIn x c = ap (λ p. answer_at x p) given.1 ∙ sym known.0 in
-        let t = known.1.0 in (
-          with_cell t c.at (cell_in x c),
-          (rw same at (reports (honest_still reads.device.calls.same_honesty k))) stands t known.1.1,
-          known.1.2 ∙ ap (λ p. findings_from x (with_cell t c.at (cell_in x c)) (count_after count (is_free c.head) c.at c.span) (p + c.span)) given.1
-              ∙ ap (λ (n : Count). findings_from x (with_cell t c.at (cell_in x c)) n (w.at + c.span)) (sym is_more),
+        let names = known.1.0 in
+        let found = cell_findings names c.at (cell_in x c) in
+        let gained = (rw same at (gains (honest_still reads.device.calls.same_honesty k))) stands names known.1.1 in
+        let rest : Count → ℕ → List RegionFinding = findings_from x (names_after names (cell_in x c)) in (
+          names_after names (cell_in x c),
+          gained.1,
+          known.1.2 ∙ sym (append_assoc report.findings.items found _) ∙ ap (λ p. (report.findings.items ++ found) ++ rest (count_after count (is_free c.head) c.at c.span) (p + c.span)) given.1
+              ∙ rw (gained.0, is_more) refl,
         );
   })
     where
@@ -195,42 +184,42 @@ module _ {F : Type 0} (facts : F → Device) (r : Range) (w : Walking) (report :
 
   -- ---- the walk ended
 
-  -- the last findings and the counts follow
-  stopped : (s : Step) (next : Report) (more : List RegionFinding) (end : ℕ) (all : List RegionFinding) → Answers (Ok s) → Reports {E = CheckFault} (Ok tt) report next (λ t. with_findings t more)
-      → ((t : Reported) → HasReported next t → all ≡ t.findings ++ counted count end) → ((t : Reported) → findings_by x t count (Ok s) ≡ t.findings ++ (more ++ counted count end))
+  -- the last findings follow
+  stopped : (a : Answer) (more all : List RegionFinding) → Answers a → (IsErrOf a walk.Device → ⊥) → all ≡ report.findings.items ++ more → ((names : List (List ℕ)) → findings_by x names count a ≡ more) → IsTrue (facts old.device).honest → all ≡ region_findings x
+  stopped a more all answer other is_all is h =
+      let known = (answered a answer other h).1 in
+      is_all ∙ sym (known.2 ∙ ap (λ (l : List RegionFinding). report.findings.items ++ l) (is known.0))
+
+  -- the last findings and the counts
+  with_counts : (more next all : List RegionFinding) (end : ℕ) → next ≡ report.findings.items ++ more → all ≡ next ++ counted count end → all ≡ report.findings.items ++ (more ++ counted count end)
+  with_counts more next all end pushed is_all = is_all ∙ ap (λ (l : List RegionFinding). l ++ counted count end) pushed ∙ append_assoc report.findings.items more (counted count end)
+
+  pub checking_end : (end : ℕ) (next all : List RegionFinding) → Answers (Ok steps.End) → end ≡ r.size → next ≡ report.findings.items ++ findings.Complete ∷ [] → all ≡ next ++ counted count end
       → IsTrue (facts old.device).honest → all ≡ region_findings x
-  stopped s next more end all answer reports is_all is h =
-      let known = (step_answered s answer h).1 in
-      let t = known.0 in
-      is_all (with_findings t more) (reports t known.1) ∙ append_assoc t.findings more (counted count end) ∙ sym (known.2 ∙ is t)
-
-  pub checking_end : (next : Report) (end : ℕ) (all : List RegionFinding) → Answers (Ok steps.End) → end ≡ r.size → Reports {E = CheckFault} (Ok tt) report next (λ t. with_findings t (findings.Complete ∷ []))
-      → ((t : Reported) → HasReported next t → all ≡ t.findings ++ counted count end) → IsTrue (facts old.device).honest → all ≡ region_findings x
-  checking_end next end all answer place reports is_all =
+  checking_end end next all answer place pushed is_all =
       let same : end ≡ length x = place ∙ sym (length-bytes_in r (facts old.device).content lies.inside) in
-      stopped steps.End next (findings.Complete ∷ []) end all answer reports is_all (λ t. by_end x t count ∙ ap (λ p. t.findings ++ findings.Complete ∷ counted count p) (sym same))
+      stopped (Ok steps.End) (findings.Complete ∷ counted count end) all answer (λ e. cc) (with_counts (findings.Complete ∷ []) next all end pushed is_all)
+      (λ names. by_end x names count ∙ ap (λ p. findings.Complete ∷ counted count p) (sym same))
 
-  pub checking_tail : (at here n : ℕ) (mid : Pages F) (next : Report) (all : List RegionFinding) → Answers (Ok (steps.Tail at)) → here ≡ w.at → HasRead facts n 0 now mid
-      → (IsTrue (facts mid.device).honest → Reports {E = CheckFault} (Ok tt) report next (λ t. with_findings t (tail_findings here (bytes_in r (facts mid.device).content))))
-      → ((t : Reported) → HasReported next t → all ≡ t.findings ++ counted count here) → IsTrue (facts old.device).honest → all ≡ region_findings x
-  checking_tail at here n mid next all answer place reads reports is_all h =
+  pub checking_tail : (at here n : ℕ) (mid : Pages F) (next all : List RegionFinding) → Answers (Ok (steps.Tail at)) → here ≡ w.at → HasRead facts n 0 now mid
+      → OnHonestIn facts mid.device r (λ y. next ≡ report.findings.items ++ tail_findings here y) → all ≡ next ++ counted count here → IsTrue (facts old.device).honest → all ≡ region_findings x
+  checking_tail at here n mid next all answer place reads pushed is_all h =
       let k = honest_still i.read.device.calls.same_honesty h in
       let content : (facts mid.device).content ≡ (facts old.device).content = reads.device.unchanged k ∙ i.read.device.unchanged h in
-      let same : at ≡ here = tail_place x w.at at (step_answered (steps.Tail at) answer h).0 ∙ sym place in
-      stopped (steps.Tail at) next (tail_findings here x) here all answer (rw content at (reports (honest_still reads.device.calls.same_honesty k))) is_all
-      (λ t. by_tail x t count at ∙ ap (λ p. t.findings ++ (tail_findings p x ++ counted count p)) same) h
+      let same : at ≡ here = tail_place x w.at at (answered (Ok (steps.Tail at)) answer (λ e. cc) h).0 ∙ sym place in
+      stopped (Ok (steps.Tail at)) (tail_findings here x ++ counted count here) all answer (λ e. cc)
+      (with_counts (tail_findings here x) next all here (rw content at (pushed (honest_still reads.device.calls.same_honesty k))) is_all)
+      (λ names. by_tail x names count at ∙ ap (λ p. tail_findings p x ++ counted count p) same) h
 
-  pub checking_refused : (fault : WalkFault) → Answers (Err fault) → IsTrue (facts old.device).honest → (result : Result (Vec RegionFinding Global) CheckFault)
-      → (fault ≡ walk.Device → IsErrOf result check.Device) → ((t : Reported) → HasReported report t → IfOk result (λ all. all.items ≡ refused_findings t.findings count fault))
-      → IfOk result (λ all. all.items ≡ region_findings x)
-  checking_refused fault answer h (Err other) device found = tt
-  checking_refused fault answer h (Ok all) device found = go (answer (honest_still i.read.device.calls.same_honesty h) i.going)
-    where
-      other : fault ≡ walk.Device → ⊥
-      other e = let bad : (let r : Result (Vec RegionFinding Global) CheckFault = Ok all in r) ≡ Err check.Device = device e in cc
+  pub checking_damage : (at : ℕ) (kind : DamageKind) (next all : List RegionFinding) → Answers (Err (walk.Damaged at kind)) → next ≡ report.findings.items ++ findings.Damaged at kind ∷ [] → all ≡ next ++ counted count at
+      → IsTrue (facts old.device).honest → all ≡ region_findings x
+  checking_damage at kind next all answer pushed is_all =
+      stopped (Err (walk.Damaged at kind)) (findings.Damaged at kind ∷ counted count at) all answer (λ e. cc) (with_counts (findings.Damaged at kind ∷ []) next all at pushed is_all) (λ names. by_damage x names count at kind)
 
-      go : (let a : Answer = Err fault in IsErrOf a walk.Device ⊎ (a ≡ answer_at (bytes_in w.region (facts now.device).content) w.at)) → all.items ≡ region_findings x
-      go (inl e) = absurd (other (let is : fault ≡ walk.Device = cc in is))
-      go (inr is) =
-          let known = (answered (Err fault) h is).1 in
-          found known.0 known.1 ∙ sym (known.2 ∙ by_fault x known.0 count fault other)
+  pub checking_size : (all : List RegionFinding) → Answers (Err walk.RegionShape) → all ≡ report.findings.items ++ findings.BadSize ∷ [] → IsTrue (facts old.device).honest → all ≡ region_findings x
+  unfolding findings_by fault_findings
+  checking_size all answer pushed = stopped (Err walk.RegionShape) (findings.BadSize ∷ []) all answer (λ e. cc) pushed (λ names. refl)
+
+  pub checking_absent : (all : List RegionFinding) → Answers (Err walk.NotCbfs) → all ≡ report.findings.items ++ findings.NotCbfs ∷ [] → IsTrue (facts old.device).honest → all ≡ region_findings x
+  unfolding findings_by fault_findings
+  checking_absent all answer pushed = stopped (Err walk.NotCbfs) (findings.NotCbfs ∷ []) all answer (λ e. cc) pushed (λ names. refl)

@@ -1,34 +1,26 @@
 -- Counts from cell to cell.
-use Rattle.std.proofs.Common.{◌≡◌, ℕ, ◌+◌, Bool, true, false, cond, List, [], ◌∷◌, length, refl, arith}
+use Rattle.std.proofs.Common.{◌≡◌, ℕ, ◌+◌, List, [], ◌∷◌, length, arith}
 use Rattle.std.specs.Prelude.{max}
+use Rattle.std.proofs.lemmas.Grind.{common_steps}
 use Rattle.flash_format.specs.Head.{head_of, is_free}
-use Rattle.flash_format.specs.Components.{components_from, component_at}
+use Rattle.flash_format.specs.Components.{components_from}
 use Rattle.check_findings.specs.declared.region.count.Count.{Count}
 use Rattle.check_findings.specs.declared.region.finding.RegionFinding.{RegionFinding}
 use Rattle.check_findings.specs.Region.RegionFindings.{count_findings, counts_of}
 use Rattle.check_findings.specs.Region.Reports.{counted}
-use Rattle.check_findings.specs.Region.Counts.{free_bytes, largest_room, nothing, count_after, usable}
+use Rattle.check_findings.specs.Region.Counts.{free_bytes, largest_room, nothing, count_after}
 
 -- the findings of the counts after entries from this offset on
 abbrev pub count_all : Count → ℕ → List (List ℕ) → List RegionFinding
 count_all n at cells = count_findings (n.components + length (components_from at cells)) (n.free + free_bytes cells) (max n.room (largest_room n.size n.start at cells))
 
-counts_are : (c d f g l m : ℕ) → c ≡ d → f ≡ g → l ≡ m → count_findings c f l ≡ count_findings d g m
-counts_are c d f g l m p q r = rw (p, q, r) refl
-
 pub count_more : (n : Count) (at : ℕ) (x : List ℕ) (cells : List (List ℕ)) → count_all n at (x ∷ cells) ≡ count_all (count_after n (is_free (head_of x)) at (length x)) (at + length x) cells
 unfolding components_from free_bytes largest_room
-count_more n at x cells = go (is_free (head_of x))
-  where
-    go : (free : Bool) → count_findings (n.components + length (cond free (components_from (at + length x) cells) (component_at at x ∷ components_from (at + length x) cells)))
-        (n.free + cond free (length x + free_bytes cells) (free_bytes cells))
-        (max n.room (cond free (largest_room n.size n.start (at + length x) cells) (max (usable n.size n.start at) (largest_room n.size (at + length x) (at + length x) cells)))) ≡ count_all (count_after n free at (length x)) (at + length x) cells
-    go true = counts_are _ _ _ _ _ _ refl (omega arith) refl
-    go false = counts_are _ _ _ _ _ _ (omega arith) refl (omega arith)
+count_more n at x cells = grind (arith, common_steps)
 
 pub count_none : (n : Count) (at : ℕ) → count_all n at [] ≡ counted n at
 unfolding components_from free_bytes largest_room
-count_none n at = counts_are _ _ _ _ _ _ (omega arith) (omega arith) refl
+count_none n at = grind (arith, common_steps)
 
 pub count_whole : (size : ℕ) (cells : List (List ℕ)) → count_all (nothing size) 0 cells ≡ counts_of size cells
-count_whole size cells = counts_are _ _ _ _ _ _ (omega arith) (omega arith) (omega arith)
+count_whole size cells = grind (arith, common_steps)

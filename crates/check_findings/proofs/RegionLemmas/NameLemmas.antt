@@ -1,19 +1,23 @@
 -- The names of components.
-use Rattle.std.proofs.Common.{◌≡◌, ℕ, Bool, true, false, cond, ◌||◌, List, ◌∷◌, refl, sym, ap, ◌∙◌}
+use Rattle.std.proofs.Common.{arith, ◌≡◌, ℕ, Bool, true, false, cond, ◌||◌, List, ◌∷◌, sym, ap, ◌∙◌}
 use Rattle.std.proofs.lemmas.Slice.Eq.{bytes_eq-Decides}
+use Rattle.std.specs.List.{list_any}
 use Rattle.std.specs.Str.{bytes_eq}
 use Rattle.std.specs.HashSet.{HashSet, Updates}
 use Rattle.std.specs.Set.{KeepsOthers}
 use Rattle.std.specs.Cmp.Lexicographic.{nat_list_eq_equiv}
+use Rattle.std.proofs.lemmas.Grind.{common_steps}
 use Rattle.smallvec.specs.SmallVec.{SmallVec}
-use Rattle.check_findings.specs.Region.Names.{has, HasNames, is_among}
+use Rattle.check_findings.specs.Region.Names.{HasNames, is_among}
 
 abbrev Key : Type 0
 Key = SmallVec ℕ
 
+abbrev has : List ℕ → List Key → Bool
+has name keys = list_any (λ k. bytes_eq name k.items) keys
+
 or-cond : (b c d : Bool) → c ≡ d → cond b true c ≡ (b || d)
-or-cond true c d same = refl
-or-cond false c d same = same
+or-cond b c d same = grind (arith, common_steps, same)
 
 module _ {S : Type 0} (x : Key) (old now : HashSet Key S) (updates : Updates (λ (a b : Key). bytes_eq a.items b.items) old now x true) where
   -- the set after a new or known name

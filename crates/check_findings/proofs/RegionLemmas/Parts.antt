@@ -1,4 +1,4 @@
--- The parts of a region's findings.
+-- The parts of the findings of a region with a good shape.
 use Rattle.std.proofs.Common.{◌≡◌, ℕ, ◌+◌, ◌-◌, ◌/◌, ◌==◌, Bool, true, false, cond, zero, suc, List, [], ◌∷◌, length, drop, Option, Some, None, All, refl}
 use Rattle.std.specs.Prelude.{nat_le}
 use Rattle.std.specs.List.{position_from}
@@ -8,31 +8,24 @@ use Rattle.flash_format.specs.Cut.{End, complete, tail, damage}
 use Rattle.flash_format.specs.Head.{head_of, is_free}
 use Rattle.flash_format.specs.Components.{cell_name, component_at}
 use Rattle.check_findings.specs.Region.Names.{is_among}
-use Rattle.check_findings.specs.Region.RegionFindings.{begins_with_entry, cell_findings, cells_findings, component_finding, count_findings, end_findings, entries_findings, entry_findings, filled_findings, free_findings, is_filled, metadata, names_after, room_finding, tail_bytes, tail_findings}
+use Rattle.check_findings.specs.Region.RegionFindings.{begins_with_entry, cell_findings, cells_findings, component_finding, count_findings, end_findings, entries_findings, entry_findings, filled_findings, free_findings, is_filled, names_after, room_finding, tail_bytes, tail_findings}
 use Rattle.check_findings.specs.declared.region.finding.RegionFinding.{RegionFinding}
-use Rattle.check_findings.specs.declared.region.finding.RegionFinding.TheVariants.{BadSize, NotCbfs, Component, Deleted, Complete, Tail, TailFilled, TailEntry, Damaged, Components, NoComponents, FreeBytes, LargestContent, NoRoom}
+use Rattle.check_findings.specs.declared.region.finding.RegionFinding.TheVariants.{Component, Deleted, Complete, Tail, TailFilled, TailEntry, Damaged, Components, NoComponents, FreeBytes, LargestContent, NoRoom}
 
 pub data Part : Type 0 where
-  shape_part : Part
   cell_part : Part
   end_part : Part
   count_part : Part
 
 abbrev pub part_of : RegionFinding → Part
-part_of BadSize = shape_part
-part_of NotCbfs = shape_part
 part_of (Component at name shadowed content) = cell_part
 part_of (Deleted at) = cell_part
-part_of Complete = end_part
-part_of (Tail at) = end_part
-part_of (TailFilled at) = end_part
-part_of (TailEntry at) = end_part
-part_of (Damaged at kind) = end_part
 part_of (Components n) = count_part
 part_of NoComponents = count_part
 part_of (FreeBytes n) = count_part
 part_of (LargestContent n) = count_part
 part_of NoRoom = count_part
+part_of _ = end_part
 
 abbrev pub IsIn : Part → RegionFinding → Type 0
 IsIn part finding = part_of finding ≡ part
@@ -75,5 +68,5 @@ of_end x at (damage kind) = All-cons (IsIn end_part) (Damaged at kind) [] refl (
 pub of_counts : (components free room : ℕ) → All (IsIn count_part) (count_findings components free room)
 of_counts components free room =
     let first = cond_both (components == 0) NoComponents (Components components) (IsIn count_part) (λ e. refl) (λ e. refl) in
-    let last = cond_both (nat_le metadata room) (LargestContent (room - metadata)) NoRoom (IsIn count_part) (λ e. refl) (λ e. refl) in
+    let last = cond_both (nat_le 28 room) (LargestContent (room - 28)) NoRoom (IsIn count_part) (λ e. refl) (λ e. refl) in
     All-cons (IsIn count_part) _ (FreeBytes free ∷ room_finding room ∷ []) first (All-cons (IsIn count_part) (FreeBytes free) (room_finding room ∷ []) refl (All-cons (IsIn count_part) _ [] last (All-nil (IsIn count_part))))

@@ -1,11 +1,12 @@
 -- The bytes after the entries.
-use Rattle.std.proofs.Common.{◌≡◌, ℕ, ◌+◌, ◌-◌, ◌*◌, ◌<◌, ◌≤◌, IsTrue, Bool, true, false, cond, zero, suc, All, List, [], ◌∷◌, ◌++◌, length, Option, Some, None, min, refl, sym, ap, ◌∙◌, arith, append_assoc, append-nil, take, drop, length-take, ⊎_elim}
+use Rattle.std.proofs.Common.{◌≡◌, ℕ, ◌+◌, ◌-◌, ◌*◌, ◌<◌, ◌≤◌, IsTrue, false, zero, suc, All, List, [], ◌∷◌, ◌++◌, length, None, min, refl, sym, ap, ◌∙◌, arith, append_assoc, append-nil, take, drop, length-take, ⊎_elim}
 use Rattle.std.specs.Prelude.{slice_range}
 use Rattle.std.specs.List.{position_from}
 use Rattle.std.specs.Option.{option_or}
 use Rattle.std.proofs.lemmas.Bool.{cases_lt}
 use Rattle.std.proofs.lemmas.List.{drop_all, drop-drop, take_all, take-take}
 use Rattle.std.proofs.lemmas.List.Elements.{All-nil, All-cons, All-head, All-tail}
+use Rattle.std.proofs.lemmas.Grind.{common_steps}
 use Rattle.flash_device.specs.Device.{Device}
 use Rattle.flash_device.specs.Pages.{Pages, HasRead}
 use Rattle.flash_device.specs.Regions.{LiesOn, Range, bytes_in}
@@ -21,18 +22,9 @@ use Rattle.check_findings.specs.declared.region.finding.RegionFinding.TheVariant
 pub filled_parts : (at n : ℕ) (xs : List ℕ) → position_from is_filled at xs ≡ option_or (position_from is_filled at (take n xs)) (position_from is_filled (at + n) (drop n xs))
 filled_parts at zero xs = ap (λ k. position_from is_filled k xs) (omega arith)
 filled_parts at (suc n) [] = refl
-filled_parts at (suc n) (b ∷ xs) = go (is_filled b) (filled_parts (at + 1) n xs ∙ ap (λ k. option_or (position_from is_filled (at + 1) (take n xs)) (position_from is_filled k (drop n xs))) (omega arith))
-  where
-    first : Option ℕ
-    first = position_from is_filled (at + 1) (take n xs)
-
-    rest : Option ℕ
-    rest = position_from is_filled (at + suc n) (drop n xs)
-
-    go : (filled : Bool) → position_from is_filled (at + 1) xs ≡ option_or first rest
-        → cond filled (Some at) (position_from is_filled (at + 1) xs) ≡ option_or (cond filled (Some at) first) rest
-    go true later = refl
-    go false later = later
+filled_parts at (suc n) (b ∷ xs) =
+    let place : at + 1 + n ≡ at + suc n = omega arith in
+    grind (arith, common_steps, rw place at (filled_parts (at + 1) n xs))
 
 -- the piece after the first k bytes of a range
 pub piece_is : (x : List ℕ) (at k end n : ℕ) → at + k ≤ end → n ≡ min (end - at - k) 4096 → slice_range x (at + k) (at + k + n) ≡ take 4096 (drop k (slice_range x at end))
@@ -83,12 +75,7 @@ entries_last (suc n) at x =
 
 pub none_filled : (at : ℕ) (xs : List ℕ) → position_from is_filled at xs ≡ None → All (λ b. is_filled b ≡ false) xs
 none_filled at [] none = All-nil (λ b. is_filled b ≡ false)
-none_filled at (b ∷ xs) none = go (is_filled b) refl none (none_filled (at + 1) xs)
-  where
-    go : (filled : Bool) → is_filled b ≡ filled → cond filled (Some at) (position_from is_filled (at + 1) xs) ≡ None
-        → (position_from is_filled (at + 1) xs ≡ None → All (λ b. is_filled b ≡ false) xs) → All (λ b. is_filled b ≡ false) (b ∷ xs)
-    go true is e later = absurd cc
-    go false is e later = All-cons (λ b. is_filled b ≡ false) b xs is (later e)
+none_filled at (b ∷ xs) none = All-cons (λ c. is_filled c ≡ false) b xs (grind (arith, common_steps, none)) (none_filled (at + 1) xs (grind (arith, common_steps, none)))
 
 all_blank : (at : ℕ) (xs : List ℕ) → All (λ b. is_filled b ≡ false) xs → position_from is_filled at xs ≡ None
 all_blank at [] blank = refl
@@ -98,9 +85,5 @@ pub blank_tails : BlankTailsAreKnown
 unfolding tail_findings
 blank_tails at x = (
   λ blank. ap (λ o. Tail at ∷ filled_findings at x o) (all_blank at (tail_bytes at x) blank),
-  λ only. none_filled at (tail_bytes at x) (go (position_from is_filled at (tail_bytes at x)) only),
+  λ only. none_filled at (tail_bytes at x) (grind (arith, common_steps, only)),
 )
-  where
-    go : (o : Option ℕ) → Tail at ∷ filled_findings at x o ≡ Tail at ∷ [] → o ≡ None
-    go None e = refl
-    go (Some place) e = absurd cc

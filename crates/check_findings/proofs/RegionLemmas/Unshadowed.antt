@@ -2,7 +2,7 @@
 use Rattle.std.proofs.Common.{◌≡◌, ℕ, zero, suc, ◌+◌, Bool, true, false, cond, List, [], ◌∷◌, ◌++◌, length, Some, Option, Contains, refl, sym, subst, ◌∙◌, arith}
 use Rattle.std.specs.Cmp.Lexicographic.{nat_list_eq_equiv}
 use Rattle.std.specs.Str.{bytes_eq}
-use Rattle.std.proofs.lemmas.Bool.{or_parts}
+use Rattle.std.proofs.lemmas.Bool.{false_from_ne_true, or_parts}
 use Rattle.std.proofs.lemmas.Slice.Eq.{bytes_eq-Decides}
 use Rattle.std.proofs.lemmas.List.Elements.{Contains-append_left, Contains-append_right}
 use Rattle.flash_format.specs.Head.{head_of, is_free}
@@ -28,11 +28,9 @@ module _ (c : Component) where
 
   first_here : (names : List (List ℕ)) (others : List Component) (more : List RegionFinding) → Quiet (component_finding (is_among c.name names) c ∷ more) → IsFirst names (c ∷ others)
   unfolding IsFirst
-  first_here names others more quiet = go (is_among c.name names) refl quiet
-    where
-      go : (b : Bool) → is_among c.name names ≡ b → Quiet (component_finding b c ∷ more) → (is_among c.name names ≡ false) × (first_named c.name (c ∷ others) ≡ Some c)
-      go true known quiet = absurd (quiet (0, omega arith, refl))
-      go false new quiet = (new, rw ((bytes_eq-Decides c.name c.name).1 refl) refl)
+  first_here names others more quiet =
+      let new : is_among c.name names ≡ false = false_from_ne_true _ (λ known. (rw known at quiet) (0, omega arith, refl)) in
+      (new, rw ((bytes_eq-Decides c.name c.name).1 refl) refl)
 
   first_later : (names : List (List ℕ)) (d : Component) (others : List Component) → IsFirst (d.name ∷ names) others → IsFirst names (d ∷ others)
   unfolding IsFirst

@@ -5,8 +5,9 @@ use Rattle.std.specs.List.{find, list_any}
 use lib.Chars.{codes}
 use Rattle.flash_format.specs.Flashmap.{is_area}
 use Rattle.flash_device.specs.Regions.{Range, bytes_in}
-use Rattle.check_findings.specs.declared.map.finding.NumberedArea.{NumberedArea}
-use Rattle.check_findings.specs.Map.MapFindings.{area_end, has_name, image_areas, map_findings}
+use Rattle.flash_map.specs.declared.areas.NumberedArea.{NumberedArea}
+use Rattle.check_findings.specs.Map.MapFindings.{map_findings}
+use Rattle.flash_map.specs.Areas.{area_end, has_name, image_areas}
 use Rattle.check_findings.specs.Region.RegionFindings.{begins_with_entry, region_findings}
 use Rattle.check_findings.specs.declared.image.finding.ImageFinding.{ImageFinding}
 use Rattle.check_findings.specs.declared.image.finding.ImageFinding.TheVariants.{Map, Region}

@@ -6,8 +6,8 @@ use Rattle.flash_format.specs.declared.head.DamageKind.{DamageKind}
 use Rattle.flash_format.specs.Components.{Component, components}
 use Rattle.flash_format.specs.Cut.{cut, damage, tail}
 use Rattle.flash_format.specs.Flashmap.{is_area, text_of}
-use Rattle.flash_device.specs.Regions.{region_of}
-use Rattle.check_findings.specs.declared.map.finding.NumberedArea.{NumberedArea}
+use Rattle.flash_map.specs.Regions.{region_of}
+use Rattle.flash_map.specs.declared.areas.NumberedArea.{NumberedArea}
 use Rattle.cbfs_walk.specs.Finding.{component_in}
 use Rattle.cbfs_walk.specs.Hashes.{hash_state}
 use Rattle.cbfs_walk.specs.Shapes.{shape_fault}

@@ -6,11 +6,12 @@ use Rattle.std.specs.Str.{is_utf8}
 use lib.Chars.{codes}
 use Rattle.flash_format.specs.declared.flashmap.Area.{Area}
 use Rattle.flash_format.specs.Flashmap.{map_len, text_of}
-use Rattle.flash_device.specs.declared.fmap.FoundMap.{FoundMap}
-use Rattle.flash_device.specs.Fmap.{found_from, found_in}
-use Rattle.check_findings.specs.declared.map.finding.NumberedArea.{NumberedArea}
+use Rattle.flash_map.specs.declared.search.FoundMap.{FoundMap}
+use Rattle.flash_map.specs.Fmap.{found_from, found_in}
+use Rattle.flash_map.specs.declared.areas.NumberedArea.{NumberedArea}
 use Rattle.check_findings.specs.declared.map.finding.MapFinding.TheVariants as findings
-use Rattle.check_findings.specs.Map.MapFindings.{area_end, has_name, map_areas, map_findings}
+use Rattle.check_findings.specs.Map.MapFindings.{map_findings}
+use Rattle.flash_map.specs.Areas.{area_end, has_name, map_areas}
 
 -- the area has bytes, and lies inside an image of n bytes
 abbrev pub IsInside : ℕ → Area → Type 0

@@ -1,5 +1,5 @@
 -- Findings of a flash map. This project defines their choice and order.
-use Rattle.std.specs.Prelude.{ℕ, ◌+◌, Bool, not, ◌&&◌, ◌||◌, List, [], ◌∷◌, ◌++◌, length, drop}
+use Rattle.std.specs.Prelude.{ℕ, ◌+◌, Bool, not, ◌&&◌, ◌||◌, List, [], ◌∷◌, ◌++◌, length}
 use Rattle.std.specs.Prelude.{nat_lt, nat_le, Option, Some, None, ◌==◌, if◌then◌else◌}
 use Rattle.std.specs.Prelude.{option_map}
 use Rattle.std.specs.List.{find, flat_map}
@@ -7,25 +7,13 @@ use Rattle.std.specs.Option.{option_map_or, option_to_list}
 use Rattle.std.specs.Str.{is_utf8}
 use lib.Chars.{codes}
 use Rattle.flash_format.specs.declared.flashmap.Area.{Area}
-use Rattle.flash_format.specs.Flashmap.{fmap_head_len, map_len, areas_from, is_area, text_of}
-use Rattle.flash_device.specs.declared.fmap.FoundMap.{FoundMap}
-use Rattle.flash_device.specs.Fmap.{found_from, found_in}
-use Rattle.check_findings.specs.declared.map.finding.NumberedArea.{NumberedArea}
+use Rattle.flash_format.specs.Flashmap.{map_len, text_of}
+use Rattle.flash_map.specs.declared.search.FoundMap.{FoundMap}
+use Rattle.flash_map.specs.Areas.{area_end, has_name, map_areas}
+use Rattle.flash_map.specs.Fmap.{found_from, found_in}
+use Rattle.flash_map.specs.declared.areas.NumberedArea.{NumberedArea}
 use Rattle.check_findings.specs.declared.map.finding.MapFinding.{MapFinding}
 use Rattle.check_findings.specs.declared.map.finding.MapFinding.TheVariants as findings
-
--- the areas with indices from `number`
-abbrev pub numbered_from : ℕ → List Area → List NumberedArea
-numbered_from number [] = []
-numbered_from number (area ∷ areas) =
-    record { number = number; area = area } ∷ numbered_from (number + 1) areas
-
-abbrev pub map_areas : List ℕ → FoundMap → List NumberedArea
-map_areas image map =
-    numbered_from 0 (areas_from map.head.nareas (drop (map.at + fmap_head_len) image))
-
-abbrev pub area_end : Area → ℕ
-area_end area = area.offset + area.size
 
 abbrev pub finding_if : Bool → MapFinding → List MapFinding
 finding_if found finding = if found then finding ∷ [] else []
@@ -36,9 +24,6 @@ area_findings n a =
     finding_if (nat_lt n (area_end a.area)) (findings.AreaOutside a)
     ++ (finding_if (a.area.size == 0) (findings.AreaEmpty a)
     ++ finding_if (not (is_utf8 (text_of a.area.name))) (findings.AreaNameNotText a))
-
-abbrev pub has_name : List ℕ → NumberedArea → Bool
-has_name name a = is_area name a.area
 
 -- of an area in `all`, if it isn't the first area of its name
 abbrev pub name_findings : List NumberedArea → NumberedArea → List MapFinding
@@ -60,12 +45,9 @@ overlap a b = ends_inside a.area b.area || ends_inside b.area a.area
 abbrev pub overlap_with : List NumberedArea → NumberedArea → List MapFinding
 overlap_with all a = option_to_list (option_map (findings.Overlap a) (find (overlap a) all))
 
-abbrev pub most_compared : ℕ
-most_compared = 4096
-
 abbrev pub overlap_findings : List NumberedArea → List MapFinding
 overlap_findings areas =
-    if nat_lt most_compared (length areas) then findings.TooManyAreas ∷ []
+    if nat_lt 4096 (length areas) then findings.TooManyAreas ∷ []
     else flat_map (overlap_with areas) areas
 
 abbrev pub holds_map : FoundMap → Area → Bool
@@ -86,10 +68,6 @@ findings_of n map next areas =
     ++ (flat_map (name_findings areas) areas
     ++ (overlap_findings areas
     ++ map_area_findings map (find (has_name (codes "FMAP")) areas))))))
-
--- the areas of the map, if any
-unfoldable pub image_areas : List ℕ → List NumberedArea
-image_areas image = option_map_or (map_areas image) (found_in image) []
 
 unfoldable pub map_findings : List ℕ → List MapFinding
 map_findings image =

@@ -7,9 +7,7 @@ use Rattle.smallvec.specs.SmallVec.{SmallVec}
 abbrev pub is_among : List ℕ → List (List ℕ) → Bool
 is_among name names = list_any (bytes_eq name) names
 
-abbrev pub has : List ℕ → List (SmallVec ℕ) → Bool
-has name keys = list_any (λ k. bytes_eq name k.items) keys
-
 -- the keys are these names
 abbrev pub HasNames : List (SmallVec ℕ) → List (List ℕ) → Type 0
-HasNames keys names = (q : List ℕ) → has q keys ≡ is_among q names
+HasNames keys names =
+    (q : List ℕ) → list_any (λ k. bytes_eq q k.items) keys ≡ is_among q names

@@ -113,14 +113,10 @@ shape_findings walk.RegionShape = findings.BadSize ∷ []
 shape_findings walk.NotCbfs = findings.NotCbfs ∷ []
 shape_findings _ = []
 
--- the bytes of a header and a name of at most 3 bytes with its NUL
-abbrev pub metadata : ℕ
-metadata = 24 + 4
-
--- the longest content in `room` bytes
+-- the longest content in `room` bytes, after a header and a name of at most 3 bytes with its NUL
 abbrev pub room_finding : ℕ → RegionFinding
 room_finding room =
-    if nat_le metadata room then findings.LargestContent (room - metadata) else findings.NoRoom
+    if nat_le 28 room then findings.LargestContent (room - 28) else findings.NoRoom
 
 abbrev pub count_findings : ℕ → ℕ → ℕ → List RegionFinding
 count_findings components free room =

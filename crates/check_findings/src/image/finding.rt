@@ -1,8 +1,9 @@
 //! Findings of an image.
 ghost use Rattle.std.specs.Prelude.{◌≡◌};
 
-use crate::map::{MapFinding, NumberedArea};
+use crate::map::MapFinding;
 use crate::region::RegionFinding;
+use flash_map::NumberedArea;
 use std::marker::Model;
 
 /// The findings of a region.

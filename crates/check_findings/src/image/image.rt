@@ -3,11 +3,11 @@ ghost use Rattle.std.specs.Prelude.{ℕ, List, All, ◌≡◌, ◌+◌, ◌-◌,
 ghost use Rattle.std.specs.Prelude.{length, map, OnOk, IfOk, nat_le, if◌then◌else◌};
 ghost use Rattle.flash_format.specs.Flashmap.{area_len};
 ghost use Rattle.flash_device.specs.Device.{fault_count};
-ghost use Rattle.flash_device.specs.Fmap.{found_in};
+ghost use Rattle.flash_map.specs.Fmap.{found_in};
 ghost use Rattle.flash_device.specs.Pages.{HasRead, OnHonest};
-ghost use Rattle.check_findings.specs.Map.MapFindings.{area_end, image_areas};
+ghost use Rattle.flash_map.specs.Areas.{area_end, image_areas};
 ghost use Rattle.check_findings.specs.declared.image.finding.ImageFinding.TheVariants.{Map};
-ghost use Rattle.check_findings.specs.Faults.{by_device};
+ghost use Rattle.flash_map.specs.Faults.{by_device};
 ghost use Rattle.check_findings.specs.Image.ImageFindings as of;
 ghost use Rattle.check_findings.specs.Image.ImageFindings.{image_findings};
 ghost use Rattle.check_findings.specs.Image.ImageFindings.{left_after};
@@ -15,14 +15,13 @@ ghost use Rattle.check_findings.specs.Image.Lookups.{HasNames};
 ghost use Rattle.check_findings.specs.Image.RegionAreas.{AreChecked, region_area, region_areas};
 ghost use Rattle.check_findings.specs.Image.RegionAreas.{sum_sizes};
 
-use crate::fault::CheckFault;
 use crate::image::finding::{ImageFinding, RegionFindings};
 use crate::image::names::{NameSet, push_missing};
 use crate::image::wanted::wanted_areas;
-use crate::lists::push_if;
-use crate::map::{MapFinding, NumberedArea, check_map};
+use crate::map::{MapFinding, check_map};
 use crate::region::check_region;
-use flash_device::{Flash, FoundMap, Paged, Region};
+use flash_device::{Flash, Paged, Region};
+use flash_map::{CheckFault, FoundMap, NumberedArea};
 use std::alloc::{AllocError, Global};
 use std::hash::RandomState;
 
@@ -87,7 +86,7 @@ fn areas_findings<F: Flash>(
     let mut findings = Vec::new(alloc);
     for area in areas {
         let finding = area_finding(alloc, keys, paged, expected, area, &mut left)?;
-        push_if(&mut findings, true, finding)?;
+        findings.push(finding)?;
     }
     Ok(findings)
 }
@@ -97,7 +96,7 @@ fn map_part(alloc: Global, found: &[MapFinding]) -> Result<Vec<ImageFinding>, Al
 {
     let mut findings = Vec::new(alloc);
     for finding in found {
-        push_if(&mut findings, true, ImageFinding::Map(*finding))?;
+        findings.push(ImageFinding::Map(*finding))?;
     }
     Ok(findings)
 }

@@ -6,7 +6,7 @@ ghost use Rattle.check_findings.specs.Image.Lookups.{HasNames};
 
 use crate::image::finding::ImageFinding;
 use crate::lists::push_if;
-use crate::map::{AreaNames, NumberedArea};
+use flash_map::{AreaNames, NumberedArea};
 use std::alloc::{AllocError, Global};
 use std::collections::BTreeMap;
 

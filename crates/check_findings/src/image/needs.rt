@@ -6,7 +6,7 @@ use crate::image::finding::ImageFinding;
 use crate::region::{Content, RegionFinding};
 
 /// The required position of a content in its area.
-#[derive(Clone, Copy, Debug, PartialEq, Eq)]
+#[derive(Clone, Copy)]
 pub enum NeededPlace {
     Any,
     /// It starts at this offset, in bytes.

@@ -1,10 +1,10 @@
 //! Smallest sizes of areas by offset.
 ghost use Rattle.std.specs.Prelude.{◌≡◌, ◌∷◌, [], ◌++◌, List, IfOk, OnOk};
-ghost use Rattle.check_findings.specs.declared.map.finding.NumberedArea.{NumberedArea};
+ghost use Rattle.flash_map.specs.declared.areas.NumberedArea.{NumberedArea};
 ghost use Rattle.check_findings.specs.Image.ImageFindings.{has_smaller};
 ghost use Rattle.check_findings.specs.Image.Lookups.{HasStarts};
 
-use crate::map::NumberedArea;
+use flash_map::NumberedArea;
 use std::alloc::{AllocError, Global};
 use std::collections::BTreeMap;
 
@@ -34,13 +34,10 @@ impl Starts {
         ensures { (before : List NumberedArea) → HasStarts self.old before →
             OnOk result (HasStarts self.new (before ++ area.now ∷ [])) }
     {
-        if area.area.size < HEAD {
-            return Ok(());
+        let size = area.area.size;
+        if size >= HEAD && !self.has_smaller(area) {
+            self.smallest.insert(area.area.offset, size)?;
         }
-        if self.has_smaller(area) {
-            return Ok(());
-        }
-        self.smallest.insert(area.area.offset, area.area.size)?;
         Ok(())
     }
 
@@ -49,8 +46,9 @@ impl Starts {
         ensures { (areas : List NumberedArea) → HasStarts self.now areas →
             result ≡ has_smaller areas area.now }
     {
-        self.smallest
-            .get(&area.area.offset)
-            .is_some_and(|smallest| *smallest < area.area.size)
+        match self.smallest.get(&area.area.offset) {
+            Some(smallest) => *smallest < area.area.size,
+            None => false,
+        }
     }
 }

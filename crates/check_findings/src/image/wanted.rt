@@ -2,19 +2,18 @@
 ghost use Rattle.std.specs.Prelude.{ℕ, ◌≡◌, ◌≤◌, List, All, IsTrue, length, IfOk};
 ghost use Rattle.flash_device.specs.Device.{fault_count};
 ghost use Rattle.flash_device.specs.Pages.{HasRead, HasAnswered, OnHonest};
-ghost use Rattle.check_findings.specs.declared.map.finding.NumberedArea.{NumberedArea};
-ghost use Rattle.check_findings.specs.Faults.{by_device};
-ghost use Rattle.check_findings.specs.Map.MapFindings.{area_end};
+ghost use Rattle.flash_map.specs.declared.areas.NumberedArea.{NumberedArea};
+ghost use Rattle.flash_map.specs.Faults.{by_device};
+ghost use Rattle.flash_map.specs.Areas.{area_end};
 ghost use Rattle.check_findings.specs.Image.ImageFindings.{cbfs_areas, is_wanted, wanted_areas};
 ghost use Rattle.check_findings.specs.Image.Lookups.{HasNames, HasStarts};
 
-use crate::fault::CheckFault;
 use crate::image::names::NameSet;
 use crate::image::starts::Starts;
 use crate::lists::push_if;
-use crate::map::NumberedArea;
 use crate::region::has_entry_at;
 use flash_device::{Flash, FlashFault, Paged, Region};
+use flash_map::{CheckFault, NumberedArea};
 use std::alloc::Global;
 
 /// Returns the CBFS areas: each lies inside the image, begins with an entry, and is the smallest

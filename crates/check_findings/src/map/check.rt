@@ -3,17 +3,16 @@
 ghost use Rattle.std.specs.Prelude.{◌≡◌, ◌+◌, ◌*◌, ◌/◌, ◌≤◌, length, IfOk};
 ghost use Rattle.flash_format.specs.Flashmap.{area_len};
 ghost use Rattle.flash_device.specs.Device.{fault_count};
-ghost use Rattle.flash_device.specs.Fmap.{found_in};
+ghost use Rattle.flash_map.specs.Fmap.{found_in};
 ghost use Rattle.flash_device.specs.Pages.{HasRead, OnHonest};
-ghost use Rattle.check_findings.specs.Faults.{by_device};
-ghost use Rattle.check_findings.specs.Map.MapFindings.{image_areas, map_findings};
+ghost use Rattle.flash_map.specs.Faults.{by_device};
+ghost use Rattle.check_findings.specs.Map.MapFindings.{map_findings};
+ghost use Rattle.flash_map.specs.Areas.{image_areas};
 
-use crate::fault::CheckFault;
-use crate::lists::push_if;
-use crate::map::areas::{ImageMap, image_map};
-use crate::map::finding::{MapFinding, NumberedArea};
+use crate::map::finding::MapFinding;
 use crate::map::findings::findings_of;
-use flash_device::{Flash, FoundMap, Paged, find_fmap_from};
+use flash_device::{Flash, Paged};
+use flash_map::{CheckFault, FoundMap, ImageMap, NumberedArea, find_fmap_from, image_map};
 use std::alloc::Global;
 
 /// A map's findings, with the map and its areas.
@@ -44,7 +43,7 @@ pub fn check_map<F: Flash>(alloc: Global, paged: &mut Paged<F>) -> Result<Checke
     let ImageMap { found, areas } = image_map(alloc, paged)?;
     let Some(map) = found else {
         let mut findings = Vec::new(alloc);
-        push_if(&mut findings, true, MapFinding::NoMap)?;
+        findings.push(MapFinding::NoMap)?;
         return Ok(CheckedMap {
             findings,
             found,

@@ -1,15 +1,6 @@
 //! Findings of a flash map.
 
-use flash_device::{FlashFault, FoundMap};
-use flash_format::Area;
-use std::alloc::AllocError;
-
-/// An area with its index in the map.
-#[derive(Clone, Copy, Drop)]
-pub struct NumberedArea {
-    pub number: u16,
-    pub area: Area,
-}
+use flash_map::{FoundMap, NumberedArea};
 
 pub type MapFindings = Vec<MapFinding>;
 

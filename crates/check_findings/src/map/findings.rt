@@ -6,16 +6,16 @@ ghost use Rattle.std.specs.Option.{option_to_list};
 ghost use lib.Chars.{codes};
 ghost use Rattle.flash_format.specs.Flashmap.{map_len};
 ghost use Rattle.check_findings.specs.Map.MapFindings.{area_findings, finding_if, findings_of};
-ghost use Rattle.check_findings.specs.Map.MapFindings.{has_name, holds_map, map_area_findings};
+ghost use Rattle.check_findings.specs.Map.MapFindings.{holds_map, map_area_findings};
+ghost use Rattle.flash_map.specs.Areas.{has_name};
 
-use crate::fault::Pushed;
-use crate::lists::push_if;
-use crate::map::finding::{MapFinding, MapFindings, NumberedArea};
+use crate::lists::{Pushed, push_if};
+use crate::map::finding::{MapFinding, MapFindings};
 use crate::map::names::push_name_findings;
 use crate::map::overlaps::push_overlap_findings;
 use crate::text::is_text;
-use flash_device::FoundMap;
 use flash_format::{Area, FmapHead};
+use flash_map::{FoundMap, NumberedArea};
 use std::alloc::{AllocError, Global};
 
 /// Returns the findings in an image of `len` bytes. `next` is the map at the next higher offset.
@@ -31,7 +31,7 @@ pub fn findings_of(
 {
     let mut findings = Vec::new(alloc);
     let has_other_size = u64::from(map.head.size) != len;
-    push_if(&mut findings, true, MapFinding::Map(*map))?;
+    findings.push(MapFinding::Map(*map))?;
     push_some(&mut findings, next.map(MapFinding::OtherMap))?;
     push_if(&mut findings, has_other_size, MapFinding::OtherSize)?;
     push_area_findings(&mut findings, len, areas)?;
@@ -41,7 +41,7 @@ pub fn findings_of(
     Ok(findings)
 }
 
-pub fn push_some(findings: &mut MapFindings, finding: Option<MapFinding>) -> Pushed
+fn push_some(findings: &mut MapFindings, finding: Option<MapFinding>) -> Pushed
     ensures { OnOk result (findings.new.items ≡ findings.old.items ++ option_to_list finding) }
 {
     if let Some(finding) = finding {

@@ -2,55 +2,14 @@
 
 ghost use Rattle.std.specs.Prelude.{◌≡◌, [], ◌∷◌, ◌++◌, List, IfOk, OnOk};
 ghost use Rattle.std.specs.List.{flat_map};
-ghost use Rattle.check_findings.specs.declared.map.finding.NumberedArea.{NumberedArea};
+ghost use Rattle.flash_map.specs.declared.areas.NumberedArea.{NumberedArea};
 ghost use Rattle.check_findings.specs.Map.MapFindings.{name_findings};
 
-use crate::fault::Pushed;
-use crate::lists::push_if;
-use crate::map::finding::{MapFinding, MapFindings, NumberedArea};
+use crate::lists::{Pushed, push_if};
+use crate::map::finding::{MapFinding, MapFindings};
+use flash_map::{AreaNames, NumberedArea};
 use std::alloc::{AllocError, Global};
 use std::collections::BTreeMap;
-
-/// The first area of each name.
-#[derive(Drop)]
-pub struct AreaNames<'a> {
-    first: BTreeMap<&'a [u8], NumberedArea>,
-}
-
-impl<'a> AreaNames<'a> {
-    ghost use Rattle.check_findings.specs.Map.Names.{area_for, Notes};
-
-    /// Returns the names of these areas.
-    pub fn of(alloc: Global, areas: &'a [NumberedArea]) -> Result<AreaNames<'a>, AllocError>
-        ensures { IfOk result (λ names. Notes names areas.now) }
-    {
-        let mut names = AreaNames {
-            first: BTreeMap::new(alloc),
-        };
-        for area in areas {
-            names.add(area)?;
-        }
-        Ok(names)
-    }
-
-    /// Returns the first area with the name.
-    pub fn get(&self, name: &'a [u8]) -> Option<NumberedArea>
-        ensures { result ≡ area_for self.now name.now }
-    {
-        self.first.get(&name).copied()
-    }
-
-    fn add(&mut self, area: &'a NumberedArea) -> Result<(), AllocError>
-        ensures { (before : List NumberedArea) → Notes self.old before →
-            OnOk result (Notes self.new (before ++ area.now ∷ [])) }
-    {
-        let name = area.area.text();
-        if self.get(name).is_none() {
-            self.first.insert(name, *area)?;
-        }
-        Ok(())
-    }
-}
 
 pub fn push_name_findings(
     alloc: Global,

@@ -4,11 +4,10 @@ ghost use Rattle.std.specs.Prelude.{◌≡◌, ◌++◌, OnOk};
 ghost use Rattle.std.specs.List.{find};
 ghost use Rattle.check_findings.specs.Map.MapFindings.{ends_inside, overlap, overlap_findings};
 
-use crate::fault::Pushed;
-use crate::lists::push_if;
-use crate::map::finding::{MapFinding, MapFindings, NumberedArea};
-use crate::map::findings::push_some;
+use crate::lists::{Pushed, push_if};
+use crate::map::finding::{MapFinding, MapFindings};
 use flash_format::Area;
+use flash_map::NumberedArea;
 
 /// The limit of pairwise comparisons. All 65535 areas of a map would take seconds.
 const MOST_COMPARED: usize = 4096;
@@ -20,9 +19,9 @@ pub fn push_overlap_findings(findings: &mut MapFindings, areas: &[NumberedArea])
         return push_if(findings, true, MapFinding::TooManyAreas);
     }
     for a in areas {
-        let other = first_overlap(areas, a);
-        let finding = other.map(|other| MapFinding::Overlap { area: *a, other });
-        push_some(findings, finding)?;
+        if let Some(other) = first_overlap(areas, a) {
+            findings.push(MapFinding::Overlap { area: *a, other })?;
+        }
     }
     Ok(())
 }

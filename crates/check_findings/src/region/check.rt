@@ -1,16 +1,17 @@
 //! The region check.
-ghost use Rattle.std.specs.Prelude.{◌≡◌, ◌↔◌, ◌+◌, ◌*◌, ◌/◌, IfOk, IsErrOf};
+ghost use Rattle.std.specs.Prelude.{◌≡◌, ◌+◌, ◌*◌, ◌/◌, ℕ, List, IfOk, OnOk};
 ghost use Rattle.flash_device.specs.Device.{fault_count};
 ghost use Rattle.flash_device.specs.Pages.{HasRead, OnHonestIn};
 ghost use Rattle.flash_device.specs.Regions.{LiesOn};
 ghost use Rattle.cbfs_walk.specs.Cells.{IsCellIn, cell_in};
 ghost use Rattle.cbfs_walk.specs.Walks.{StandsIn};
-ghost use Rattle.check_findings.specs.Faults.{by_device};
+ghost use Rattle.flash_map.specs.Faults.{by_device};
+ghost use Rattle.check_findings.specs.Region.Names.{HasNames};
+ghost use Rattle.check_findings.specs.Region.RegionFindings.{cell_findings, names_after};
 ghost use Rattle.check_findings.specs.Region.RegionFindings.{region_findings};
-ghost use Rattle.check_findings.specs.Region.Reports.{HasReported, Reported, Reports};
-ghost use Rattle.check_findings.specs.Region.Reports.{refused_findings, with_cell};
+ghost use Rattle.check_findings.specs.Region.Reports.{Gains};
 
-use crate::fault::CheckFault;
+use crate::lists::push_if;
 use crate::region::count::Count;
 use crate::region::finding::{Content, HashFinding, RegionFinding};
 use crate::region::report::Report;
@@ -19,6 +20,7 @@ use cbfs_walk::{
     Cell, Step, Walk, WalkFault, cells_stand_in_their_image, check_hash, name, packing,
 };
 use flash_device::{Flash, Paged, Region};
+use flash_map::CheckFault;
 use std::alloc::Global;
 use std::hash::RandomState;
 
@@ -34,13 +36,18 @@ fn push_cell<F: Flash>(
     ensures after { HasRead F.facts (3 + 2 * (cell.now.span / 3840)) (fault_count by_device result)
         paged.old paged.new }
     ensures found { OnHonestIn F.facts paged.old.device region (λ x. StandsIn x cell.now →
-        Reports result report.old report.new
-        (λ t. with_cell t cell.now.at (cell_in x cell.now))) }
+        (names : List (List ℕ)) → HasNames report.old.names.keys names →
+        OnOk result (Gains report.old report.new (names_after names (cell_in x cell.now))
+        (cell_findings names cell.now.at (cell_in x cell.now)))) }
 {
     cells_stand_in_their_image();
     if cell.head.is_free() {
         let is_deleted = cell.head.kind == 0;
-        report.push_if(is_deleted, RegionFinding::Deleted { at: cell.at })?;
+        push_if(
+            &mut report.findings,
+            is_deleted,
+            RegionFinding::Deleted { at: cell.at },
+        )?;
         return Ok(());
     }
     let mut field = [0; 256];
@@ -56,25 +63,6 @@ fn push_cell<F: Flash>(
     };
     report.push_component(cell.at, &field[..len], content)?;
     Ok(())
-}
-
-/// Returns the findings if the walk ends with a fault.
-fn refused(report: Report, count: Count, fault: WalkFault) -> Result<Vec<RegionFinding>, CheckFault>
-    ensures found { (t : Reported) → HasReported report t → IfOk result (λ all.
-        all.items ≡ refused_findings t.findings count fault) }
-    ensures device { IsErrOf result CheckFault.Device ↔ (fault ≡ WalkFault.Device) }
-{
-    let mut report = report;
-    match fault {
-        WalkFault::Device => return Err(CheckFault::Device),
-        WalkFault::RegionShape => report.push_if(true, RegionFinding::BadSize)?,
-        WalkFault::NotCbfs => report.push_if(true, RegionFinding::NotCbfs)?,
-        WalkFault::Damaged { at, kind } => {
-            report.push_if(true, RegionFinding::Damaged { at, kind })?;
-            return Ok(report.counted(count, at)?);
-        }
-    }
-    Ok(report.findings)
 }
 
 /// Returns the findings of a region, entry by entry. The hash keys don't change them. Returns
@@ -108,14 +96,26 @@ pub fn check_region<F: Flash>(
                 at = cell.at + cell.span;
             }
             Ok(Step::Tail(_)) => {
-                push_tail(paged, region, at, &mut report)?;
-                return Ok(report.counted(count, at)?);
+                push_tail(paged, region, at, &mut report.findings)?;
+                return Ok(count.counted(report.findings, at)?);
             }
             Ok(Step::End) => {
-                report.push_if(true, RegionFinding::Complete)?;
-                return Ok(report.counted(count, size)?);
+                report.findings.push(RegionFinding::Complete)?;
+                return Ok(count.counted(report.findings, size)?);
             }
-            Err(fault) => return refused(report, count, fault),
+            Err(WalkFault::Damaged { at, kind }) => {
+                report.findings.push(RegionFinding::Damaged { at, kind })?;
+                return Ok(count.counted(report.findings, at)?);
+            }
+            Err(WalkFault::RegionShape) => {
+                report.findings.push(RegionFinding::BadSize)?;
+                return Ok(report.findings);
+            }
+            Err(WalkFault::NotCbfs) => {
+                report.findings.push(RegionFinding::NotCbfs)?;
+                return Ok(report.findings);
+            }
+            Err(WalkFault::Device) => return Err(CheckFault::Device),
         }
     }
 }

@@ -1,9 +1,14 @@
 //! Sums over entries.
-ghost use Rattle.std.specs.Prelude.{◌≡◌, ◌+◌, ◌^◌, ◌<◌};
+ghost use Rattle.std.specs.Prelude.{◌≡◌, ◌+◌, ◌^◌, ◌<◌, ◌++◌, IfOk};
 ghost use Rattle.flash_format.specs.Head.{is_free};
 ghost use Rattle.check_findings.specs.Region.Counts.{usable};
 
+use crate::region::finding::RegionFinding;
 use cbfs_walk::Cell;
+use std::alloc::AllocError;
+
+/// The bytes of a header and a name of at most 3 bytes with its NUL.
+const METADATA: u64 = 28;
 
 /// The sums over the entries before an offset.
 #[derive(Clone, Copy)]
@@ -30,6 +35,7 @@ fn usable(size: u64, start: u64, end: u64) -> u64
 impl Count {
     ghost use Rattle.check_findings.specs.Region.Counts.{IsCountBefore, count_after};
     ghost use Rattle.check_findings.specs.Region.Counts.{nothing, room_to};
+    ghost use Rattle.check_findings.specs.Region.Reports.{counted};
 
     pub fn new(size: u64) -> Count
         ensures { result ≡ nothing size }
@@ -44,7 +50,7 @@ impl Count {
     }
 
     /// Returns the most usable bytes of an empty run, if the entries end here.
-    pub fn room_to(self, end: u64) -> u64
+    fn room_to(self, end: u64) -> u64
         ensures { result ≡ room_to self end }
     {
         self.room.max(usable(self.size, self.start, end))
@@ -67,5 +73,26 @@ impl Count {
             next.start = cell.at + cell.span;
         }
         next
+    }
+
+    /// Returns all findings, if the entries with these findings end here.
+    pub fn counted(
+        self,
+        findings: Vec<RegionFinding>,
+        end: u64,
+    ) -> Result<Vec<RegionFinding>, AllocError>
+        ensures { IfOk result (λ all. all.items ≡ findings.items ++ counted self end) }
+    {
+        let mut findings = findings;
+        findings.push(match self.components {
+            0 => RegionFinding::NoComponents,
+            components => RegionFinding::Components(components),
+        })?;
+        findings.push(RegionFinding::FreeBytes(self.free))?;
+        findings.push(match self.room_to(end).checked_sub(METADATA) {
+            Some(len) => RegionFinding::LargestContent(len),
+            None => RegionFinding::NoRoom,
+        })?;
+        Ok(findings)
     }
 }

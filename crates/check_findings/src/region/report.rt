@@ -1,17 +1,15 @@
-//! The region report.
-ghost use Rattle.std.specs.Prelude.{◌≡◌, [], ◌∷◌, ◌++◌, IfOk, if◌then◌else◌};
+//! The report of a region's entries.
+ghost use Rattle.std.specs.Prelude.{◌≡◌, ℕ, List, [], ◌∷◌, OnOk};
+ghost use Rattle.check_findings.specs.Region.Names.{HasNames, is_among};
+ghost use Rattle.check_findings.specs.Region.Reports.{Gains};
+ghost use Rattle.check_findings.specs.declared.region.finding.RegionFinding.TheVariants as findings;
 
-use crate::fault::Pushed;
-use crate::lists::push_if;
-use crate::region::count::Count;
+use crate::lists::Pushed;
 use crate::region::finding::{Content, Name, RegionFinding};
 use smallvec::SmallVec;
-use std::alloc::{AllocError, Global};
+use std::alloc::Global;
 use std::collections::HashSet;
 use std::hash::RandomState;
-
-/// The bytes of a header and a name of at most 3 bytes with its NUL.
-const METADATA: u64 = 28;
 
 /// Names, hashed with random keys, since an image's author chooses names.
 type Names = HashSet<SmallVec<u8, 16>, RandomState>;
@@ -25,9 +23,6 @@ pub struct Report {
 }
 
 impl Report {
-    ghost use Rattle.check_findings.specs.Region.Reports.{HasReported, Reported, Reports, counted};
-    ghost use Rattle.check_findings.specs.Region.Reports.{with_component, with_findings};
-
     pub fn new(alloc: Global, keys: RandomState) -> Report
         ensures findings { result.findings.items ≡ [] }
         ensures names { result.names.keys ≡ [] }
@@ -39,15 +34,10 @@ impl Report {
         }
     }
 
-    pub fn push_if(&mut self, found: bool, finding: RegionFinding) -> Pushed
-        ensures { Reports result self.old self.new
-            (λ t. with_findings t (if found then finding ∷ [] else [])) }
-    {
-        push_if(&mut self.findings, found, finding)
-    }
-
     pub fn push_component(&mut self, at: u64, name: &[u8], content: Content) -> Pushed
-        ensures { Reports result self.old self.new (λ t. with_component t at name.now content) }
+        ensures { (names : List (List ℕ)) → HasNames self.old.names.keys names →
+            OnOk result (Gains self.old self.new (name.now ∷ names)
+            (findings.Component at name.now (is_among name.now names) content ∷ [])) }
     {
         let key = SmallVec::from_slice(self.alloc, name)?;
         let is_new = self.names.insert(key)?;
@@ -59,23 +49,5 @@ impl Report {
             content,
         })?;
         Ok(())
-    }
-
-    /// Returns all findings, if the entries end here.
-    pub fn counted(self, count: Count, end: u64) -> Result<Vec<RegionFinding>, AllocError>
-        ensures { (t : Reported) → HasReported self t →
-            IfOk result (λ all. all.items ≡ t.findings ++ counted count end) }
-    {
-        let mut findings = self.findings;
-        findings.push(match count.components {
-            0 => RegionFinding::NoComponents,
-            components => RegionFinding::Components(components),
-        })?;
-        findings.push(RegionFinding::FreeBytes(count.free))?;
-        findings.push(match count.room_to(end).checked_sub(METADATA) {
-            Some(len) => RegionFinding::LargestContent(len),
-            None => RegionFinding::NoRoom,
-        })?;
-        Ok(findings)
     }
 }

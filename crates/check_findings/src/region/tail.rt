@@ -1,20 +1,19 @@
 //! The bytes after the entries.
-ghost use Rattle.std.specs.Prelude.{◌≡◌, ◌+◌, ◌-◌, ◌/◌, ◌^◌, ◌<◌, ◌≤◌, length, IfOk};
+ghost use Rattle.std.specs.Prelude.{◌≡◌, ◌+◌, ◌-◌, ◌/◌, ◌^◌, ◌<◌, ◌≤◌, ◌++◌, length, IfOk, OnOk};
 ghost use Rattle.std.specs.List.{position_from};
 ghost use Rattle.flash_device.specs.Device.{fault_count};
 ghost use Rattle.flash_device.specs.Pages.{HasAnswered, HasRead, OnHonestIn};
 ghost use Rattle.flash_device.specs.Regions.{LiesOn};
-ghost use Rattle.check_findings.specs.Faults.{by_device};
+ghost use Rattle.flash_map.specs.Faults.{by_device};
 ghost use Rattle.check_findings.specs.Region.RegionFindings.{is_filled, tail_bytes};
 ghost use Rattle.check_findings.specs.Region.RegionFindings.{entries_findings};
 ghost use Rattle.check_findings.specs.Region.RegionFindings.{tail_findings};
-ghost use Rattle.check_findings.specs.Region.Reports.{Reports, with_findings};
 
-use crate::fault::CheckFault;
+use crate::lists::push_if;
 use crate::region::finding::RegionFinding;
-use crate::region::report::Report;
 use crate::region::start::has_entry_at;
 use flash_device::{Flash, FlashFault, PIECE, Paged, Region};
+use flash_map::CheckFault;
 
 /// Returns the offset of the first byte except 0xff and 0x00. The bytes begin at `at`.
 fn first_filled(bytes: &[u8], at: u64) -> Option<u64>
@@ -62,7 +61,7 @@ fn push_entries<F: Flash>(
     paged: &mut Paged<F>,
     region: Region,
     at: u64,
-    report: &mut Report,
+    findings: &mut Vec<RegionFinding>,
 ) -> Result<(), CheckFault>
     requires region { LiesOn region (F.facts paged.old.device) }
     requires inside { at ≤ region.size }
@@ -70,14 +69,14 @@ fn push_entries<F: Flash>(
     ensures after { HasRead F.facts ((region.size - at) / 64) (fault_count by_device result)
         paged.old paged.new }
     ensures found { OnHonestIn F.facts paged.old.device region (λ x.
-        Reports result report.old report.new
-        (λ t. with_findings t (entries_findings ((length x - at) / 64) at x))) }
+        OnOk result (findings.new.items
+        ≡ findings.old.items ++ entries_findings ((length x - at) / 64) at x)) }
 {
     let lines = (region.size() - at) / 64;
     for i in 0..lines {
         let at = at + 64 * i;
         let has_entry = has_entry_at(paged, region, at)?;
-        report.push_if(has_entry, RegionFinding::TailEntry { at })?;
+        push_if(findings, has_entry, RegionFinding::TailEntry { at })?;
     }
     Ok(())
 }
@@ -87,7 +86,7 @@ pub fn push_tail<F: Flash>(
     paged: &mut Paged<F>,
     region: Region,
     at: u64,
-    report: &mut Report,
+    findings: &mut Vec<RegionFinding>,
 ) -> Result<(), CheckFault>
     requires region { LiesOn region (F.facts paged.old.device) }
     requires inside { at ≤ region.size }
@@ -95,12 +94,12 @@ pub fn push_tail<F: Flash>(
     ensures after { HasRead F.facts ((region.size - at + 4095) / 4096 + (region.size - at) / 64)
         (fault_count by_device result) paged.old paged.new }
     ensures found { OnHonestIn F.facts paged.old.device region (λ x.
-        Reports result report.old report.new (λ t. with_findings t (tail_findings at x))) }
+        OnOk result (findings.new.items ≡ findings.old.items ++ tail_findings at x)) }
 {
-    report.push_if(true, RegionFinding::Tail { at })?;
+    findings.push(RegionFinding::Tail { at })?;
     let Some(filled) = find_filled(paged, region, at)? else {
         return Ok(());
     };
-    report.push_if(true, RegionFinding::TailFilled { at: filled })?;
-    push_entries(paged, region, at, report)
+    findings.push(RegionFinding::TailFilled { at: filled })?;
+    push_entries(paged, region, at, findings)
 }

@@ -2,7 +2,7 @@
 use Rattle.std.specs.Prelude.{ℕ, List, [], ◌∷◌, ◌++◌, Bool, Option, Some, None}
 use Rattle.std.specs.Prelude.{count_by, if◌then◌else◌}
 use Rattle.flash_format.specs.Flashmap.{text_of}
-use Rattle.check_findings.specs.declared.map.finding.NumberedArea.{NumberedArea}
+use Rattle.flash_map.specs.declared.areas.NumberedArea.{NumberedArea}
 use Rattle.std.specs.Fmt.{decimal}
 use Rattle.std.specs.Option.{option_copied, option_map_or}
 use Rattle.std.specs.Str.{bytes_eq}

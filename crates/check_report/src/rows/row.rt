@@ -7,7 +7,7 @@ ghost use Rattle.check_report.specs.Rows.Rows.{verdict_word};
 ghost use Rattle.check_report.specs.Rows.Fields.{seen_field, seen_value};
 
 use crate::rows::field::{Field, Value};
-use check_findings::NumberedArea;
+use flash_map::NumberedArea;
 
 /// The classification of a row.
 #[derive(Clone, Copy)]

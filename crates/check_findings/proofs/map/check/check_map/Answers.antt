@@ -1,10 +1,11 @@
 use Rattle.std.proofs.Common.{◌≡◌, ◌∙◌, ℕ, ◌+◌, List, length, Option, Some, refl, rules, sym}
-use Rattle.flash_device.specs.declared.fmap.FoundMap.{FoundMap}
-use Rattle.flash_device.specs.Fmap.{found_from, found_in}
+use Rattle.flash_map.specs.declared.search.FoundMap.{FoundMap}
+use Rattle.flash_map.specs.Fmap.{found_from, found_in}
 use Rattle.flash_device.proofs.DeviceLemmas.{honest_still}
-use Rattle.check_findings.specs.declared.map.finding.NumberedArea.{NumberedArea}
+use Rattle.flash_map.specs.declared.areas.NumberedArea.{NumberedArea}
 use Rattle.check_findings.specs.declared.map.finding.MapFinding.{MapFinding}
-use Rattle.check_findings.specs.Map.MapFindings.{findings_of, image_areas, map_findings}
+use Rattle.check_findings.specs.Map.MapFindings.{findings_of, map_findings}
+use Rattle.flash_map.specs.Areas.{image_areas}
 use Rattle.check_findings.proofs.map.check.check_map.Goals as goal
 
 pub returns-in_default-clause-after : goal.returns-in_default-clause-after

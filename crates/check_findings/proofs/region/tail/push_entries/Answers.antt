@@ -1,17 +1,14 @@
-use Rattle.std.proofs.Common.{◌+◌, ◌*◌, Ok, add-one, subst, arith}
+use Rattle.std.proofs.Common.{◌≡◌, ◌+◌, ◌*◌, ◌++◌, sym, add-one, append-nil, append_assoc, subst, arith}
 use Rattle.flash_device.specs.Regions.{bytes_in}
 use Rattle.flash_device.proofs.DeviceLemmas.{honest_still, length-bytes_in}
 use Rattle.flash_device.proofs.WindowLemmas.{HasRead-none, HasRead-then}
-use Rattle.check_findings.specs.declared.fault.CheckFault.{CheckFault}
 use Rattle.check_findings.specs.Region.RegionFindings.{entries_findings, entry_findings}
-use Rattle.check_findings.specs.Region.Reports.{Reports, with_findings}
 use Rattle.check_findings.proofs.RegionLemmas.Tails.{entries_last}
-use Rattle.check_findings.proofs.RegionLemmas.Reporting.{reports_both, reports_none}
 use Rattle.check_findings.proofs.region.tail.push_entries.Goals as goal
 
 pub loop-i-init : goal.loop-i-init
 unfolding entries_findings
-loop-i-init g c = record { read = HasRead-none _ _; found = λ h. reports_none CheckFault c.args.report.now }
+loop-i-init g c = record { read = HasRead-none _ _; found = λ h. sym (append-nil c.args.findings.now.items) }
 
 pub loop-i-preserved : goal.loop-i-preserved
 loop-i-preserved g c =
@@ -25,13 +22,12 @@ loop-i-preserved g c =
       read = HasRead-then _ _ 1 0 _ _ _ had.read entry.after.read;
       found = λ h.
           let has = rw (device.unchanged h) at (entry.has (honest_still device.calls.same_honesty h)) in
-          rw (add-one i, entries_last i at x)
-          (reports_both {E = CheckFault} (Ok tt) c.args.report.now c.loop-i.report c.push_if.new.self (entries_findings i at x) (entry_findings (at + 64 * i) x) (had.found h) (rw has at c.in_ok-push_if.ensures));
+          rw (add-one i, entries_last i at x, sym (append_assoc c.args.findings.now.items (entries_findings i at x) (entry_findings (at + 64 * i) x)), sym (had.found h)) (rw has at c.in_ok-push_if.ensures);
     }
 
 pub returns-clause-found : goal.returns-clause-found
 returns-clause-found g c = λ h.
     let r = c.args.region in
     let image = (g.F.Flash.facts c.args.paged.now.device).content in
-    subst (λ n. Reports {E = CheckFault} (Ok tt) c.args.report.now c.loop-i.report (λ t. with_findings t (entries_findings n c.args.at (bytes_in r image))))
+    subst (λ n. c.loop-i.findings.items ≡ c.args.findings.now.items ++ entries_findings n c.args.at (bytes_in r image))
     (omega (arith, c.loop-i-test.false, c.size.ensures, length-bytes_in r image c.requires.region.inside)) (c.loop-i.invariant.found h)

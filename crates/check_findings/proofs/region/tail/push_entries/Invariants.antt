@@ -1,8 +1,6 @@
-use Rattle.std.proofs.Common.{Ok}
+use Rattle.std.proofs.Common.{◌≡◌, ◌++◌}
 use Rattle.flash_device.specs.Pages.{HasRead, OnHonestIn}
-use Rattle.check_findings.specs.declared.fault.CheckFault.{CheckFault}
 use Rattle.check_findings.specs.Region.RegionFindings.{entries_findings}
-use Rattle.check_findings.specs.Region.Reports.{Reports, with_findings}
 use Rattle.check_findings.proofs.region.tail.push_entries.Given as goal
 
 abbrev pub invariant-loop-i : goal.invariant-loop-i
@@ -11,5 +9,5 @@ invariant-loop-i g l =
     record {
       read : HasRead facts l.i 0 l.initial.paged l.paged;
       found : OnHonestIn facts l.initial.paged.device l.region (λ x.
-          Reports {E = CheckFault} (Ok tt) l.initial.report l.report (λ t. with_findings t (entries_findings l.i l.at x)));
+          l.findings.items ≡ l.initial.findings.items ++ entries_findings l.i l.at x);
     }

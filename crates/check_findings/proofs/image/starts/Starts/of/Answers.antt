@@ -1,5 +1,5 @@
 use Rattle.check_findings.specs.Image.Lookups.{HasStarts}
-use Rattle.check_findings.proofs.MapLemmas.NameLemmas.{one_taken}
+use Rattle.flash_map.proofs.NameLemmas.{one_taken}
 use Rattle.check_findings.proofs.image.starts.Starts.of.Goals as goal
 
 pub loop-area-preserved : goal.loop-area-preserved

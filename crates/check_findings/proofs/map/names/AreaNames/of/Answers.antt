@@ -1,6 +1,0 @@
-use Rattle.check_findings.specs.Map.Names.{Notes}
-use Rattle.check_findings.proofs.MapLemmas.NameLemmas.{one_taken}
-use Rattle.check_findings.proofs.map.names.AreaNames.of.Goals as goal
-
-pub loop-area-preserved : goal.loop-area-preserved
-loop-area-preserved c = one_taken (Notes c.loop-area.names) (Notes c.add.new.self) c.args.areas.now c.loop-area.area-index _ c.loop-area-test.true (c.in_ok-add.ensures _) c.loop-area.invariant

@@ -1,6 +1,0 @@
-use Rattle.std.proofs.Common.{arith, ◌+◌, ◌*◌}
-use Rattle.flash_device.proofs.FmapLemmas.{area_read}
-use Rattle.flash_device.proofs.fmap.area.Goals as goal
-
-pub returns-clause-area : goal.returns-clause-area
-returns-clause-area g c = λ h. area_read _ _ (c.args.map.now.at + 56 + 42 * c.from.result) (c.args.map.now.at + 56 + 42 * c.args.i) _ c.read.ensures (c.in_ok-read_small.ensures.read h) (omega (arith, c.from.ensures))

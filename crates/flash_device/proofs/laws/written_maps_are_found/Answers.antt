@@ -1,5 +1,0 @@
-use Rattle.flash_device.proofs.WrittenMaps.{maps_found}
-use Rattle.flash_device.proofs.laws.written_maps_are_found.Goals as goal
-
-pub returns : goal.returns
-returns c = maps_found

@@ -1,0 +1,74 @@
+//! The areas of a flash map.
+
+ghost use Rattle.std.specs.Prelude.{◌≡◌, ◌+◌, ◌*◌, ◌/◌, ◌≤◌, length, IfOk, IfSome};
+ghost use Rattle.flash_format.specs.Flashmap.{area_len, map_len};
+ghost use Rattle.flash_device.specs.Device.{fault_count};
+ghost use Rattle.flash_device.specs.Pages.{HasRead, OnHonest};
+ghost use Rattle.flash_map.specs.Areas.{image_areas, map_areas};
+ghost use Rattle.flash_map.specs.Faults.{by_device};
+ghost use Rattle.flash_map.specs.Fmap.{found_in};
+
+use crate::fault::CheckFault;
+use crate::search::{FoundMap, area, find_fmap};
+use flash_device::{Flash, Paged};
+use flash_format::Area;
+use std::alloc::Global;
+
+/// An area with its index in the map.
+#[derive(Clone, Copy, Drop)]
+pub struct NumberedArea {
+    pub number: u16,
+    pub area: Area,
+}
+
+/// The flash map of an image.
+#[derive(Drop)]
+pub struct ImageMap {
+    pub found: Option<FoundMap>,
+    pub areas: Vec<NumberedArea>,
+}
+
+/// Returns the image's map and areas, or `Device` exactly if a read failed.
+pub fn image_map<F: Flash>(alloc: Global, paged: &mut Paged<F>) -> Result<ImageMap, CheckFault>
+    ensures after { HasRead F.facts (length (F.facts paged.old.device).content / 2
+        + length (F.facts paged.old.device).content / area_len + 8) (fault_count by_device result)
+        paged.old paged.new }
+    ensures inside { IfOk result (λ map. IfSome map.found (λ found.
+        found.at + map_len found.head ≤ length (F.facts paged.old.device).content)) }
+    ensures fits { IfOk result (λ map.
+        area_len * length map.areas.items ≤ length (F.facts paged.old.device).content) }
+    ensures found { OnHonest F.facts paged.old.device (λ image.
+        IfOk result (λ map. map.found ≡ found_in image)) }
+    ensures areas { OnHonest F.facts paged.old.device (λ image.
+        IfOk result (λ map. map.areas.items ≡ image_areas image)) }
+{
+    let Some(found) = find_fmap(paged)? else {
+        let areas = Vec::new(alloc);
+        return Ok(ImageMap { found: None, areas });
+    };
+    let areas = map_areas(alloc, paged, &found)?;
+    let found = Some(found);
+    Ok(ImageMap { found, areas })
+}
+
+#[tactic(auto, unfolding(flash_format::specs::Flashmap::areas_from))]
+fn map_areas<F: Flash>(
+    alloc: Global,
+    paged: &mut Paged<F>,
+    map: &FoundMap,
+) -> Result<Vec<NumberedArea>, CheckFault>
+    requires { map.now.at + map_len map.now.head ≤ length (F.facts paged.old.device).content }
+
+    ensures after { HasRead F.facts map.now.head.nareas (fault_count by_device result)
+        paged.old paged.new }
+    ensures count { IfOk result (λ areas. length areas.items ≡ map.now.head.nareas) }
+    ensures areas { OnHonest F.facts paged.old.device (λ image.
+        IfOk result (λ areas. areas.items ≡ map_areas image map.now)) }
+{
+    let mut areas = Vec::new(alloc);
+    for number in 0..map.head.nareas {
+        let area = area(paged, map, number)?;
+        areas.push(NumberedArea { number, area })?;
+    }
+    Ok(areas)
+}

@@ -1,0 +1,260 @@
+//! Searches for a flash map and for a region.
+ghost use Rattle.std.specs.Prelude.{◌≡◌, ◌+◌, ◌-◌, ◌*◌, ◌/◌, ◌<◌, ◌≤◌, ◌↔◌, ◌⊎◌, length, drop, OnErr, IfOk, IfSome, IsErrOf};
+ghost use Rattle.std.specs.List.{find};
+ghost use Rattle.flash_format.specs.Flashmap.{fmap_head_len, area_len, map_len, area_of, areas_from, is_area};
+ghost use Rattle.flash_device.specs.Device.{Reads, fault_count, refusals};
+ghost use Rattle.flash_device.specs.Pages.{OnHonest, HasRead, HasAnswered};
+ghost use Rattle.flash_map.specs.Fmap.{HasSignatureAt, map_head, map_head_in, found_from, found_in};
+ghost use Rattle.flash_device.specs.Regions.{LiesOn};
+ghost use Rattle.flash_map.specs.Regions.{by_device, region_by_area, region_of};
+ghost use Rattle.memchr.specs.Find.{IsFirst};
+
+use flash_device::{Flash, FlashFault, PIECE, Paged, Region, Source, SourceFault};
+use flash_format::{Area, FmapHead};
+use memchr::memmem;
+
+const HEAD_LENGTH: u64 = FmapHead::LENGTH as u64;
+
+const AREA_LENGTH: u64 = Area::LENGTH as u64;
+
+const SIGNATURE_LENGTH: u64 = FmapHead::SIGNATURE.len() as u64;
+
+/// The minimum distance of signatures, which begin and end with the same two bytes.
+const SIGNATURE_STEP: u64 = 6;
+
+/// A valid flash map.
+#[derive(Clone, Copy, Drop)]
+pub struct FoundMap {
+    /// The offset in the image.
+    pub at: u64,
+    pub head: FmapHead,
+}
+
+/// The reason for a missing region, with cbfstool's number.
+#[derive(Clone, Copy, Debug, PartialEq, Eq, Drop)]
+pub enum StoreFault {
+    /// A failed read.
+    Device = 1,
+    /// No valid flash map.
+    NoFmap = 4,
+    /// No area with the name.
+    NoRegion = 5,
+    /// An area outside the image.
+    RegionOutside = 6,
+}
+
+impl From<FlashFault> for StoreFault {
+    ghost use Rattle.flash_map.specs.declared.search.StoreFault.TheVariants.{Device};
+
+    ghost from_gives = { λ _ fault. fault ≡ Device };
+
+    fn from(_: FlashFault) -> StoreFault {
+        StoreFault::Device
+    }
+}
+
+/// Returns the lowest valid flash map.
+pub fn find_fmap<F: Flash>(paged: &mut Paged<F>) -> Result<Option<FoundMap>, FlashFault>
+    ensures after { HasAnswered F.facts (length (F.facts paged.old.device).content / 2 + 8)
+        paged.old paged.new result }
+    ensures fits { IfOk result (λ found. IfSome found (λ map.
+        map.at + map_len map.head ≤ length (F.facts paged.old.device).content)) }
+    ensures found { OnHonest F.facts paged.old.device
+        (λ image. IfOk result (λ found. found ≡ found_in image)) }
+{
+    find_fmap_from(paged, 0)
+}
+
+/// Returns the lowest valid flash map from an offset on.
+pub fn find_fmap_from<F: Flash>(
+    paged: &mut Paged<F>,
+    from: u64,
+) -> Result<Option<FoundMap>, FlashFault>
+    requires { from ≤ length (F.facts paged.old.device).content }
+
+    ensures after { HasAnswered F.facts (length (F.facts paged.old.device).content / 2 + 8)
+        paged.old paged.new result }
+    ensures fits { IfOk result (λ found. IfSome found (λ map.
+        map.at + map_len map.head ≤ length (F.facts paged.old.device).content)) }
+    ensures found { OnHonest F.facts paged.old.device
+        (λ image. IfOk result (λ found. found ≡ found_from from image)) }
+{
+    let len = paged.len();
+    let mut place = from;
+    while place + HEAD_LENGTH <= len {
+        let size = (len - place).min(PIECE as u64);
+        match signature_in(paged, place, size as usize)? {
+            Some(at) => {
+                if let Some(head) = map_head_at(paged, at, len)? {
+                    return Ok(Some(FoundMap { at, head }));
+                }
+                place = at + SIGNATURE_STEP;
+            }
+            // A signature across the next piece begins in the last seven bytes.
+            None => place += size - (SIGNATURE_LENGTH - 1),
+        }
+    }
+    Ok(None)
+}
+
+fn signature_in<F: Flash>(
+    paged: &mut Paged<F>,
+    at: u64,
+    n: usize,
+) -> Result<Option<u64>, FlashFault>
+    requires inside { at + n ≤ length (F.facts paged.old.device).content }
+    requires short { n ≤ 4096 }
+
+    ensures after { HasAnswered F.facts 1 paged.old paged.new result }
+    ensures within { IfOk result (λ place. IfSome place (λ q. (at ≤ q) × (q + 8 ≤ at + n))) }
+    ensures first { OnHonest F.facts paged.old.device
+        (λ image. IfOk result (IsFirst (HasSignatureAt image) at (at + n - 7))) }
+{
+    let _len = paged.len();
+    let bytes = paged.piece(at, n)?;
+    match memmem::find(bytes, &FmapHead::SIGNATURE) {
+        Some(place) => Ok(Some(at + place as u64)),
+        None => Ok(None),
+    }
+}
+
+fn map_head_at<F: Flash>(
+    paged: &mut Paged<F>,
+    place: u64,
+    len: u64,
+) -> Result<Option<FmapHead>, FlashFault>
+    requires { len ≡ length (F.facts paged.old.device).content }
+
+    ensures after { HasAnswered F.facts 1 paged.old paged.new result }
+    ensures head { OnHonest F.facts paged.old.device
+        (λ image. IfOk result (λ found. found ≡ map_head (drop place image))) }
+    ensures fits { IfOk result (λ found. IfSome found (λ head. place + map_len head ≤ len)) }
+{
+    if len < HEAD_LENGTH || place > len - HEAD_LENGTH {
+        return Ok(None);
+    }
+    let mut bytes = [0; FmapHead::LENGTH];
+    paged.read_small(place, &mut bytes)?;
+    Ok(head_in(&bytes, len - place))
+}
+
+fn head_in(bytes: &[u8; FmapHead::LENGTH], left: u64) -> Option<FmapHead>
+    requires { fmap_head_len ≤ left }
+    ensures head { result ≡ map_head_in bytes.now left }
+    ensures fits { IfSome result (λ head. map_len head ≤ left) }
+{
+    let head = FmapHead::read(bytes)?;
+    if !head.is_valid(left) {
+        return None;
+    }
+    Some(head)
+}
+
+/// Reads an area by its index from 0.
+pub fn area<F: Flash>(paged: &mut Paged<F>, map: &FoundMap, i: u16) -> Result<Area, FlashFault>
+    requires inside { map.now.at + map_len map.now.head
+        ≤ length (F.facts paged.old.device).content }
+    requires number { i < map.now.head.nareas }
+
+    ensures after { HasAnswered F.facts 1 paged.old paged.new result }
+    ensures area { OnHonest F.facts paged.old.device (λ image.
+        IfOk result
+        (λ area. area ≡ area_of (drop (map.now.at + fmap_head_len + area_len * i) image))) }
+{
+    let _len = paged.len();
+    let mut bytes = [0; Area::LENGTH];
+    let at = map.at + HEAD_LENGTH + AREA_LENGTH * u64::from(i);
+    paged.read_small(at, &mut bytes)?;
+    Ok(Area::read(&bytes))
+}
+
+fn area_named<F: Flash>(
+    paged: &mut Paged<F>,
+    map: &FoundMap,
+    name: &[u8],
+) -> Result<Option<Area>, FlashFault>
+    requires inside { map.now.at + map_len map.now.head
+        ≤ length (F.facts paged.old.device).content }
+
+    ensures after { HasAnswered F.facts map.now.head.nareas paged.old paged.new result }
+    ensures first { OnHonest F.facts paged.old.device
+        (λ image. IfOk result (λ area. area ≡ find (is_area name.now)
+        (areas_from map.now.head.nareas (drop (map.now.at + fmap_head_len) image)))) }
+{
+    for i in 0..map.head.nareas {
+        let area = area(paged, map, i)?;
+        if area.name_is(name) {
+            return Ok(Some(area));
+        }
+    }
+    Ok(None)
+}
+
+/// Converts an area to a region. Errors: no area (5), or outside the image (6).
+pub fn region_of_area(area: Option<Area>, image_len: u64) -> Result<Region, StoreFault>
+    ensures answer { result ≡ region_by_area image_len area }
+    ensures lies_in { IfOk result (λ region. region.start + region.size ≤ image_len) }
+    ensures no_device_fault { IsErrOf result StoreFault.Device → ⊥ }
+{
+    let Some(area) = area else {
+        return Err(StoreFault::NoRegion);
+    };
+    match Region::within(u64::from(area.offset), u64::from(area.size), image_len) {
+        Some(region) => Ok(region),
+        None => Err(StoreFault::RegionOutside),
+    }
+}
+
+/// Returns the region of the first area with the name. Errors, in order: no map (4), no area (5),
+/// outside the image (6); a device fault (1) at any read.
+#[tactic(auto, unfolding(crate::specs::Regions::region_of))]
+pub fn region<F: Flash>(paged: &mut Paged<F>, name: &[u8]) -> Result<Region, StoreFault>
+    ensures after { HasRead F.facts (length (F.facts paged.old.device).content / 2
+        + length (F.facts paged.old.device).content / area_len + 8) (fault_count by_device result)
+        paged.old paged.new }
+    ensures inside { IfOk result (λ region. LiesOn region (F.facts paged.old.device)) }
+    ensures answer { OnHonest F.facts paged.old.device (λ image.
+        IsErrOf result StoreFault.Device ⊎ (result ≡ region_of image name.now)) }
+{
+    let Some(map) = find_fmap(paged)? else {
+        return Err(StoreFault::NoFmap);
+    };
+    let area = area_named(paged, &map, name)?;
+    region_of_area(area, paged.len())
+}
+
+/// Returns the head of a valid map at the front.
+pub fn map_in_source<S: Source>(source: &mut S) -> Result<Option<FmapHead>, SourceFault>
+    ensures calls { Reads 1 (refusals result) (S.facts source.old) (S.facts source.new) }
+    ensures fits { IfOk result
+        (λ found. IfSome found (λ head. map_len head ≤ length (S.facts source.old).content)) }
+    ensures head { OnHonest S.facts source.old
+        (λ content. IfOk result (λ found. found ≡ map_head content)) }
+{
+    let len = source.len();
+    if len < HEAD_LENGTH {
+        return Ok(None);
+    }
+    let mut bytes = [0; FmapHead::LENGTH];
+    source.read_at(0, &mut bytes)?;
+    Ok(head_in(&bytes, len))
+}
+
+/// Reads an area by its index in a map at the front.
+pub fn area_in_source<S: Source>(
+    source: &mut S,
+    head: &FmapHead,
+    i: u16,
+) -> Result<Area, SourceFault>
+    requires inside { map_len head.now ≤ length (S.facts source.old).content }
+    requires number { i < head.now.nareas }
+
+    ensures calls { Reads 1 (refusals result) (S.facts source.old) (S.facts source.new) }
+    ensures area { OnHonest S.facts source.old (λ content.
+        IfOk result (λ area. area ≡ area_of (drop (fmap_head_len + area_len * i) content))) }
+{
+    let mut bytes = [0; Area::LENGTH];
+    let at = HEAD_LENGTH + AREA_LENGTH * u64::from(i);
+    source.read_at(at, &mut bytes)?;
+    Ok(Area::read(&bytes))
+}
