@@ -2,35 +2,34 @@
 use Rattle.std.specs.Prelude.{ℕ, ◌+◌, ◌≤◌, ◌&&◌, List, Result, IsTrue, Option, Some, None, length, nat_le, if◌then◌else◌}
 use Rattle.flash_device.specs.Device.{Device, fault_count}
 use Rattle.flash_device.specs.Pages.{HasRead}
-use Rattle.flash_device.specs.Regions.{LiesOn, bytes_in}
+use Rattle.flash_device.specs.Regions.{Range, LiesOn, bytes_in}
 use Rattle.flash_map.specs.declared.areas.NumberedArea.{NumberedArea}
 use Rattle.flash_map.specs.Areas.{area_end}
 use Rattle.check_findings.specs.Image.ImageFindings.{range_of}
 use Rattle.check_changes.specs.declared.fault.ChangeFault.{ChangeFault}
 use Rattle.check_changes.specs.declared.images.Images.{Images}
-use Rattle.check_changes.specs.declared.images.Lengths.{Lengths}
-use Rattle.check_changes.specs.declared.images.RegionPair.{RegionPair}
+use Rattle.check_changes.specs.declared.images.Both.{Both}
 use Rattle.check_changes.specs.Faults.{by_old, by_new}
 
-abbrev pub lengths_of : List ℕ → List ℕ → Lengths
+abbrev pub lengths_of : List ℕ → List ℕ → Both ℕ
 lengths_of x y = record { old = length x; new = length y }
 
-abbrev pub lengths : {F G : Type 0} → (F → Device) → (G → Device) → Images F G → Lengths
+abbrev pub lengths : {F G : Type 0} → (F → Device) → (G → Device) → Images F G → Both ℕ
 lengths f g images =
     lengths_of (f images.old_image.device).content (g images.new_image.device).content
 
-pub record LieWithin (lens : Lengths) (regions : RegionPair) : Type 0 where
+pub record LieWithin (lens : Both ℕ) (regions : Both Range) : Type 0 where
   pub in_old : regions.old.start + regions.old.size ≤ lens.old
   pub in_new : regions.new.start + regions.new.size ≤ lens.new
 
 -- regions on the devices of the images
 pub record LieOn {F G : Type 0} (f : F → Device) (g : G → Device) (images : Images F G)
-    (regions : RegionPair) : Type 0 where
+    (regions : Both Range) : Type 0 where
   pub old : LiesOn regions.old (f images.old_image.device)
   pub new : LiesOn regions.new (g images.new_image.device)
 
 -- two areas as regions, if both lie in their images
-abbrev pub regions_within : Lengths → NumberedArea → NumberedArea → Option RegionPair
+abbrev pub regions_within : Both ℕ → NumberedArea → NumberedArea → Option (Both Range)
 regions_within lens old new =
     if nat_le (area_end old.area) lens.old && nat_le (area_end new.area) lens.new
     then Some (record { old = range_of old; new = range_of new }) else None
@@ -43,7 +42,7 @@ OnBoth f g images P =
     → P (f images.old_image.device).content (g images.new_image.device).content
 
 -- P of a region of each image
-abbrev pub OnBothIn : {F G : Type 0} → (F → Device) → (G → Device) → Images F G → RegionPair
+abbrev pub OnBothIn : {F G : Type 0} → (F → Device) → (G → Device) → Images F G → Both Range
     → (List ℕ → List ℕ → Type 0) → Type 0
 OnBothIn f g images regions P =
     OnBoth f g images (λ x y. P (bytes_in regions.old x) (bytes_in regions.new y))

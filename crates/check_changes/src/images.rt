@@ -8,44 +8,41 @@ use crate::fault::ChangeFault;
 use flash_device::{Flash, PIECE, Paged, Region};
 use flash_map::NumberedArea;
 
-/// The lengths of two images, in bytes.
+/// A value of each image.
 #[derive(Clone, Copy, Drop)]
-pub struct Lengths {
-    pub old: u64,
-    pub new: u64,
+pub struct Both<T> {
+    pub old: T,
+    pub new: T,
 }
+
+/// The lengths of two images, in bytes.
+pub type Lengths = Both<u64>;
 
 /// Two compared regions, one of each image.
-#[derive(Clone, Copy, Drop)]
-pub struct RegionPair {
-    pub old: Region,
-    pub new: Region,
+pub type RegionPair = Both<Region>;
+
+/// Returns two areas as regions, if they end inside images of these lengths.
+pub fn regions_within(lens: Lengths, old: NumberedArea, new: NumberedArea) -> Option<RegionPair>
+    ensures regions { result ≡ regions_within lens old new }
+    ensures inside { IfSome result (LieWithin lens) }
+{
+    let (old, new) = (old.area, new.area);
+    let old = Region::within(u64::from(old.offset), u64::from(old.size), lens.old)?;
+    let new = Region::within(u64::from(new.offset), u64::from(new.size), lens.new)?;
+    Some(RegionPair { old, new })
 }
 
-impl Lengths {
-    /// Returns two areas as regions, if they end inside images of these lengths.
-    pub fn regions(self, old: NumberedArea, new: NumberedArea) -> Option<RegionPair>
-        ensures regions { result ≡ regions_within self old new }
-        ensures inside { IfSome result (LieWithin self) }
-    {
-        let (old, new) = (old.area, new.area);
-        let old = Region::within(u64::from(old.offset), u64::from(old.size), self.old)?;
-        let new = Region::within(u64::from(new.offset), u64::from(new.size), self.new)?;
-        Some(RegionPair { old, new })
-    }
-
-    pub fn whole(self) -> RegionPair
-        ensures { result ≡ record {
-          old = record { start = 0; size = self.old };
-          new = record { start = 0; size = self.new };
-        } }
-    {
-        let old = Region::within(0, self.old, self.old);
-        let new = Region::within(0, self.new, self.new);
-        match (old, new) {
-            (Some(old), Some(new)) => RegionPair { old, new },
-            _ => unreachable!(),
-        }
+pub fn whole(lens: Lengths) -> RegionPair
+    ensures { result ≡ record {
+      old = record { start = 0; size = lens.old };
+      new = record { start = 0; size = lens.new };
+    } }
+{
+    let old = Region::within(0, lens.old, lens.old);
+    let new = Region::within(0, lens.new, lens.new);
+    match (old, new) {
+        (Some(old), Some(new)) => RegionPair { old, new },
+        _ => unreachable!(),
     }
 }
 

@@ -12,6 +12,6 @@ mod regions;
 pub use areas::{AreaChange, Areas, ImageChanges, MapChange, image_changes, map_changes};
 pub use components::{ComponentChange, Difference, component_changes};
 pub use fault::ChangeFault;
-pub use images::{Images, RegionPair};
+pub use images::{Both, Images, RegionPair};
 pub use laws::differences_are_reported;
 pub use regions::{ComponentChanges, RegionChange, region_changes};

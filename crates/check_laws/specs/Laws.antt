@@ -20,41 +20,30 @@ use Rattle.cbfs_commands.specs.Rows.{rows_from}
 use Rattle.cbfs_commands.specs.Outcomes.{extract_region, print_region, printed_component, printed_in}
 use Rattle.cbfs_commands.specs.Printouts.{shows}
 
--- the rows of all cells, and verbose lines of components on request
-abbrev pub whole_listing : List ℕ → Bool → List ℕ
-whole_listing x verbose = rows_from verbose 0 (cut x).cells
-
 -- `print` of a region without bad findings lists all cells, and succeeds
 abbrev pub FitRegionsAreListed : Type 0
 FitRegionsAreListed =
     (needs : Bool) (x : List ℕ) (verbose : Bool)
     → list_any (is_bad_region needs) (region_findings x) ≡ false
-    → print_region x verbose ≡ shows (whole_listing x verbose)
+    → print_region x verbose ≡ shows (rows_from verbose 0 (cut x).cells)
 
 -- `print` of the area by name lists all cells, and succeeds
-abbrev pub IsListed : List ℕ → Bool → NumberedArea → Type 0
-IsListed image verbose a =
-    printed_in image (text_of a.area.name) (λ x. print_region x verbose)
-    ≡ shows (whole_listing (bytes_of image a) verbose)
+abbrev pub IsListed : List ℕ → NumberedArea → Type 0
+IsListed image a = (verbose : Bool)
+    → printed_in image (text_of a.area.name) (λ x. print_region x verbose)
+    ≡ shows (rows_from verbose 0 (cut (bytes_of image a)).cells)
 
 -- `extract` by both names returns the content of each uncompressed component
 abbrev pub IsExtracted : List ℕ → NumberedArea → Type 0
 IsExtracted image a = (c : Component) → Contains (components (bytes_of image a)) c
     → printed_in image (text_of a.area.name) (λ x. extract_region x c.name) ≡ printed_component c
 
--- each checked area of an image without bad findings is listed
-abbrev pub FitImagesAreListed : Type 0
-FitImagesAreListed =
-    (needs : Bool) (image : List ℕ) (names expected : List (List ℕ)) (verbose : Bool)
-    → list_any (is_bad needs) (image_findings image names expected) ≡ false
-    → All (IsListed image verbose) (region_areas (image_findings image names expected))
-
--- each component of such an area is extracted
-abbrev pub FitImagesAreExtracted : Type 0
-FitImagesAreExtracted =
+-- P holds for each checked area of an image without bad findings
+abbrev pub InFitImages : (List ℕ → NumberedArea → Type 0) → Type 0
+InFitImages P =
     (needs : Bool) (image : List ℕ) (names expected : List (List ℕ))
     → list_any (is_bad needs) (image_findings image names expected) ≡ false
-    → All (IsExtracted image) (region_areas (image_findings image names expected))
+    → All (P image) (region_areas (image_findings image names expected))
 
 -- ---- the largest content
 

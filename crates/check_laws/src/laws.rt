@@ -1,7 +1,7 @@
 //! Laws about commands without bad findings, and about `add`, as contracts of functions without
 //! effect.
-ghost use Rattle.check_laws.specs.Laws.{FitImagesAreExtracted, FitImagesAreListed};
-ghost use Rattle.check_laws.specs.Laws.{FitRegionsAreListed, LargestContentIsTaken};
+ghost use Rattle.check_laws.specs.Laws.{FitRegionsAreListed, InFitImages, IsExtracted, IsListed};
+ghost use Rattle.check_laws.specs.Laws.{LargestContentIsTaken};
 
 use check_findings::{fit_images_are_whole, fit_regions_are_whole};
 
@@ -14,7 +14,7 @@ pub fn fit_regions_are_listed()
 
 /// In an image without bad findings, `print` does so for each checked area, by name.
 pub fn fit_images_are_listed()
-    ensures { FitImagesAreListed }
+    ensures { InFitImages IsListed }
 {
     fit_images_are_whole();
 }
@@ -22,7 +22,7 @@ pub fn fit_images_are_listed()
 /// In an image without bad findings, `extract` returns the content of each uncompressed component
 /// of a checked area, by both names.
 pub fn fit_images_are_extracted()
-    ensures { FitImagesAreExtracted }
+    ensures { InFitImages IsExtracted }
 {
     fit_images_are_whole();
 }

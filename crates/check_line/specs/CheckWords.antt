@@ -2,10 +2,10 @@
 use Rattle.std.specs.Prelude.{ℕ, Bool, true, false, not, List, [], ◌∷◌, length, map, take, ◌<◌}
 use Rattle.std.specs.Prelude.{◌≤◌, ◌==◌, ◌&&◌, ◌||◌, ◌≡◌, ◌≢◌, ◌⊎◌, ⊤, Option, Some, None, is_some}
 use Rattle.std.specs.Prelude.{is_none, option_map, Result, Ok, Err, MatchOption, if◌then◌else◌}
-use Rattle.std.specs.Prelude.{find, take_while, filter_map, slice_get}
+use Rattle.std.specs.Prelude.{find, take_while, filter_map, slice_get, nat_eq, nat_lt}
 use Rattle.std.specs.Borrow.{Bor}
-use Rattle.std.specs.List.{list_any, slice_split}
-use Rattle.std.specs.Option.{option_or}
+use Rattle.std.specs.List.{list_any, slice_split, starts_with}
+use Rattle.std.specs.Option.{option_map_or, option_or}
 use Rattle.std.specs.Str.{bytes_eq}
 use lib.Chars.{codes}
 use Rattle.clap.specs.Words.{App, IsAmong, Row, Rule, fault_of, first_of, found_of}
@@ -25,7 +25,10 @@ use Rattle.check_line.specs.declared.line.Invocation.{Invocation}
 use Rattle.check_line.specs.declared.line.Invocation.TheVariants.{Help, Version, Check}
 use Rattle.check_line.specs.declared.line.CheckLine.{CheckLine}
 
-abbrev pub texts : List (Bor (List ℕ)) → List (List ℕ)
+abbrev pub Words : Type 0
+Words = List (Bor (List ℕ))
+
+abbrev pub texts : Words → List (List ℕ)
 texts words = map (λ (word : Bor (List ℕ)). word.now) words
 
 -- `-C VALUE`
@@ -64,16 +67,12 @@ pub data Complaint : Type 0 where
 
 -- between commas (44)
 abbrev pub parts_of : Option (List ℕ) → List (List ℕ)
-parts_of None = []
-parts_of (Some list) = slice_split (λ b. b == 44) list
+parts_of list = option_map_or (slice_split (λ b. b == 44)) list []
 
-abbrev pub is_empty : List ℕ → Bool
-is_empty name = length name == 0
-
--- an empty name
+-- a list with an empty name
 abbrev pub bad_areas : Option (List ℕ) → Option Complaint
-bad_areas list = if list_any is_empty (parts_of list) then option_map (wrong mistake.BadAreas) list
-    else None
+bad_areas list = if list_any (λ name. length name == 0) (parts_of list)
+    then option_map (wrong mistake.BadAreas) list else None
 
 -- the first bad part
 abbrev pub bad_need : Option (List ℕ) → Option Complaint
@@ -81,16 +80,12 @@ bad_need list = option_map (wrong mistake.BadNeed) (find is_no_need (parts_of li
 
 -- an option without a value
 abbrev pub is_set : Option (List ℕ) → Bool
-is_set None = false
-is_set (Some text) = bytes_eq text (codes "true")
-
-abbrev pub is_comparing : List Row → Bool
-is_comparing rows = is_some (first_of (codes "keep") rows)
-    || is_set (first_of (codes "keep-preserved") rows)
+is_set text = option_map_or (λ text. bytes_eq text (codes "true")) text false
 
 abbrev pub complaint_in : List Row → Option Complaint
 complaint_in rows = if is_none (first_of (codes "image") rows) then Some no_image
-    else (if is_comparing rows && is_none (first_of (codes "new") rows) then Some no_new_image
+    else (if is_none (first_of (codes "new") rows) && (is_some (first_of (codes "keep") rows)
+    || is_set (first_of (codes "keep-preserved") rows)) then Some no_new_image
     else option_or (bad_areas (first_of (codes "areas") rows))
     (option_or (bad_areas (first_of (codes "keep") rows))
     (bad_need (first_of (codes "need") rows))))
@@ -120,43 +115,39 @@ Gives complaint Is (Err Memory) = ⊤
 
 -- ---- the wrong argument
 
-abbrev pub IsAccepted : List (Bor (List ℕ)) → Type 0
+abbrev pub IsAccepted : Words → Type 0
 IsAccepted words = fault_of check_words (texts words) ≡ []
 
 -- for this reason
-abbrev pub Refuses : ErrorKind → List (Bor (List ℕ)) → Type 0
+abbrev pub Refuses : ErrorKind → Words → Type 0
 Refuses kind words = IsAmong kind (fault_of check_words (texts words))
 
 -- accepted, or refused for another reason
-abbrev pub Spares : ErrorKind → List (Bor (List ℕ)) → Type 0
+abbrev pub Spares : ErrorKind → Words → Type 0
 Spares kind words = IsAccepted words
     ⊎ ((other : ErrorKind) × (other ≢ kind) × Refuses other words)
 
 -- clap's matches, or the kind of its error
-abbrev pub Parses : List (Bor (List ℕ)) → Result ArgMatches ErrorKind → Type 0
+abbrev pub Parses : Words → Result ArgMatches ErrorKind → Type 0
 Parses words (Ok matches) = IsAccepted words
     × (rows_of (found_of matches) ≡ matches_of check_words (texts words))
 Parses words (Err kind) = (kind ≡ reason.OutOfMemory) ⊎ Refuses kind words
 
 -- Earlier arguments alone aren't refused for this reason. With this argument, and any number of
 -- later ones, they are.
-pub record IsWrong (kind : ErrorKind) (words : List (Bor (List ℕ))) (word : Bor (List ℕ))
-    : Type 0 where
+pub record IsWrong (kind : ErrorKind) (words : Words) (word : Bor (List ℕ)) : Type 0 where
   pub n : ℕ
   pub here : slice_get words n ≡ Some word
   pub before : Spares kind (take n words)
   pub from : (m : ℕ) → n < m → m ≤ length words → Refuses kind (take m words)
 
--- `-` and more
-abbrev pub is_option : List ℕ → Bool
-is_option (first ∷ second ∷ rest) = first == 45
-is_option word = false
-
+-- an option is `-` and more
 abbrev pub word_fault : ErrorKind → List ℕ → WordFault
 word_fault reason.InvalidValue word = mistake.MissingValue
 word_fault reason.TooManyValues word = mistake.UnneededValue
 word_fault reason.ArgumentConflict word = mistake.GivenTwice
-word_fault kind word = if is_option word then mistake.UnknownOption else mistake.TooManyPaths
+word_fault kind word = if starts_with nat_eq word (codes "-") && nat_lt 1 (length word)
+    then mistake.UnknownOption else mistake.TooManyPaths
 
 -- ---- the result
 
@@ -164,12 +155,11 @@ abbrev pub is_request : Bor (List ℕ) → Bool
 is_request word = bytes_eq word.now (codes "-h") || bytes_eq word.now (codes "--help")
     || bytes_eq word.now (codes "--version")
 
--- before `--`, which ends the options
 abbrev pub is_before_end : Bor (List ℕ) → Bool
 is_before_end word = not (bytes_eq word.now (codes "--"))
 
--- the first argument before `--` for the help or the version
-abbrev pub request_in : List (Bor (List ℕ)) → Option (List ℕ)
+-- the first argument for the help or the version, before `--`, which ends the options
+abbrev pub request_in : Words → Option (List ℕ)
 request_in words = option_map (λ (word : Bor (List ℕ)). word.now)
     (find is_request (take_while is_before_end words))
 
@@ -179,7 +169,7 @@ IsInvocation rows (Check line) = IsLineOf rows line
 IsInvocation rows asked = ⊥
 
 -- for arguments refused by clap, or with help as the result
-abbrev pub IsRefusal : List (Bor (List ℕ)) → Result Invocation LineFault → Type 0
+abbrev pub IsRefusal : Words → Result Invocation LineFault → Type 0
 IsRefusal words (Ok Help) = Refuses reason.DisplayHelp words
 IsRefusal words (Err (Word fault word)) = (kind : ErrorKind) × (kind ≢ reason.DisplayHelp)
     × IsWrong kind words word × (fault ≡ word_fault kind word.now)
@@ -187,12 +177,12 @@ IsRefusal words (Err Memory) = ⊤
 IsRefusal words result = ⊥
 
 -- by clap's definitions
-abbrev pub IsRead : List (Bor (List ℕ)) → Result Invocation LineFault → Type 0
+abbrev pub IsRead : Words → Result Invocation LineFault → Type 0
 IsRead words result = (IsAccepted words
     × Gives (complaint_in (matches_of check_words (texts words)))
     (IsInvocation (matches_of check_words (texts words))) result) ⊎ IsRefusal words result
 
 -- for the arguments after the program's name
-abbrev pub Answers : List (Bor (List ℕ)) → Result Invocation LineFault → Type 0
+abbrev pub Answers : Words → Result Invocation LineFault → Type 0
 Answers words result = MatchOption (request_in words) (IsRead words result)
     (λ word. result ≡ Ok (if bytes_eq word (codes "--version") then Version else Help))

@@ -1,8 +1,8 @@
 -- The required component of `--need`: AREA:NAME, or AREA:NAME@OFFSET.
-use Rattle.std.specs.Prelude.{ℕ, Bool, ◌==◌, ◌||◌, nat_lt, List, [], ◌∷◌, length, Option, Some}
+use Rattle.std.specs.Prelude.{ℕ, Bool, ◌==◌, ◌||◌, List, [], ◌∷◌, length, Option, Some}
 use Rattle.std.specs.Prelude.{None, is_none, option_map, option_and_then, if◌then◌else◌}
-use Rattle.std.specs.List.{after_first, before_first, position_or_len}
-use Rattle.std.specs.Option.{option_or}
+use Rattle.std.specs.List.{after_first, before_first}
+use Rattle.std.specs.Option.{option_map_or, option_or}
 use Rattle.std.specs.Str.{bytes_eq}
 use lib.Chars.{codes}
 use Rattle.flash_format.specs.Numbers.{number_of}
@@ -22,27 +22,19 @@ split_last (b ∷ bs) = option_or (option_map (λ parts. (b ∷ parts.0, parts.1
     (if b == 64 then Some ([], bs) else None)
 
 -- a place only with an `@`
-abbrev pub place_after : List ℕ → Option (List ℕ × List ℕ) → Option (List ℕ × NeededPlace)
-place_after text None = Some (text, Any)
-place_after text (Some parts) = option_map (λ place. (parts.0, place)) (needed_place parts.1)
-
 abbrev pub named_in : List ℕ → Option (List ℕ × NeededPlace)
-named_in text = place_after text (split_last text)
-
-abbrev pub is_colon : ℕ → Bool
-is_colon b = b == 58
+named_in text = option_map_or (λ parts. option_map (λ place. (parts.0, place))
+    (needed_place parts.1)) (split_last text) (Some (text, Any))
 
 -- with nonempty area and name
 abbrev pub wanted : List ℕ → List ℕ × NeededPlace → Option Wish
-wanted area named = if length area == 0 || length named.0 == 0 then None
+wanted area named = if length named.0 == 0 || length area == 0 then None
     else Some (record { area = area; name = named.0; place = named.1 })
 
--- the area ends at the first colon
+-- the area ends at the first colon (58); without a colon, the name is empty
 abbrev pub need_in : List ℕ → Option Wish
-need_in text = if nat_lt (position_or_len is_colon text) (length text)
-    then option_and_then (wanted (before_first is_colon text))
-    (named_in (after_first is_colon text))
-    else None
+need_in text = option_and_then (wanted (before_first (λ b. b == 58) text))
+    (named_in (after_first (λ b. b == 58) text))
 
 abbrev pub is_no_need : List ℕ → Bool
 is_no_need text = is_none (need_in text)

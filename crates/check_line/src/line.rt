@@ -1,12 +1,12 @@
 //! Requests of a command line.
 
-ghost use Rattle.std.specs.Prelude.{◌≡◌, ◌<◌, ◌∷◌, IfOk, IfSome, Some, filter_map, length, map};
+ghost use Rattle.std.specs.Prelude.{◌≡◌, ◌==◌, ◌<◌, ◌∷◌, IfOk, IfSome, Some, filter_map, length, map};
 ghost use Rattle.std.specs.Prelude.{option_map};
 ghost use Rattle.std.specs.List.{list_any};
 ghost use Rattle.clap.specs.Words.{first_of, found_of, rows_of};
 ghost use Rattle.check_findings.specs.Image.Needs.{wish_of};
 ghost use Rattle.check_line.specs.CheckWords.{Gives, IsInvocation, bad_areas, bad_need, complaint_in};
-ghost use Rattle.check_line.specs.CheckWords.{is_empty, is_set, parts_of, texts};
+ghost use Rattle.check_line.specs.CheckWords.{is_set, parts_of, texts};
 ghost use Rattle.check_line.specs.Needs.{need_in};
 
 use crate::fault::{LineFault, WordFault};
@@ -55,7 +55,7 @@ fn names_of<'a>(alloc: Global, list: &'a str) -> Result<Vec<&'a [u8]>, AllocErro
 }
 
 fn has_empty(names: &[&[u8]]) -> bool
-    ensures { result ≡ list_any is_empty (texts names.now) }
+    ensures { result ≡ list_any (λ name. length name == 0) (texts names.now) }
 {
     names.iter().any(|name| name.is_empty())
 }

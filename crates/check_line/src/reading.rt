@@ -70,7 +70,7 @@ fn word_fault(kind: ErrorKind, word: &str) -> WordFault
         ErrorKind::InvalidValue => WordFault::MissingValue,
         ErrorKind::TooManyValues => WordFault::UnneededValue,
         ErrorKind::ArgumentConflict => WordFault::GivenTwice,
-        _ if matches!(word.as_bytes(), [b'-', _, ..]) => WordFault::UnknownOption,
+        _ if word.starts_with('-') && word.len() > 1 => WordFault::UnknownOption,
         _ => WordFault::TooManyPaths,
     }
 }

@@ -1,47 +1,64 @@
 -- A hidden row is like a shown row.
-use Rattle.std.proofs.Common.{◌≡◌, ℕ, ◌<◌, nat_lt, List, [], ◌∷◌, ◌++◌, Bool, true, false, refl, ap, arith}
-use Rattle.std.specs.Prelude.{◌||◌, count_by}
+use Rattle.std.proofs.Common.{◌≡◌, ◌<◌, nat_lt, List, [], ◌∷◌, ◌++◌, Bool, true, false, refl, ap, arith}
+use Rattle.std.specs.Prelude.{◌||◌}
 use Rattle.std.specs.List.{list_any}
 use Rattle.std.specs.Str.{bytes_eq}
 use Rattle.std.proofs.lemmas.Slice.Eq.{bytes_eq-Decides}
-use Rattle.std.proofs.lemmas.List.Folds.{list_any-append}
-use Rattle.check_report.specs.declared.rows.row.Verdict.{Verdict}
 use Rattle.check_report.specs.declared.rows.row.Verdict.TheVariants.{Bad}
 use Rattle.check_report.specs.Rows.Rows.{SeenRow, is_bad_row, is_verdict, row_if, verdict_word}
-use Rattle.check_report.specs.Rows.Limits.{first_rows, is_like, row_within, shown_rows}
+use Rattle.check_report.specs.Rows.Limits.{SeenKind, count_in, counted, is_of, shown_after, shown_rows}
 
-same : (v w : Verdict) → is_verdict v w ≡ true → is_verdict Bad v ≡ is_verdict Bad w
-same v w is =
-    let words : verdict_word v ≡ verdict_word w = grind (arith, is, bytes_eq-Decides (verdict_word v) (verdict_word w)) in
+abbrev is_bad_kind : SeenKind → Bool
+is_bad_kind kind = is_verdict Bad kind.verdict
+
+-- a row's kind has its verdict
+same : (kind : SeenKind) (row : SeenRow) → is_of kind row ≡ true → is_bad_kind kind ≡ is_bad_row row
+same kind row is =
+    let words : verdict_word kind.verdict ≡ verdict_word row.verdict = grind (arith, is, bytes_eq-Decides (verdict_word kind.verdict) (verdict_word row.verdict)) in
     ap (bytes_eq (verdict_word Bad)) words
 
--- if rows are like a bad row, a row is bad
-like_bad : (row : SeenRow) (rows : List SeenRow) → 0 < count_by (is_like row) rows → is_bad_row row ≡ true → list_any is_bad_row rows ≡ true
-like_bad row [] some bad = grind arith
-like_bad row (r ∷ rs) some bad = go (is_like row r) refl (like_bad row rs)
+-- a kind is bad if a counted row is bad
+bad_counted : (kinds : List SeenKind) (row : SeenRow) → list_any is_bad_kind (counted kinds row) ≡ (list_any is_bad_kind kinds || is_bad_row row)
+bad_counted [] row = grind arith
+bad_counted (kind ∷ kinds) row = go (is_of kind row) refl (bad_counted kinds row)
   where
-    go : (b : Bool) → is_like row r ≡ b → (0 < count_by (is_like row) rs → is_bad_row row ≡ true → list_any is_bad_row rs ≡ true) → list_any is_bad_row (r ∷ rs) ≡ true
-    go true is later = grind (arith, same row.verdict r.verdict, bad, is)
-    go false is later = grind (arith, later, bad, is, some)
+    go : (b : Bool) → is_of kind row ≡ b → list_any is_bad_kind (counted kinds row) ≡ (list_any is_bad_kind kinds || is_bad_row row)
+        → list_any is_bad_kind (counted (kind ∷ kinds) row) ≡ (list_any is_bad_kind (kind ∷ kinds) || is_bad_row row)
+    go true is later = rw is (grind (arith, same kind row is))
+    go false is later = rw is (grind (arith, later))
 
--- a row after others, and the rows after it
-step : (most : ℕ) (before : List SeenRow) (row : SeenRow) (shown rows : Bool) → 0 < most
-    → (list_any is_bad_row (before ++ row ∷ []) || shown) ≡ (list_any is_bad_row (before ++ row ∷ []) || rows)
-    → (list_any is_bad_row before || (list_any is_bad_row (row_within most before row) || shown)) ≡ (list_any is_bad_row before || (is_bad_row row || rows))
-step most before row shown rows some later = go (nat_lt (count_by (is_like row) before) most) refl
+bad_before : (kinds : List SeenKind) (row : SeenRow) → 0 < count_in kinds row → is_bad_row row ≡ true → list_any is_bad_kind kinds ≡ true
+bad_before [] row some bad = absurd (grind arith)
+bad_before (kind ∷ kinds) row some bad = go (is_of kind row) refl (bad_before kinds row)
   where
-    go : (b : Bool) → nat_lt (count_by (is_like row) before) most ≡ b
-        → (list_any is_bad_row before || (list_any is_bad_row (row_if b row) || shown)) ≡ (list_any is_bad_row before || (is_bad_row row || rows))
-    go true is = grind (arith, later, list_any-append is_bad_row before (row ∷ []))
-    go false is = grind (arith, later, list_any-append is_bad_row before (row ∷ []), like_bad row before, is, some)
+    go : (b : Bool) → is_of kind row ≡ b → (0 < count_in kinds row → is_bad_row row ≡ true → list_any is_bad_kind kinds ≡ true) → list_any is_bad_kind (kind ∷ kinds) ≡ true
+    go true is later = grind (arith, same kind row is, bad)
+    go false is later = let less : 0 < count_in kinds row = rw is at some in grind (arith, later less bad)
 
-bad_first : (most : ℕ) (before rows : List SeenRow) → 0 < most
-    → (list_any is_bad_row before || list_any is_bad_row (first_rows most before rows)) ≡ (list_any is_bad_row before || list_any is_bad_row rows)
-unfolding first_rows
-bad_first most before [] some = refl
-bad_first most before (row ∷ rows) some =
-    rw (list_any-append is_bad_row (row_within most before row) (first_rows most (before ++ row ∷ []) rows))
-    (step most before row (list_any is_bad_row (first_rows most (before ++ row ∷ []) rows)) (list_any is_bad_row rows) some (bad_first most (before ++ row ∷ []) rows some))
+-- the row is shown, or hidden
+shown : (k b s o : Bool) → ((k || b) || s) ≡ ((k || b) || o) → (k || (b || s)) ≡ (k || (b || o))
+shown true b s o is = refl
+shown false true s o is = refl
+shown false false s o is = is
+
+hidden : (k b s o : Bool) → (b ≡ true → k ≡ true) → ((k || b) || s) ≡ ((k || b) || o) → (k || s) ≡ (k || (b || o))
+hidden true b s o before is = refl
+hidden false true s o before is = absurd (cc (before refl))
+hidden false false s o before is = is
+
+bad_after : (kinds : List SeenKind) (rows : List SeenRow)
+    → (list_any is_bad_kind kinds || list_any is_bad_row (shown_after false kinds rows)) ≡ (list_any is_bad_kind kinds || list_any is_bad_row rows)
+bad_after kinds [] = refl
+bad_after kinds (row ∷ rows) = go (nat_lt (count_in kinds row) 16) refl (rw (bad_counted kinds row) at (bad_after (counted kinds row) rows))
+  where
+    later : List SeenRow
+    later = shown_after false (counted kinds row) rows
+
+    go : (b : Bool) → nat_lt (count_in kinds row) 16 ≡ b
+        → ((list_any is_bad_kind kinds || is_bad_row row) || list_any is_bad_row later) ≡ ((list_any is_bad_kind kinds || is_bad_row row) || list_any is_bad_row rows)
+        → (list_any is_bad_kind kinds || list_any is_bad_row (row_if b row ++ later)) ≡ (list_any is_bad_kind kinds || (is_bad_row row || list_any is_bad_row rows))
+    go true is all = shown (list_any is_bad_kind kinds) (is_bad_row row) (list_any is_bad_row later) (list_any is_bad_row rows) all
+    go false is all = hidden (list_any is_bad_kind kinds) (is_bad_row row) (list_any is_bad_row later) (list_any is_bad_row rows) (bad_before kinds row (grind (arith, is))) all
 
 pub bad_shown : (rows : List SeenRow) → list_any is_bad_row (shown_rows rows) ≡ list_any is_bad_row rows
-bad_shown rows = bad_first 16 [] rows (grind arith)
+bad_shown rows = bad_after [] rows

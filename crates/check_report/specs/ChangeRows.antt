@@ -1,5 +1,5 @@
 -- Rows of changes. This project defines their codes and texts.
-use Rattle.std.specs.Prelude.{ℕ, Bool, true, not, ◌&&◌, ◌||◌, ◌%◌, nat_le, List, [], ◌∷◌, ◌++◌}
+use Rattle.std.specs.Prelude.{ℕ, Bool, true, not, Some, ◌&&◌, ◌||◌, ◌%◌, nat_le, List, [], ◌∷◌, ◌++◌}
 use Rattle.std.specs.Prelude.{filter, map, nat_lt}
 use Rattle.std.specs.Prelude.{◌==◌, if◌then◌else◌}
 use Rattle.std.specs.List.{list_any}
@@ -22,28 +22,30 @@ use Rattle.check_changes.specs.declared.components.change.ComponentChange.TheVar
 use Rattle.check_findings.specs.Image.ImageFindings.{has_one_of}
 use Rattle.check_report.specs.declared.rows.row.Verdict.{Verdict}
 use Rattle.check_report.specs.declared.rows.row.Verdict.TheVariants as verdicts
-use Rattle.check_report.specs.Rows.Rows.{SeenRow, area_name, in_area, of_area, of_component, row}
+use Rattle.check_report.specs.FindingRows.{missing_row}
+use Rattle.check_report.specs.Names.{Names}
+use Rattle.check_report.specs.Rows.Rows.{SeenRow, area_name, of_area, of_component, row}
 use Rattle.check_report.specs.Rows.Rows.{row_at, row_if, with_count, with_number}
 
 -- a difference is bad in a kept area
-abbrev pub verdict_of : List (List ℕ) → NumberedArea → Verdict
-verdict_of kept a = if has_one_of kept a then verdicts.Bad else verdicts.Change
+abbrev pub change_verdict : Names → NumberedArea → Verdict
+change_verdict kept a = if has_one_of kept a then verdicts.Bad else verdicts.Change
 
 -- ---- areas
 
 -- the row of a difference of an area
-abbrev pub changed : List (List ℕ) → NumberedArea → SeenRow → SeenRow
-changed kept a row = of_area a (record row { verdict = verdict_of kept a })
+abbrev pub changed : Names → NumberedArea → SeenRow → SeenRow
+changed kept a row = of_area a (record row { verdict = change_verdict kept a })
 
 abbrev pub change_row : String → String → SeenRow
 change_row code what = row verdicts.Change code what
 
 -- all blocks of a kept area, otherwise the blocks outside smaller areas
-abbrev pub reported_blocks : List (List ℕ) → NumberedArea → ℕ → ℕ → ℕ
+abbrev pub reported_blocks : Names → NumberedArea → ℕ → ℕ → ℕ
 reported_blocks kept a blocks own = if has_one_of kept a then blocks else own
 
 -- the row of a change; the removal of a vital area is bad
-abbrev pub area_change_row : List (List ℕ) → List (List ℕ) → AreaChange → SeenRow
+abbrev pub area_change_row : Names → Names → AreaChange → SeenRow
 area_change_row kept vital (areas.Added a) = changed kept a (change_row "area-added" "area added")
 area_change_row kept vital (areas.Gone a) = changed vital a (change_row "area-gone" "area gone")
 area_change_row kept vital (areas.Moved old new) =
@@ -59,11 +61,11 @@ area_change_row kept vital (areas.NotCompared a) =
     changed kept a (change_row "area-not-compared" "not compared")
 
 -- different blocks need a positive number
-abbrev pub has_change_row : List (List ℕ) → AreaChange → Bool
+abbrev pub has_change_row : Names → AreaChange → Bool
 has_change_row kept (areas.Differs a blocks own) = nat_lt 0 (reported_blocks kept a blocks own)
 has_change_row kept _ = true
 
-abbrev pub area_change_rows : List (List ℕ) → List (List ℕ) → AreaChange → List SeenRow
+abbrev pub area_change_rows : Names → Names → AreaChange → List SeenRow
 area_change_rows kept vital change =
     row_if (has_change_row kept change) (area_change_row kept vital change)
 
@@ -86,17 +88,18 @@ component_change_row v area (components.Moved old new name) =
     row_at new (of_component area name
     (with_number old (row v "component-moved" "component moved from")))
 
-abbrev pub component_rows : List (List ℕ) → NumberedArea → List ComponentChange → List SeenRow
-component_rows kept a changes = map (component_change_row (verdict_of kept a) (area_name a)) changes
+abbrev pub component_change_rows : Names → NumberedArea → List ComponentChange → List SeenRow
+component_change_rows kept a changes =
+    map (component_change_row (change_verdict kept a) (area_name a)) changes
 
 -- the row of an area without a comparison of components
-abbrev pub not_compared_row : List (List ℕ) → NumberedArea → SeenRow
+abbrev pub not_compared_row : Names → NumberedArea → SeenRow
 not_compared_row kept a =
     changed kept a (change_row "components-not-compared" "components not compared")
 
-abbrev pub region_rows : List (List ℕ) → RegionChange → List SeenRow
-region_rows kept (Compared a changes) = component_rows kept a changes
-region_rows kept (NotCompared a) = not_compared_row kept a ∷ []
+abbrev pub region_change_rows : Names → RegionChange → List SeenRow
+region_change_rows kept (Compared a changes) = component_change_rows kept a changes
+region_change_rows kept (NotCompared a) = not_compared_row kept a ∷ []
 
 -- ---- whole images
 
@@ -123,7 +126,7 @@ abbrev pub is_preserved : NumberedArea → Bool
 is_preserved a = nat_le 8 (a.area.flags % 16)
 
 -- the given names and, on request, names of areas with the flag in either map
-abbrev pub kept_by : List (List ℕ) → Bool → List NumberedArea → List NumberedArea → List (List ℕ)
+abbrev pub kept_by : Names → Bool → List NumberedArea → List NumberedArea → Names
 kept_by kept keeps olds news =
     kept ++ map area_name (filter (λ a. keeps && is_preserved a) (olds ++ news))
 
@@ -131,10 +134,9 @@ kept_by kept keeps olds news =
 abbrev pub is_there : List NumberedArea → List ℕ → Bool
 is_there all name = list_any (has_name name) all
 
-abbrev pub missing_row : List ℕ → SeenRow
-missing_row name = in_area name (row verdicts.Bad "no-area" "no such area")
+abbrev pub is_missing : List NumberedArea → List NumberedArea → List ℕ → Bool
+is_missing olds news name = not (is_there olds name || is_there news name)
 
 -- the row of a kept name without an area
 abbrev pub missing_if : List NumberedArea → List NumberedArea → List ℕ → List SeenRow
-missing_if olds news name =
-    row_if (not (is_there olds name || is_there news name)) (missing_row name)
+missing_if olds news name = row_if (is_missing olds news name) (missing_row (Some name))

@@ -25,14 +25,15 @@ use Rattle.check_findings.specs.declared.image.needs.NeedFinding.{NeedFinding}
 use Rattle.check_findings.specs.declared.image.needs.NeedFinding.TheVariants.{Missing, Elsewhere}
 use Rattle.check_findings.specs.Image.Verdicts.{is_bad_hash, is_bad_map}
 use Rattle.check_report.specs.declared.request.Asked.{Asked}
+use Rattle.check_report.specs.Names.{Names}
 use Rattle.check_report.specs.declared.rows.row.Verdict.{Verdict}
 use Rattle.check_report.specs.declared.rows.row.Verdict.TheVariants.{Bad, Remark}
 use Rattle.check_report.specs.Rows.Rows.{SeenRow, area_name, in_area, of_area, of_component, row}
 use Rattle.check_report.specs.Rows.Rows.{row_at, row_if, row_of, with_count, with_number, with_other}
 
-abbrev pub verdict_of : Bool → Verdict
-verdict_of true = Bad
-verdict_of false = Remark
+abbrev pub finding_verdict : Bool → Verdict
+finding_verdict true = Bad
+finding_verdict false = Remark
 
 -- ---- the flash map; positions count from the image's start
 
@@ -55,7 +56,7 @@ map_row_with v of_map.NoMapArea = row v "no-map-area" "no area FMAP"
 map_row_with v (of_map.MapAreaMisses a) = of_area a (row v "map-area" "doesn't hold the flashmap")
 
 abbrev pub map_row : MapFinding → SeenRow
-map_row finding = map_row_with (verdict_of (is_bad_map finding)) finding
+map_row finding = map_row_with (finding_verdict (is_bad_map finding)) finding
 
 -- ---- a region; positions count from its start
 
@@ -74,7 +75,7 @@ has_hash_row asked hashes.Missing = asked.is_verbose || asked.needs_hashes
 has_hash_row asked _ = true
 
 abbrev pub hash_row : Asked → HashFinding → SeenRow
-hash_row asked hash = row_of (verdict_of (is_bad_hash asked.needs_hashes hash))
+hash_row asked hash = row_of (finding_verdict (is_bad_hash asked.needs_hashes hash))
     (hash_words hash).0 (hash_words hash).1
 
 abbrev pub component_row_if : List ℕ → ℕ → List ℕ → Bool → SeenRow → List SeenRow
@@ -131,25 +132,24 @@ region_rows asked region finding = option_map_or (λ row. in_area region row ∷
 
 -- ---- the image
 
--- the row of a given name without an area
-abbrev pub missing_row : List (List ℕ) → ℕ → SeenRow
-missing_row names number =
-    record (row Bad "no-area" "no such area") { area = slice_get names number }
+-- the row of a name without an area
+abbrev pub missing_row : Option (List ℕ) → SeenRow
+missing_row name = record (row Bad "no-area" "no such area") { area = name }
 
 -- bad if its name is expected
 abbrev pub not_checked_row : NumberedArea → Bool → SeenRow
 not_checked_row a named =
-    of_area a (row (verdict_of named) "area-not-checked"
+    of_area a (row (finding_verdict named) "area-not-checked"
     "isn't checked: checked areas would exceed twice the image")
 
 -- by the given area names
-abbrev pub rows_of : Asked → List (List ℕ) → ImageFinding → List SeenRow
+abbrev pub rows_of : Asked → Names → ImageFinding → List SeenRow
 rows_of asked names (Map finding) = map_row finding ∷ []
 rows_of asked names (Region a findings) = flat_map (region_rows asked (area_name a)) findings
 rows_of asked names (NotChecked a named) = not_checked_row a named ∷ []
-rows_of asked names (NoArea number) = missing_row names number ∷ []
+rows_of asked names (NoArea number) = missing_row (slice_get names number) ∷ []
 
-abbrev pub finding_rows : Asked → List (List ℕ) → List ImageFinding → List SeenRow
+abbrev pub finding_rows : Asked → Names → List ImageFinding → List SeenRow
 finding_rows asked names findings = flat_map (rows_of asked names) findings
 
 -- ---- needs

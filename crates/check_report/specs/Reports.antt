@@ -1,5 +1,5 @@
 -- Rows of a report. This project defines their choice and order.
-use Rattle.std.specs.Prelude.{ℕ, Bool, List, [], ◌++◌, map, is_none, if◌then◌else◌}
+use Rattle.std.specs.Prelude.{Bool, List, [], ◌++◌, map, is_none, if◌then◌else◌}
 use Rattle.std.specs.List.{flat_map}
 use Rattle.std.specs.Option.{option_map_or}
 use Rattle.flash_map.specs.declared.areas.NumberedArea.{NumberedArea}
@@ -8,7 +8,7 @@ use Rattle.check_report.specs.declared.request.Asked.{Asked}
 use Rattle.check_report.specs.Rows.Rows.{SeenRow, area_name}
 use Rattle.check_report.specs.FindingRows.{finding_rows, need_rows}
 use Rattle.check_report.specs.ChangeRows as rows
-use Rattle.check_report.specs.Names.{names_in}
+use Rattle.check_report.specs.Names.{Names, names_in}
 use Rattle.check_report.specs.declared.request.Request.{Request}
 use Rattle.check_report.specs.declared.inspection.Changes.{Changes}
 use Rattle.check_report.specs.declared.inspection.Inspection.{Inspection}
@@ -16,9 +16,9 @@ use Rattle.check_report.specs.declared.inspection.OldImage.{OldImage}
 
 -- the requested rows
 pub record Wish : Type 0 where
-  pub areas : List (List ℕ)
+  pub areas : Names
   pub needs : List needs.Wish
-  pub kept : List (List ℕ)
+  pub kept : Names
   pub keeps_preserved : Bool
   pub asked : Asked
 
@@ -31,7 +31,7 @@ wish_of request = record {
   asked = request.asked;
 }
 
-abbrev pub need_areas : Wish → List (List ℕ)
+abbrev pub need_areas : Wish → Names
 need_areas wish = map (λ n. n.area) wish.needs
 
 -- the areas for a comparison: the new areas if the old image has no map
@@ -47,7 +47,7 @@ change_rows wish c =
     let vital = kept ++ map area_name c.old.regions.items in
     (((rows.image_rows new.old_len new.new_len new.blocks ++ map rows.map_change_row new.map.items)
     ++ flat_map (rows.area_change_rows kept vital) new.areas.items)
-    ++ flat_map (rows.region_rows kept) new.regions.items)
+    ++ flat_map (rows.region_change_rows kept) new.regions.items)
     ++ flat_map (rows.missing_if olds c.new_areas.items) wish.kept
 
 -- rows of findings, unmet needs and changes

@@ -4,7 +4,7 @@ ghost use Rattle.check_report.specs.Names.{names_in};
 ghost use Rattle.check_report.specs.Rows.Rows.{seen_row};
 ghost use Rattle.check_report.specs.ChangeRows as of;
 
-use crate::kept::{is_kept, verdict_of};
+use crate::kept::{change_verdict, is_kept};
 use crate::rows::{Row, Verdict};
 use check_changes::{AreaChange, MapChange};
 use flash_map::NumberedArea;
@@ -14,7 +14,7 @@ fn changed<'a>(kept: &[&[u8]], area: &'a NumberedArea, row: Row<'a>) -> Row<'a>
     ensures { seen_row result ≡ of.changed (names_in kept.now) area.now (seen_row row.entry) }
 {
     Row {
-        verdict: verdict_of(kept, *area),
+        verdict: change_verdict(kept, *area),
         ..row.of(area)
     }
 }

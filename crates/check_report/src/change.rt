@@ -51,7 +51,8 @@ fn compare<F: Flash, G: Flash>(
         ((lengths F.facts G.facts images.old).new + 4) images.old images.new result }
     ensures changes { OnBoth F.facts G.facts images.old (λ x y.
         old_map ≡ found_in x → checked.now.found ≡ found_in y → IfOk result (λ changes.
-        IsComparison x y old_areas.now checked.now.areas.items checked.now.findings.items changes)) }
+        IsComparison x y old_areas.now checked.now.areas.items checked.now.findings.items
+        changes)) }
 {
     let areas = Areas {
         old: old_areas,

@@ -8,7 +8,7 @@ ghost use Rattle.check_report.specs.ChangeRows as of;
 use crate::areas::{area_change_row, has_change_row, map_change_row, not_compared_row};
 use crate::components::component_change_row;
 use crate::fault::WriteFault;
-use crate::kept::verdict_of;
+use crate::kept::change_verdict;
 use crate::rows::{RowWriter, Verdict};
 use check_changes::{AreaChange, ComponentChange, MapChange, RegionChange};
 use flash_device::Sink;
@@ -67,10 +67,10 @@ fn add_component_changes<'a, W: Sink + Drop>(
     area: &'a NumberedArea,
     changes: &'a [ComponentChange],
 ) -> Result<(), WriteFault>
-    ensures { Adds W.contents W.faults result rows.old rows.new (of.component_rows
+    ensures { Adds W.contents W.faults result rows.old rows.new (of.component_change_rows
         (names_in kept.now) area.now changes.now) }
 {
-    let verdict = verdict_of(kept, *area);
+    let verdict = change_verdict(kept, *area);
     for change in changes {
         rows.add(component_change_row(verdict, area.area.text(), change))?;
     }
@@ -83,7 +83,7 @@ pub fn add_region_changes<'a, W: Sink + Drop>(
     changes: &'a [RegionChange],
 ) -> Result<(), WriteFault>
     ensures { Adds W.contents W.faults result rows.old rows.new
-        (flat_map (of.region_rows (names_in kept.now)) changes.now) }
+        (flat_map (of.region_change_rows (names_in kept.now)) changes.now) }
 {
     for change in changes {
         match change {

@@ -21,28 +21,23 @@ fn difference_row<'a>(v: Verdict, what: Difference) -> Row<'a>
 pub fn component_change_row<'a>(v: Verdict, area: &'a [u8], change: &'a ComponentChange) -> Row<'a>
     ensures { seen_row result ≡ of.component_change_row v area.now change.now }
 {
-    match change {
+    let (row, name, at) = match change {
         ComponentChange::Added { at, name } => {
-            let added = v.row("component-added", "component added");
-            added.of_component(area, name.as_slice()).at(*at)
+            (v.row("component-added", "component added"), name, at)
         }
         ComponentChange::Removed { at, name } => {
-            let removed = v.row("component-removed", "component removed");
-            removed.of_component(area, name.as_slice()).at(*at)
+            (v.row("component-removed", "component removed"), name, at)
         }
         ComponentChange::Changed {
             new,
             name,
             what,
             ..
-        } => {
-            let changed = difference_row(v, *what);
-            changed.of_component(area, name.as_slice()).at(*new)
-        }
+        } => (difference_row(v, *what), name, new),
         ComponentChange::Moved { old, new, name } => {
             let moved = v.row("component-moved", "component moved from");
-            let moved = moved.number(*old);
-            moved.of_component(area, name.as_slice()).at(*new)
+            (moved.number(*old), name, new)
         }
-    }
+    };
+    row.of_component(area, name.as_slice()).at(*at)
 }

@@ -1,12 +1,13 @@
 //! Rows of an image's findings.
-ghost use Rattle.std.specs.Prelude.{◌≡◌};
+ghost use Rattle.std.specs.Prelude.{◌≡◌, slice_get};
+ghost use Rattle.std.specs.Option.{option_copied};
 ghost use Rattle.check_report.specs.Names.{names_in};
 ghost use Rattle.check_report.specs.Rows.Rows.{seen_row};
 ghost use Rattle.check_report.specs.Rows.Writing.{Adds};
 ghost use Rattle.check_report.specs.FindingRows as of;
 
 use crate::fault::WriteFault;
-use crate::map::{map_row, verdict_of};
+use crate::map::{finding_verdict, map_row};
 use crate::region::add_region;
 use crate::request::Asked;
 use crate::rows::{Row, RowWriter, Verdict};
@@ -14,20 +15,27 @@ use check_findings::ImageFinding;
 use flash_device::Sink;
 use flash_map::NumberedArea;
 
-fn missing_row<'a>(names: &[&'a [u8]], number: usize) -> Row<'a>
-    ensures { seen_row result ≡ of.missing_row (names_in names.now) number }
+/// Returns the row of a name without an area.
+pub fn missing_row<'a>(name: Option<&'a [u8]>) -> Row<'a>
+    ensures { seen_row result ≡ of.missing_row (option_copied name.entry) }
 {
     Row {
-        area: names.get(number).copied(),
+        area: name,
         ..Verdict::Bad.row("no-area", "no such area")
     }
+}
+
+fn name_at<'a>(names: &[&'a [u8]], number: usize) -> Option<&'a [u8]>
+    ensures { option_copied result ≡ slice_get (names_in names.now) number }
+{
+    names.get(number).copied()
 }
 
 fn not_checked_row<'a>(area: &'a NumberedArea, is_named: bool) -> Row<'a>
     ensures { seen_row result ≡ of.not_checked_row area.now is_named }
 {
     let what = "isn't checked: checked areas would exceed twice the image";
-    let row = verdict_of(is_named).row("area-not-checked", what);
+    let row = finding_verdict(is_named).row("area-not-checked", what);
     row.of(area)
 }
 
@@ -50,7 +58,7 @@ pub fn add_findings<'a, W: Sink + Drop>(
             ImageFinding::NotChecked { area, is_named } => {
                 rows.add(not_checked_row(area, *is_named))?;
             }
-            ImageFinding::NoArea(number) => rows.add(missing_row(names, *number))?,
+            ImageFinding::NoArea(number) => rows.add(missing_row(name_at(names, *number)))?,
         }
     }
     Ok(())

@@ -178,7 +178,7 @@ impl Inspection {
                 is_bad: Err(fault),
             };
         }
-        let mut rows = RowWriter::new(printer, request.asked.is_verbose);
+        let mut rows = RowWriter::new(alloc, printer, request.asked.is_verbose);
         let is_bad = self.print_rows(alloc, request, &mut rows);
         Written {
             out: rows.into_inner(),

@@ -7,6 +7,7 @@ ghost use Rattle.check_report.specs.Rows.Writing.{Adds};
 ghost use Rattle.check_report.specs.ChangeRows as of;
 
 use crate::fault::WriteFault;
+use crate::findings::missing_row;
 use crate::rows::{RowWriter, Verdict};
 use flash_device::Sink;
 use flash_map::NumberedArea;
@@ -18,8 +19,8 @@ pub fn is_kept(kept: &[&[u8]], area: NumberedArea) -> bool
     kept.iter().any(|name| area.area.name_is(name))
 }
 
-pub fn verdict_of(kept: &[&[u8]], area: NumberedArea) -> Verdict
-    ensures { result ≡ of.verdict_of (names_in kept.now) area }
+pub fn change_verdict(kept: &[&[u8]], area: NumberedArea) -> Verdict
+    ensures { result ≡ of.change_verdict (names_in kept.now) area }
 {
     if is_kept(kept, area) {
         Verdict::Bad
@@ -34,18 +35,10 @@ fn is_there(areas: &[NumberedArea], name: &[u8]) -> bool
     areas.iter().any(|a| a.area.name_is(name))
 }
 
-fn add_if_missing<'a, W: Sink + Drop>(
-    rows: &mut RowWriter<'a, W>,
-    name: &'a [u8],
-    old_areas: &[NumberedArea],
-    new_areas: &[NumberedArea],
-) -> Result<(), WriteFault>
-    ensures { Adds W.contents W.faults result rows.old rows.new
-        (of.missing_if old_areas.now new_areas.now name.now) }
+fn is_missing(old_areas: &[NumberedArea], new_areas: &[NumberedArea], name: &[u8]) -> bool
+    ensures { result ≡ of.is_missing old_areas.now new_areas.now name.now }
 {
-    let is_missing = !(is_there(old_areas, name) || is_there(new_areas, name));
-    let missing = Verdict::Bad.row("no-area", "no such area");
-    rows.add_if(is_missing, missing.in_area(name))
+    !(is_there(old_areas, name) || is_there(new_areas, name))
 }
 
 /// Adds a row for each kept name that neither image has.
@@ -59,7 +52,8 @@ pub fn add_missing<'a, W: Sink + Drop>(
         (flat_map (of.missing_if old_areas.now new_areas.now) (names_in kept.now)) }
 {
     for name in kept {
-        add_if_missing(rows, name, old_areas, new_areas)?;
+        let missing = missing_row(Some(name));
+        rows.add_if(is_missing(old_areas, new_areas, name), missing)?;
     }
     Ok(())
 }

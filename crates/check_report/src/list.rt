@@ -16,13 +16,13 @@ fn component_fields<'a>(area: &'a [u8], at: u64, name: &'a [u8], content: Conten
     ensures { map seen_field result ≡ (component_line area.now at name.now content).fields }
 {
     [
-        Field::new("area", Value::Name(area)),
-        Field::new("component", Value::Name(name)),
-        Field::new("position", Value::Offset(at)),
-        Field::new("type", Value::of_type(content.kind)),
-        Field::new("length", Value::Count(u64::from(content.len))),
-        Field::new("compression", Value::of_compression(content.compression)),
-        Field::new("hash", Value::Text(hash_words(content.hash).1)),
+        ("area", Value::Name(area)),
+        ("component", Value::Name(name)),
+        ("position", Value::Offset(at)),
+        ("type", Value::of_type(content.kind)),
+        ("length", Value::Count(u64::from(content.len))),
+        ("compression", Value::of_compression(content.compression)),
+        ("hash", Value::Text(hash_words(content.hash).1)),
     ]
 }
 

@@ -7,8 +7,8 @@ use crate::rows::{Row, Verdict};
 use check_findings::{MapFinding, is_bad_map};
 
 /// Returns `Bad` or `Remark`.
-pub fn verdict_of(is_bad: bool) -> Verdict
-    ensures { result ≡ rows.verdict_of is_bad }
+pub fn finding_verdict(is_bad: bool) -> Verdict
+    ensures { result ≡ rows.finding_verdict is_bad }
 {
     if is_bad {
         Verdict::Bad
@@ -20,7 +20,7 @@ pub fn verdict_of(is_bad: bool) -> Verdict
 pub fn map_row(finding: &MapFinding) -> Row<'_>
     ensures { seen_row result ≡ rows.map_row finding.now }
 {
-    let v = verdict_of(is_bad_map(finding));
+    let v = finding_verdict(is_bad_map(finding));
     match finding {
         MapFinding::NoMap => v.row("no-map", "no flashmap"),
         MapFinding::Map(map) => v.row("map", "flashmap").at(map.at),

@@ -6,7 +6,7 @@ ghost use Rattle.check_report.specs.Rows.Writing.{Adds};
 ghost use Rattle.check_report.specs.FindingRows as of;
 
 use crate::fault::WriteFault;
-use crate::map::verdict_of;
+use crate::map::finding_verdict;
 use crate::request::Asked;
 use crate::rows::{Row, RowWriter, Verdict};
 use check_findings::{HashFinding, RegionFinding, is_bad_hash, is_text};
@@ -70,7 +70,7 @@ fn add_component<'a, W: Sink + Drop>(
     let untyped = untyped.of_component(region, name).at(at);
     rows.add_if(type_name(content.kind).is_none(), untyped)?;
     let (code, what) = hash_words(content.hash);
-    let verdict = verdict_of(is_bad_hash(content.hash, asked.needs_hashes));
+    let verdict = finding_verdict(is_bad_hash(content.hash, asked.needs_hashes));
     let hashed = verdict.row(code, what).of_component(region, name).at(at);
     rows.add_if(asked.has_hash_row(content.hash), hashed)
 }
@@ -92,34 +92,35 @@ fn plain_row<'a>(finding: &RegionFinding) -> Option<Row<'a>>
     ensures { option_map seen_row result ≡ of.plain_row finding.now }
 {
     let (bad, remark) = (Verdict::Bad, Verdict::Remark);
-    match finding {
-        RegionFinding::Component { .. } => None,
-        RegionFinding::BadSize => Some(bad.row("region-size", "size is 0 or no multiple of 64")),
-        RegionFinding::NotCbfs => Some(bad.row("no-cbfs", "no CBFS")),
+    let row = match finding {
+        RegionFinding::Component { .. } => return None,
+        RegionFinding::BadSize => bad.row("region-size", "size is 0 or no multiple of 64"),
+        RegionFinding::NotCbfs => bad.row("no-cbfs", "no CBFS"),
         RegionFinding::Deleted { at } => {
-            Some(remark.row("component-deleted", "deleted component").at(*at))
+            remark.row("component-deleted", "deleted component").at(*at)
         }
-        RegionFinding::Complete => Some(remark.row("complete", "complete")),
-        RegionFinding::Tail { at } => Some(remark.row("tail", "unused tail").at(*at)),
+        RegionFinding::Complete => remark.row("complete", "complete"),
+        RegionFinding::Tail { at } => remark.row("tail", "unused tail").at(*at),
         RegionFinding::TailFilled { at } => {
             let what = "unused tail has other bytes than 0xff and 0x00";
-            Some(bad.row("tail-bytes", what).at(*at))
+            bad.row("tail-bytes", what).at(*at)
         }
         RegionFinding::TailEntry { at } => {
-            Some(bad.row("tail-entry", "entry in the unused tail").at(*at))
+            bad.row("tail-entry", "entry in the unused tail").at(*at)
         }
         RegionFinding::Damaged { at, kind } => {
-            Some(bad.row("entry-damaged", damage_text(*kind)).at(*at))
+            bad.row("entry-damaged", damage_text(*kind)).at(*at)
         }
-        RegionFinding::NoComponents => Some(remark.row("no-components", "no components")),
-        RegionFinding::Components(n) => Some(remark.row("components", "components").count(*n)),
-        RegionFinding::FreeBytes(n) => Some(remark.row("free-bytes", "free bytes").count(*n)),
+        RegionFinding::NoComponents => remark.row("no-components", "no components"),
+        RegionFinding::Components(n) => remark.row("components", "components").count(*n),
+        RegionFinding::FreeBytes(n) => remark.row("free-bytes", "free bytes").count(*n),
         RegionFinding::LargestContent(n) => {
             let what = "largest content that add takes";
-            Some(remark.row("largest-content", what).count(*n))
+            remark.row("largest-content", what).count(*n)
         }
-        RegionFinding::NoRoom => Some(remark.row("no-room", "no room for a component")),
-    }
+        RegionFinding::NoRoom => remark.row("no-room", "no room for a component"),
+    };
+    Some(row)
 }
 
 pub fn add_region<'a, W: Sink + Drop>(

@@ -1,23 +1,20 @@
 -- Different blocks of a region.
-use Rattle.std.proofs.Common.{◌≡◌, ◌∙◌, ℕ, zero, suc, ◌+◌, ◌-◌, ◌*◌, ◌<◌, ◌≤◌, Bool, true, false, List, length, take, drop, min, max, refl, sym, ap, arith, ⊎_elim, length-take, length-drop, slice_range}
-use Rattle.std.specs.Prelude.{not, if◌then◌else◌}
+use Rattle.std.proofs.Common.{◌≡◌, ◌∙◌, ℕ, zero, suc, ◌+◌, ◌-◌, ◌*◌, ◌<◌, ◌≤◌, Bool, true, List, length, take, drop, min, max, refl, sym, ap, arith, length-take, length-drop, slice_range}
+use Rattle.std.specs.Prelude.{not}
 use Rattle.std.specs.Int.{from_bool}
 use Rattle.std.specs.Str.{bytes_eq}
-use Rattle.std.proofs.lemmas.Bool.{cases_lt, false_from_ne_true}
+use Rattle.std.proofs.lemmas.Bool.{false_from_ne_true}
+use Rattle.std.proofs.lemmas.Bool.Decides.{nat_tests}
 use Rattle.std.proofs.lemmas.List.{drop-drop, drop-take, take-take, take_all}
 use Rattle.std.proofs.lemmas.Slice.Eq.{bytes_eq-Decides}
 use Rattle.flash_device.specs.Regions.{Range, bytes_in}
 use Rattle.flash_device.proofs.BytesLemmas.{slice_range_is}
-use Rattle.check_changes.specs.declared.images.Lengths.{Lengths}
-use Rattle.check_changes.specs.declared.images.RegionPair.{RegionPair}
+use Rattle.check_changes.specs.declared.images.Both.{Both}
 use Rattle.check_changes.specs.Areas.Blocks.{blocks_of, block, differs, count_below, different_blocks}
 
 -- two limits on a length are the lower limit
 take-both : (m n : ℕ) (x : List ℕ) → take m (take n x) ≡ take (min n m) x
-take-both m n x = ⊎_elim
-    (λ lt. let lower : min n m ≡ n = omega arith in take_all m (take n x) (omega (arith, length-take n x)) ∙ ap (λ k. take k x) (sym lower))
-    (λ le. let lower : min n m ≡ m = omega arith in take-take m n x le ∙ ap (λ k. take k x) (sym lower))
-    (cases_lt n m)
+take-both m n x = grind (arith, nat_tests, take-take, take_all, length-take)
 
 -- a block of a region, as bytes of the image
 pub block-bytes_in : (r : Range) (image : List ℕ) (number start n : ℕ) → start ≡ 4096 * number → n ≡ min (r.size - start) 4096 → start ≤ r.size → slice_range image (r.start + start) (r.start + start + n) ≡ block number (bytes_in r image)
@@ -40,33 +37,29 @@ differs-bytes_in r s x y u v number start from at m n different begins old_at ne
     ∙ ap (λ (l : List ℕ). not (bytes_eq l v)) (u_is ∙ ap (λ k. slice_range x k (k + m)) old_at ∙ block-bytes_in r x number start m begins first in_old)
     ∙ ap (λ (l : List ℕ). not (bytes_eq (block number (bytes_in r x)) l)) (v_is ∙ ap (λ k. slice_range y k (k + n)) new_at ∙ block-bytes_in s y number start n begins second in_new)
 
--- blocks of different lengths differ
-differs-lengths : (x y : List ℕ) (number : ℕ) → (length (block number x) ≡ length (block number y) → ⊥) → differs x y number ≡ true
-differs-lengths x y number other =
-    ap not (false_from_ne_true (bytes_eq (block number x) (block number y)) (λ same. absurd (other (ap length ((bytes_eq-Decides (block number x) (block number y)).0 same)))))
-
 length-block : (x : List ℕ) (number : ℕ) → length (block number x) ≡ min 4096 (length x - 4096 * number)
 length-block x number = length-take 4096 (drop (4096 * number) x) ∙ ap (min 4096) (length-drop (4096 * number) x)
 
 -- each block of the longer list differs after the end of the shorter
 differs-behind : (x y : List ℕ) (number : ℕ) → blocks_of (min (length x) (length y)) ≤ number → number < blocks_of (max (length x) (length y)) → differs x y number ≡ true
-differs-behind x y number behind before = differs-lengths x y number (λ same. absurd (omega (arith, behind, before, same, length-block x number, length-block y number)))
+differs-behind x y number behind before =
+    ap not (false_from_ne_true _ (λ (same : bytes_eq (block number x) (block number y) ≡ true). absurd (omega (arith, behind, before, ap length ((bytes_eq-Decides (block number x) (block number y)).0 same), length-block x number, length-block y number))))
 
 -- the count in the longer list, by the count in the shorter
 more-behind : (x y : List ℕ) (k : ℕ) → blocks_of (min (length x) (length y)) + k ≤ blocks_of (max (length x) (length y)) → count_below (differs x y) (blocks_of (min (length x) (length y)) + k) ≡ count_below (differs x y) (blocks_of (min (length x) (length y))) + k
-more-behind x y zero within = let same = λ (n : ℕ). count_below (differs x y) n in ap same {x = blocks_of (min (length x) (length y)) + 0} {y = blocks_of (min (length x) (length y))} (omega arith) ∙ omega arith
+more-behind x y zero within = ap (λ n. count_below (differs x y) n) {x = blocks_of (min (length x) (length y)) + 0} {y = blocks_of (min (length x) (length y))} (omega arith) ∙ omega arith
 more-behind x y (suc k) within =
     let here = blocks_of (min (length x) (length y)) + k in
     let next : blocks_of (min (length x) (length y)) + suc k ≡ suc here = omega arith in
     let fewer = more-behind x y k (omega (arith, within)) in
-    let one : ◌≡◌ {A = ℕ} (if differs x y here then 1 else 0) 1 = rw (differs-behind x y here (omega arith) (omega (arith, within))) refl in
+    let one = ap from_bool (differs-behind x y here (omega arith) (omega (arith, within))) in
     ap (λ n. count_below (differs x y) n) next ∙ omega (arith, fewer, one)
 
 bytes_in-whole : (r : Range) (x : List ℕ) (n : ℕ) → r ≡ record { start = 0; size = n } → n ≡ length x → bytes_in r x ≡ x
 bytes_in-whole r x n is long = ap (λ (r : Range). bytes_in r x) is ∙ slice_range_is x 0 n ∙ take_all n x (omega (arith, long))
 
 -- all different blocks of two images, by the blocks of the shorter
-pub different_blocks-all : (x y : List ℕ) (r : RegionPair) (lens : Lengths) (shorter longer common count : ℕ)
+pub different_blocks-all : (x y : List ℕ) (r : Both Range) (lens : Both ℕ) (shorter longer common count : ℕ)
     → r ≡ record { old = record { start = 0; size = lens.old }; new = record { start = 0; size = lens.new } } → lens.old ≡ length x → lens.new ≡ length y
     → shorter ≡ blocks_of (min lens.old lens.new) → longer ≡ blocks_of (max lens.old lens.new)
     → common ≡ count_below (differs (bytes_in r.old x) (bytes_in r.new y)) shorter → count ≡ longer - shorter + common → count ≡ different_blocks x y
@@ -75,21 +68,16 @@ different_blocks-all x y r lens shorter longer common count whole old_len new_le
     let short : shorter ≡ blocks_of (min (length x) (length y)) = omega (arith, old_len, new_len, few) in
     let long : blocks_of (min (length x) (length y)) + (longer - shorter) ≡ blocks_of (max (length x) (length y)) = omega (arith, old_len, new_len, few, many) in
     let own : common ≡ count_below (differs x y) shorter =
-    is ∙ ap (λ u. count_below (λ k. differs u (bytes_in r.new y) k) shorter) (bytes_in-whole r.old x lens.old (ap (λ (r : RegionPair). r.old) whole) old_len)
-    ∙ ap (λ v. count_below (λ k. differs x v k) shorter) (bytes_in-whole r.new y lens.new (ap (λ (r : RegionPair). r.new) whole) new_len) in
+    is ∙ ap (λ u. count_below (λ k. differs u (bytes_in r.new y) k) shorter) (bytes_in-whole r.old x lens.old (ap (λ (r : Both Range). r.old) whole) old_len)
+    ∙ ap (λ v. count_below (λ k. differs x v k) shorter) (bytes_in-whole r.new y lens.new (ap (λ (r : Both Range). r.new) whole) new_len) in
     let all = sym (more-behind x y (longer - shorter) (omega (arith, long))) ∙ ap (count_below (differs x y)) long in
     omega (arith, sum, own, all, ap (count_below (differs x y)) short)
 
 -- another block is counted
-one_if : (b : Bool) → from_bool b ≡ (if b then 1 else 0)
-one_if true = refl
-one_if false = refl
-
 pub count_below-more : (test : ℕ → Bool) (number one : ℕ) (passes : Bool) → passes ≡ test number → one ≡ from_bool passes → count_below test number + one ≡ count_below test (number + 1)
 count_below-more test number one passes is counted =
     let next : number + 1 ≡ suc number = omega arith in
-    rw (next, counted, is) (ap (λ k. count_below test number + k) (one_if (test number)))
+    rw (next, counted, is) refl
 
 pub at_most_one : (b : Bool) (n : ℕ) → n ≡ from_bool b → n ≤ 1
-at_most_one true n is = omega arith
-at_most_one false n is = omega arith
+at_most_one b n is = grind (arith, nat_tests)

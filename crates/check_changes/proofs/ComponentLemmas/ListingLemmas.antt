@@ -4,13 +4,12 @@ use Rattle.std.specs.Prelude.{All, IsErrOf, Vec, slice_range}
 use Rattle.std.specs.declared.alloc.Global.{Global}
 use Rattle.std.proofs.lemmas.List.{map-append, append-nil}
 use Rattle.std.proofs.lemmas.List.Elements.{All-nil}
-use Rattle.flash_format.specs.declared.head.Head.{Head}
 use Rattle.flash_format.specs.Head.{head_of, is_free}
 use Rattle.flash_format.specs.Entry.{name_end}
 use Rattle.flash_format.specs.Cut.{Cut}
 use Rattle.flash_format.specs.Components.{component_at, components_from, cell_name}
 use Rattle.flash_device.specs.Device.{Device}
-use Rattle.flash_device.specs.Pages.{Pages, HasRead}
+use Rattle.flash_device.specs.Pages.{Pages, HasRead, OnHonestIn}
 use Rattle.flash_device.proofs.WindowLemmas.{HasRead-none, HasRead-then, HasRead-within}
 use Rattle.flash_device.specs.Regions.{Range, LiesOn, bytes_in}
 use Rattle.flash_device.proofs.DeviceLemmas.{honest_still, length-bytes_in}
@@ -24,14 +23,14 @@ use Rattle.cbfs_walk.specs.declared.walk.WalkFault.TheVariants as walk
 use Rattle.cbfs_walk.proofs.Parts.{range-inner}
 use Rattle.cbfs_walk.proofs.Shapes.{shaped_step}
 use Rattle.check_changes.specs.Components.ComponentChanges.{ComponentState, state_of, states}
-use Rattle.check_changes.specs.Components.Listings.{IsListedIn, Lists, cell_states, spans, state_at, state_in}
+use Rattle.check_changes.specs.Components.Listings.{IsListedIn, Lists, cell_states, spans, state_in, states_in}
 use Rattle.check_changes.specs.declared.components.listing.Listed.{Listed}
 
 -- ---- one cell
 
--- the compared parts of a cell are in its bytes
+-- the compared parts of a component are in its bytes
 pub state_shown : (x : List ℕ) (c : Cell) (name : List ℕ) → is_free c.head ≡ false → name ≡ cell_name (cell_in x c) → head_of (cell_in x c) ≡ c.head → c.head.offset + c.head.len ≤ c.span
-    → state_at x name c ∷ [] ≡ cell_states x c
+    → state_in x (record { name = name; cell = c }) ∷ [] ≡ cell_states x c
 state_shown x c name used is_name is_head fits = rw used (ap (λ (s : ComponentState). s ∷ []) same)
   where
     content : content_at x c ≡ slice_range (cell_in x c) c.head.offset (c.head.offset + c.head.len)
@@ -40,12 +39,8 @@ state_shown x c name used is_name is_head fits = rw used (ap (λ (s : ComponentS
     attributes : slice_range x (c.at + name_end c.head) (c.at + c.head.offset) ≡ slice_range (cell_in x c) (name_end c.head) c.head.offset
     attributes = sym (range-inner x c.at (c.at + c.span) (name_end c.head) c.head.offset (omega (arith, fits)))
 
-    same : state_at x name c ≡ state_of (component_at c.at (cell_in x c))
-    same =
-        ap (λ (n : List ℕ). record (state_at x name c) { name = n }) is_name
-        ∙ ap (λ (l : List ℕ). record (state_at x (cell_name (cell_in x c)) c) { content = l }) content
-        ∙ ap (λ (l : List ℕ). record (state_at x (cell_name (cell_in x c)) c) { content = slice_range (cell_in x c) c.head.offset (c.head.offset + c.head.len); attributes = l }) attributes
-        ∙ ap (λ (h : Head). record { at = c.at; name = cell_name (cell_in x c); kind = h.kind; content = slice_range (cell_in x c) h.offset (h.offset + h.len); attributes = slice_range (cell_in x c) (name_end h) h.offset }) (sym is_head)
+    same : state_in x (record { name = name; cell = c }) ≡ state_of (component_at c.at (cell_in x c))
+    same = rw (is_name, content, attributes, sym is_head) refl
 
 -- another component
 pub listed_more : (x : List ℕ) (old new : List Listed) (l : Listed) → state_in x l ∷ [] ≡ cell_states x l.cell → new ≡ old ++ l ∷ [] → map (state_in x) new ≡ map (state_in x) old ++ cell_states x l.cell
@@ -88,39 +83,36 @@ IsNoCell a = (c : Cell) → a ≡ Ok (steps.Cell c) → ⊥
 states_end : (x : List ℕ) (a : Answer) → IsNoCell a → states_by x a ≡ []
 unfolding states_by rest_read components_from
 states_end x (Ok (steps.Cell c)) none = absurd (none c refl)
-states_end x (Ok steps.End) none = refl
-states_end x (Ok (steps.Tail at)) none = refl
-states_end x (Err walk.Device) none = refl
-states_end x (Err walk.RegionShape) none = refl
-states_end x (Err walk.NotCbfs) none = refl
+states_end x (Ok step) none = refl
 states_end x (Err (walk.Damaged at kind)) none = refl
+states_end x (Err fault) none = refl
 
 -- ---- the loop
 
 -- the listing has reached the walk's offset
-pub record ListedSoFar {F : Type 0} (facts : F → Device) (r : Range) (w : Walking) (all : List Listed) (old now : Pages F) : Type 0 where
+pub record ListedSoFar {F : Type 0} (facts : F → Device) (r : Range) (w : Walking) (all : Vec Listed Global) (old now : Pages F) : Type 0 where
   pub region : w.region ≡ r
   pub going : w.ended ≡ None
   pub inside : w.at ≤ r.size
   pub aligned : w.at % 64 ≡ 0
   pub read : HasRead facts (w.at / 24) 0 old now
-  pub cells : All (IsListedIn r.size) all
-  pub room : spans all ≤ w.at
-  pub so_far : IsTrue (facts old.device).honest → map (state_in (bytes_in r (facts old.device).content)) all ++ states_from (bytes_in r (facts old.device).content) w.at ≡ states (bytes_in r (facts old.device).content)
+  pub cells : All (IsListedIn r.size) all.items
+  pub room : spans all.items ≤ w.at
+  pub so_far : IsTrue (facts old.device).honest → states_in (bytes_in r (facts old.device).content) all.items ++ states_from (bytes_in r (facts old.device).content) w.at ≡ states (bytes_in r (facts old.device).content)
 
-pub listing_start : {F : Type 0} (facts : F → Device) (r : Range) (all : List Listed) (old : Pages F) → all ≡ [] → ListedSoFar facts r (walk_of r) all old old
-listing_start facts r all old none = rw none (record {
+pub listing_start : {F : Type 0} (facts : F → Device) (r : Range) (all : Vec Listed Global) (old : Pages F) → all.items ≡ [] → ListedSoFar facts r (walk_of r) all old old
+listing_start facts r all old none = record {
   region = refl;
   going = refl;
   inside = omega arith;
   aligned = refl;
   read = HasRead-within facts 0 (0 / 24) 0 old old (omega arith) (HasRead-none facts old);
-  cells = All-nil (IsListedIn r.size);
-  room = omega arith;
-  so_far = λ h. sym (states_whole (bytes_in r (facts old.device).content));
-})
+  cells = rw none (All-nil (IsListedIn r.size));
+  room = rw none (omega arith);
+  so_far = λ h. rw none (sym (states_whole (bytes_in r (facts old.device).content)));
+}
 
-module _ {F : Type 0} (facts : F → Device) (r : Range) (w : Walking) (all : List Listed) (old now : Pages F) (lies : LiesOn r (facts old.device)) (i : ListedSoFar facts r w all old now) where
+module _ {F : Type 0} (facts : F → Device) (r : Range) (w : Walking) (all : Vec Listed Global) (old now : Pages F) (lies : LiesOn r (facts old.device)) (i : ListedSoFar facts r w all old now) where
   abbrev x : List ℕ
   x = bytes_in r (facts old.device).content
 
@@ -128,24 +120,24 @@ module _ {F : Type 0} (facts : F → Device) (r : Range) (w : Walking) (all : Li
   abbrev pub Answers : Answer → Type 0
   Answers a = IsTrue (facts now.device).honest → w.ended ≡ None → IsErrOf a walk.Device ⊎ (a ≡ answer_at (bytes_in w.region (facts now.device).content) w.at)
 
-  answered : (a : Answer) → (IsErrOf a walk.Device → ⊥) → Answers a → IsTrue (facts old.device).honest → (a ≡ answer_at x w.at) × (map (state_in x) all ++ states_by x a ≡ states x)
+  answered : (a : Answer) → (IsErrOf a walk.Device → ⊥) → Answers a → IsTrue (facts old.device).honest → (a ≡ answer_at x w.at) × (states_in x all.items ++ states_by x a ≡ states x)
   answered a other answer h = go (answer (honest_still i.read.device.calls.same_honesty h) i.going)
     where
-      go : IsErrOf a walk.Device ⊎ (a ≡ answer_at (bytes_in w.region (facts now.device).content) w.at) → (a ≡ answer_at x w.at) × (map (state_in x) all ++ states_by x a ≡ states x)
+      go : IsErrOf a walk.Device ⊎ (a ≡ answer_at (bytes_in w.region (facts now.device).content) w.at) → (a ≡ answer_at x w.at) × (states_in x all.items ++ states_by x a ≡ states x)
       go (inl fault) = absurd (other fault)
       go (inr is) =
           let len : length x ≡ r.size = length-bytes_in r (facts old.device).content lies.inside in
           let here : a ≡ answer_at x w.at = is ∙ ap (λ (k : Range). answer_at (bytes_in k (facts now.device).content) w.at) i.region ∙ ap (λ (l : List ℕ). answer_at (bytes_in r l) w.at) (i.read.device.unchanged h) in
           let step : states_by x a ≡ states_from x w.at = ap (λ (b : Answer). states_by x b) here ∙ sym (states_step x w.at (omega (arith, len, i.inside)) i.aligned) in
-          (here, ap (λ (l : List ComponentState). map (state_in x) all ++ l) step ∙ i.so_far h)
+          (here, ap (λ (l : List ComponentState). states_in x all.items ++ l) step ∙ i.so_far h)
 
   -- a cell is listed
-  pub listing_more : (c : Cell) (v : Walking) (next : List Listed) (mid new : Pages F) (n : ℕ) → IsCellIn w.region.size c × (c.at ≡ w.at)
+  pub listing_more : (c : Cell) (v : Walking) (next : Vec Listed Global) (mid new : Pages F) (n : ℕ) → IsCellIn w.region.size c × (c.at ≡ w.at)
       → HasRead facts n 0 now mid → n ≡ reads_over c.span → HasRead facts 1 0 mid new
       → Answers (Ok (steps.Cell c))
       → v ≡ record w { at = w.at + c.span; steps = w.steps + 1 }
-      → (All (IsListedIn r.size) all → All (IsListedIn r.size) next) → spans next ≤ spans all + c.span
-      → (IsTrue (facts mid.device).honest → StandsIn (bytes_in r (facts mid.device).content) c → map (state_in (bytes_in r (facts mid.device).content)) next ≡ map (state_in (bytes_in r (facts mid.device).content)) all ++ cell_states (bytes_in r (facts mid.device).content) c)
+      → (All (IsListedIn r.size) all.items → All (IsListedIn r.size) next.items) → spans next.items ≤ spans all.items + c.span
+      → OnHonestIn facts mid.device r (λ x. StandsIn x c → states_in x next.items ≡ states_in x all.items ++ cell_states x c)
       → ListedSoFar facts r v next old new
   unfolding states_by states_from rest_cell
   listing_more c v next mid new n given reads few more answer moved cells room listed = rw moved (record {
@@ -161,10 +153,10 @@ module _ {F : Type 0} (facts : F → Device) (r : Range) (w : Walking) (all : Li
         let same : (facts mid.device).content ≡ (facts old.device).content = reads.device.unchanged k ∙ i.read.device.unchanged h in
         let told = answered (Ok (steps.Cell c)) (λ e. absurd cc) answer h in
         let stands : StandsIn x c = ap (λ p. answer_at x p) given.1 ∙ sym told.0 in
-        let here : map (state_in x) next ≡ map (state_in x) all ++ cell_states x c = (rw same at (listed (honest_still reads.device.calls.same_honesty k))) stands in
+        let here : states_in x next.items ≡ states_in x all.items ++ cell_states x c = (rw same at (listed (honest_still reads.device.calls.same_honesty k))) stands in
         ap (λ (l : List ComponentState). l ++ states_from x (w.at + c.span)) here
-        ∙ append_assoc (map (state_in x) all) (cell_states x c) (states_from x (w.at + c.span))
-        ∙ ap (λ p. map (state_in x) all ++ (cell_states x c ++ states_from x (p + c.span))) (sym given.1)
+        ∙ append_assoc (states_in x all.items) (cell_states x c) (states_from x (w.at + c.span))
+        ∙ ap (λ p. states_in x all.items ++ (cell_states x c ++ states_from x (p + c.span))) (sym given.1)
         ∙ told.1;
   })
     where
@@ -172,13 +164,9 @@ module _ {F : Type 0} (facts : F → Device) (r : Range) (w : Walking) (all : Li
       cell_of_region = rw i.region at given.0
 
   -- the walk ended
-  listing_end : (a : Answer) → IsNoCell a → (IsErrOf a walk.Device → ⊥) → Answers a → IsTrue (facts old.device).honest → map (state_in x) all ≡ states x
-  listing_end a none other answer h = sym (append-nil (map (state_in x) all)) ∙ ap (λ (l : List ComponentState). map (state_in x) all ++ l) (sym (states_end x a none)) ∙ (answered a other answer h).1
-
-pub listing_lists : {F : Type 0} (facts : F → Device) (r : Range) (w : Walking) (all : Vec Listed Global) (old now : Pages F) (lies : LiesOn r (facts old.device)) (i : ListedSoFar facts r w all.items old now) (a : Answer)
-    → IsNoCell a → (IsErrOf a walk.Device → ⊥) → Answers facts r w all.items old now lies i a → Lists facts r old all
-listing_lists facts r w all old now lies i a none other answer = record {
-  cells = i.cells;
-  room = omega (arith, i.room, i.inside);
-  shown = listing_end facts r w all.items old now lies i a none other answer;
-}
+  pub listing_lists : (a : Answer) → IsNoCell a → (IsErrOf a walk.Device → ⊥) → Answers a → Lists facts r old all
+  listing_lists a none other answer = record {
+    cells = i.cells;
+    room = omega (arith, i.room, i.inside);
+    shown = λ h. sym (append-nil (states_in x all.items)) ∙ ap (λ (l : List ComponentState). states_in x all.items ++ l) (sym (states_end x a none)) ∙ (answered a other answer h).1;
+  }

@@ -3,14 +3,13 @@ use Rattle.std.specs.Prelude.{ℕ, ◌+◌, ◌-◌, ◌*◌, Bool, false, not, 
 use Rattle.std.specs.List.{find, flat_map, list_any}
 use Rattle.std.specs.Option.{option_map_or, option_and_then}
 use Rattle.flash_format.specs.Flashmap.{text_of}
-use Rattle.flash_device.specs.Regions.{bytes_in}
+use Rattle.flash_device.specs.Regions.{Range, bytes_in}
 use Rattle.flash_map.specs.declared.areas.NumberedArea.{NumberedArea}
 use Rattle.flash_map.specs.Areas.{has_name}
 use Rattle.check_changes.specs.declared.areas.change.AreaChange.{AreaChange}
 use Rattle.check_changes.specs.declared.areas.change.AreaChange.TheVariants.{Added, Gone, Moved, Resized, FlagsChanged, Differs, NotCompared}
 use Rattle.check_changes.specs.declared.areas.pairs.AreaPair.{AreaPair}
-use Rattle.check_changes.specs.declared.images.Lengths.{Lengths}
-use Rattle.check_changes.specs.declared.images.RegionPair.{RegionPair}
+use Rattle.check_changes.specs.declared.images.Both.{Both}
 use Rattle.check_changes.specs.Images.{lengths_of, regions_within}
 use Rattle.check_changes.specs.Lists.{only_if}
 use Rattle.check_changes.specs.Areas.Blocks.{blocks_of, count_below, differs}
@@ -33,13 +32,13 @@ abbrev pub pairs : List NumberedArea → List NumberedArea → List AreaPair
 pairs olds news = flat_map (pair_of olds news) news
 
 -- both areas as regions, if their sizes are equal and both lie in their images
-abbrev pub regions_of : Lengths → AreaPair → Option RegionPair
+abbrev pub regions_of : Both ℕ → AreaPair → Option (Both Range)
 regions_of lens p = option_and_then (λ (old : NumberedArea).
     if old.area.size == p.new.area.size then regions_within lens old p.new else None) p.old
 
 -- Inner regions hold a block of outer regions: the shift is equal, and the inner regions contain
 -- the whole block.
-abbrev pub has_block : RegionPair → ℕ → RegionPair → Bool
+abbrev pub has_block : Both Range → ℕ → Both Range → Bool
 has_block outer number inner =
     nat_lt inner.new.size outer.new.size
     && ((inner.old.start + outer.new.start == outer.old.start + inner.new.start)
@@ -47,26 +46,26 @@ has_block outer number inner =
     && nat_le (outer.new.start + min (4096 * number + 4096) outer.new.size)
     (inner.new.start + inner.new.size)))
 
-abbrev pub holds : Lengths → RegionPair → ℕ → AreaPair → Bool
+abbrev pub holds : Both ℕ → Both Range → ℕ → AreaPair → Bool
 holds lens outer number p = option_map_or (has_block outer number) (regions_of lens p) false
 
 -- a pair holds the block
-abbrev pub is_held : Lengths → List AreaPair → RegionPair → ℕ → Bool
+abbrev pub is_held : Both ℕ → List AreaPair → Both Range → ℕ → Bool
 is_held lens pairs outer number = list_any (holds lens outer number) pairs
 
-abbrev pub is_difference : List ℕ → List ℕ → RegionPair → ℕ → Bool
+abbrev pub is_difference : List ℕ → List ℕ → Both Range → ℕ → Bool
 is_difference x y r number = differs (bytes_in r.old x) (bytes_in r.new y) number
 
 -- the blocks differ, and no smaller pair holds them
-abbrev pub is_own_difference : List ℕ → List ℕ → List AreaPair → RegionPair → ℕ → Bool
+abbrev pub is_own_difference : List ℕ → List ℕ → List AreaPair → Both Range → ℕ → Bool
 is_own_difference x y pairs r number =
     is_difference x y r number && not (is_held (lengths_of x y) pairs r number)
 
 -- the numbers of different blocks, with and without blocks of smaller pairs
-abbrev pub all_blocks : List ℕ → List ℕ → RegionPair → ℕ
+abbrev pub all_blocks : List ℕ → List ℕ → Both Range → ℕ
 all_blocks x y r = count_below (is_difference x y r) (blocks_of r.old.size)
 
-abbrev pub own_blocks : List ℕ → List ℕ → List AreaPair → RegionPair → ℕ
+abbrev pub own_blocks : List ℕ → List ℕ → List AreaPair → Both Range → ℕ
 own_blocks x y pairs r = count_below (is_own_difference x y pairs r) (blocks_of r.old.size)
 
 abbrev pub entry_changes : Option NumberedArea → NumberedArea → List AreaChange
@@ -80,34 +79,35 @@ abbrev pub is_same_size : AreaPair → Bool
 is_same_size p = option_map_or (λ (a : NumberedArea). a.area.size == p.new.area.size) p.old false
 
 -- the compared regions, of at most `left` bytes
-abbrev pub compared : ℕ → Option RegionPair → Option RegionPair
+abbrev pub compared : ℕ → Option (Both Range) → Option (Both Range)
 compared left None = None
 compared left (Some r) = if nat_le r.old.size left then Some r else None
 
 -- the remaining bytes for comparisons
-abbrev pub left_after : ℕ → Option RegionPair → ℕ
+abbrev pub left_after : ℕ → Option (Both Range) → ℕ
 left_after left regions =
-    option_map_or (λ (r : RegionPair). left - r.old.size) (compared left regions) left
+    option_map_or (λ (r : Both Range). left - r.old.size) (compared left regions) left
+
+-- the changes by the regions of each element, which have at most `left` bytes
+abbrev pub changes_by : {A C : Type 0} → (A → Option (Both Range))
+    → (A → Option (Both Range) → List C) → ℕ → List A → List C
+changes_by regions changes left [] = []
+changes_by regions changes left (a ∷ rest) =
+    changes a (compared left (regions a))
+    ++ changes_by regions changes (left_after left (regions a)) rest
 
 -- the change of an area's bytes, by the compared regions
-abbrev pub change_in : List ℕ → List ℕ → List AreaPair → AreaPair → Option RegionPair
+abbrev pub content_changes : List ℕ → List ℕ → List AreaPair → AreaPair → Option (Both Range)
     → List AreaChange
-change_in x y pairs p None = only_if (is_same_size p) (NotCompared p.new)
-change_in x y pairs p (Some r) =
+content_changes x y pairs p None = only_if (is_same_size p) (NotCompared p.new)
+content_changes x y pairs p (Some r) =
     only_if (nat_lt 0 (all_blocks x y r))
     (Differs p.new (all_blocks x y r) (own_blocks x y pairs r))
 
--- the same, with `left` bytes for comparisons
-abbrev pub content_changes : ℕ → List ℕ → List ℕ → List AreaPair → AreaPair → List AreaChange
-content_changes left x y pairs p =
-    change_in x y pairs p (compared left (regions_of (lengths_of x y) p))
-
 -- the changes of some pairs, with `left` bytes for comparisons
 abbrev pub changes_in : ℕ → List ℕ → List ℕ → List AreaPair → List AreaPair → List AreaChange
-changes_in left x y pairs [] = []
-changes_in left x y pairs (p ∷ rest) =
-    entry_changes p.old p.new ++ content_changes left x y pairs p
-    ++ changes_in (left_after left (regions_of (lengths_of x y) p)) x y pairs rest
+changes_in left x y pairs some = changes_by (regions_of (lengths_of x y))
+    (λ p regions. entry_changes p.old p.new ++ content_changes x y pairs p regions) left some
 
 -- the removal of an old area
 abbrev pub gone_of : List NumberedArea → List NumberedArea → NumberedArea → List AreaChange

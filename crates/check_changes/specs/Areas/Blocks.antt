@@ -1,5 +1,6 @@
 -- Blocks of 4096 bytes. This project defines the size.
-use Rattle.std.specs.Prelude.{ℕ, zero, suc, ◌+◌, ◌*◌, ◌/◌, Bool, not, List, length, take, drop, max, if◌then◌else◌}
+use Rattle.std.specs.Prelude.{ℕ, zero, suc, ◌+◌, ◌*◌, ◌/◌, Bool, not, List, length, take, drop, max}
+use Rattle.std.specs.Int.{from_bool}
 use Rattle.std.specs.Str.{bytes_eq}
 
 -- the number of blocks of n bytes
@@ -16,7 +17,7 @@ differs x y number = not (bytes_eq (block number x) (block number y))
 -- how many numbers below n pass a test
 abbrev pub count_below : (ℕ → Bool) → ℕ → ℕ
 count_below test zero = 0
-count_below test (suc n) = count_below test n + (if test n then 1 else 0)
+count_below test (suc n) = count_below test n + from_bool (test n)
 
 -- the number of different blocks
 unfoldable pub different_blocks : List ℕ → List ℕ → ℕ

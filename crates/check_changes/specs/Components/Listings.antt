@@ -13,30 +13,24 @@ use Rattle.cbfs_walk.specs.declared.cell.Cell.{Cell}
 use Rattle.check_changes.specs.Components.ComponentChanges.{ComponentState, state_of, states}
 use Rattle.check_changes.specs.declared.components.listing.Listed.{Listed}
 
--- the cell of a component in a region of this size
-pub record IsUsedIn (size : ℕ) (c : Cell) : Type 0 where
-  pub cell : IsCellIn size c
-  pub used : is_free c.head ≡ false
-
-abbrev pub IsListedIn : ℕ → Listed → Type 0
-IsListedIn size l = IsUsedIn size l.cell
+-- a component's cell in a region of this size
+pub record IsListedIn (size : ℕ) (l : Listed) : Type 0 where
+  pub cell : IsCellIn size l.cell
+  pub used : is_free l.cell.head ≡ false
 
 -- the bytes of all cells
 abbrev pub spans : List Listed → ℕ
 spans all = sum_by (λ (l : Listed). l.cell.span) all
 
--- the compared parts of a cell, in regions of these bytes
-abbrev pub state_at : List ℕ → List ℕ → Cell → ComponentState
-state_at x name c = record {
-  at = c.at;
-  name = name;
-  kind = c.head.kind;
-  content = content_at x c;
-  attributes = slice_range x (attributes_start c) (content_start c);
-}
-
+-- the compared parts, in a region of these bytes
 abbrev pub state_in : List ℕ → Listed → ComponentState
-state_in x l = state_at x l.name l.cell
+state_in x l = record {
+  at = l.cell.at;
+  name = l.name;
+  kind = l.cell.head.kind;
+  content = content_at x l.cell;
+  attributes = slice_range x (attributes_start l.cell) (content_start l.cell);
+}
 
 abbrev pub states_in : List ℕ → List Listed → List ComponentState
 states_in x all = map (state_in x) all

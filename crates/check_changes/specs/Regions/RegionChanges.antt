@@ -1,40 +1,35 @@
 -- Changes of components in two images. This project defines their choice and order.
-use Rattle.std.specs.Prelude.{ℕ, List, [], ◌∷◌, ◌++◌, length, Option, Some, None}
+use Rattle.std.specs.Prelude.{ℕ, List, [], ◌∷◌, length, Option, Some, None, is_some}
 use Rattle.std.specs.Option.{option_and_then}
-use Rattle.flash_device.specs.Regions.{bytes_in}
+use Rattle.flash_device.specs.Regions.{Range, bytes_in}
 use Rattle.flash_map.specs.declared.areas.NumberedArea.{NumberedArea}
 use Rattle.check_findings.specs.declared.image.finding.ImageFinding.{ImageFinding}
 use Rattle.check_findings.specs.Image.RegionAreas.{region_areas}
-use Rattle.check_changes.specs.declared.images.Lengths.{Lengths}
-use Rattle.check_changes.specs.declared.images.RegionPair.{RegionPair}
+use Rattle.check_changes.specs.declared.images.Both.{Both}
 use Rattle.check_changes.specs.declared.regions.change.RegionChange.{RegionChange}
 use Rattle.check_changes.specs.declared.regions.change.RegionChange.TheVariants.{Compared, NotCompared}
-use Rattle.check_changes.specs.Areas.AreaChanges.{compared, left_after, namesake}
+use Rattle.check_changes.specs.Areas.AreaChanges.{changes_by, namesake}
 use Rattle.check_changes.specs.Components.ComponentChanges.{component_changes}
 use Rattle.check_changes.specs.Images.{lengths_of, regions_within}
+use Rattle.check_changes.specs.Lists.{only_if}
 
--- an area and an old namesake as regions
-abbrev pub regions_of : Lengths → Option NumberedArea → NumberedArea → Option RegionPair
-regions_of lens old a = option_and_then (λ (old : NumberedArea). regions_within lens old a) old
+-- an area and its first old namesake as regions
+abbrev pub regions_of : Both ℕ → List NumberedArea → NumberedArea → Option (Both Range)
+regions_of lens olds a =
+    option_and_then (λ (old : NumberedArea). regions_within lens old a) (namesake a olds)
 
--- the changes of an area's components, by the compared regions
-abbrev pub change_in : List ℕ → List ℕ → NumberedArea → Option RegionPair → RegionChange
-change_in x y a None = NotCompared a
-change_in x y a (Some r) = Compared a (component_changes (bytes_in r.old x) (bytes_in r.new y))
-
--- the changes of an area from an old namesake, with `left` bytes for comparisons
-abbrev pub changes_of : ℕ → List ℕ → List ℕ → Option NumberedArea → NumberedArea
+-- the changes of an area's components from an old namesake, by the compared regions
+abbrev pub changes_of : List ℕ → List ℕ → List NumberedArea → NumberedArea → Option (Both Range)
     → List RegionChange
-changes_of left x y None a = []
-changes_of left x y (Some old) a =
-    change_in x y a (compared left (regions_within (lengths_of x y) old a)) ∷ []
+changes_of x y olds a None = only_if (is_some (namesake a olds)) (NotCompared a)
+changes_of x y olds a (Some r) =
+    Compared a (component_changes (bytes_in r.old x) (bytes_in r.new y)) ∷ []
 
+-- the changes of some areas, with `left` bytes for comparisons
 abbrev pub changes_in : ℕ → List ℕ → List ℕ → List NumberedArea → List NumberedArea
     → List RegionChange
-changes_in left x y olds [] = []
-changes_in left x y olds (a ∷ areas) =
-    changes_of left x y (namesake a olds) a
-    ++ changes_in (left_after left (regions_of (lengths_of x y) (namesake a olds) a)) x y olds areas
+changes_in left x y olds areas =
+    changes_by (regions_of (lengths_of x y) olds) (changes_of x y olds) left areas
 
 -- The changes from image x with these areas to image y with these findings. The compared areas of x
 -- have at most as many bytes as x.

@@ -1,17 +1,17 @@
 //! The changes between areas.
 ghost use Rattle.std.specs.Prelude.{◌≡◌, ◌+◌, ◌-◌, ◌*◌, ◌/◌, ◌≤◌, ◌++◌, length, IfOk, OnOk};
-ghost use Rattle.check_changes.specs.Areas.AreaChanges.{changes_in, content_changes};
+ghost use Rattle.check_changes.specs.Areas.AreaChanges.{changes_in, compared, content_changes};
 ghost use Rattle.check_changes.specs.Areas.AreaChanges.{entry_changes, left_after, regions_of};
-ghost use Rattle.check_changes.specs.Areas.AreaChanges as spec;
+ghost use Rattle.check_changes.specs.Areas.AreaChanges.{area_changes};
 ghost use Rattle.check_changes.specs.Areas.Blocks.{blocks_of, different_blocks};
-ghost use Rattle.check_changes.specs.Images.{HasCompared, OnBoth, lengths};
+ghost use Rattle.check_changes.specs.Images.{HasCompared, OnBoth, lengths, lengths_of};
 
 use crate::areas::blocks::{Differing, blocks_of, different_in};
 use crate::areas::change::AreaChange;
 use crate::areas::names::NamedAreas;
 use crate::areas::pairs::{AreaPair, pairs, push_gone};
 use crate::fault::ChangeFault;
-use crate::images::{Images, taken};
+use crate::images::{Both, Images, taken, whole};
 use crate::lists::push_if;
 use flash_device::Flash;
 use flash_map::NumberedArea;
@@ -50,7 +50,8 @@ fn push_content_changes<F: Flash, G: Flash>(
         (regions_of (lengths F.facts G.facts images.old) pair.now) }
     ensures fewer { left.new ≤ left.old }
     ensures changes { OnBoth F.facts G.facts images.old (λ x y. OnOk result (changes.new.items
-        ≡ changes.old.items ++ content_changes left.old x y pairs.now pair.now)) }
+        ≡ changes.old.items ++ content_changes x y pairs.now pair.now
+        (compared left.old (regions_of (lengths_of x y) pair.now)))) }
 {
     let area = pair.new;
     let Some(regions) = taken(left, pair.regions(images.lengths())) else {
@@ -83,26 +84,6 @@ fn push_changes<F: Flash, G: Flash>(
     Ok(())
 }
 
-fn area_changes<'a, F: Flash, G: Flash>(
-    alloc: Global,
-    images: &mut Images<F, G>,
-    areas: Areas<'a>,
-) -> Result<Vec<AreaChange>, ChangeFault>
-    ensures after { HasCompared F.facts G.facts
-        (8 * (lengths F.facts G.facts images.old).new / 4096 + length areas.entry.new.now)
-        images.old images.new result }
-    ensures changes { OnBoth F.facts G.facts images.old (λ x y. IfOk result (λ changes.
-        changes.items ≡ spec.area_changes x areas.entry.old.now y areas.entry.new.now)) }
-{
-    let old = NamedAreas::of(alloc, areas.old)?;
-    let new = NamedAreas::of(alloc, areas.new)?;
-    let pairs = pairs(alloc, &old, &new)?;
-    let mut changes = Vec::new(alloc);
-    push_changes(&mut changes, images, &pairs)?;
-    push_gone(&mut changes, &old, &new)?;
-    Ok(changes)
-}
-
 fn different_blocks<F: Flash, G: Flash>(images: &mut Images<F, G>) -> Result<u32, ChangeFault>
     ensures after { HasCompared F.facts G.facts
         (blocks_of (lengths F.facts G.facts images.old).new) images.old images.new result }
@@ -112,17 +93,13 @@ fn different_blocks<F: Flash, G: Flash>(images: &mut Images<F, G>) -> Result<u32
     let lens = images.lengths();
     let shorter = blocks_of(lens.old.min(lens.new));
     let longer = blocks_of(lens.old.max(lens.new));
-    let whole = lens.whole();
+    let whole = whole(lens);
     let common = different_in(images, &whole, &[], shorter)?;
     Ok((longer - shorter) as u32 + common.blocks)
 }
 
 /// The areas of both images.
-#[derive(Clone, Copy)]
-pub struct Areas<'a> {
-    pub old: &'a [NumberedArea],
-    pub new: &'a [NumberedArea],
-}
+pub type Areas<'a> = Both<&'a [NumberedArea]>;
 
 /// The changes between two images.
 #[derive(Drop)]
@@ -152,9 +129,17 @@ pub fn image_changes<'a, F: Flash, G: Flash>(
     ensures blocks { OnBoth F.facts G.facts images.old (λ x y.
         IfOk result (λ changes. changes.blocks ≡ different_blocks x y)) }
     ensures areas { OnBoth F.facts G.facts images.old (λ x y. IfOk result (λ changes.
-        changes.areas.items ≡ spec.area_changes x areas.entry.old.now y areas.entry.new.now)) }
+        changes.areas.items ≡ area_changes x areas.entry.old.now y areas.entry.new.now)) }
 {
     let blocks = different_blocks(images)?;
-    let areas = area_changes(alloc, images, areas)?;
-    Ok(ImageChanges { blocks, areas })
+    let old = NamedAreas::of(alloc, areas.old)?;
+    let new = NamedAreas::of(alloc, areas.new)?;
+    let pairs = pairs(alloc, &old, &new)?;
+    let mut changes = Vec::new(alloc);
+    push_changes(&mut changes, images, &pairs)?;
+    push_gone(&mut changes, &old, &new)?;
+    Ok(ImageChanges {
+        blocks,
+        areas: changes,
+    })
 }

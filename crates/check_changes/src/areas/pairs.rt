@@ -6,7 +6,7 @@ ghost use Rattle.check_changes.specs.Images.{LieWithin};
 
 use crate::areas::change::AreaChange;
 use crate::areas::names::NamedAreas;
-use crate::images::{Lengths, RegionPair};
+use crate::images::{Lengths, RegionPair, regions_within};
 use crate::lists::push_if;
 use flash_device::PIECE;
 use flash_map::NumberedArea;
@@ -30,7 +30,7 @@ impl AreaPair {
         if old.area.size != self.new.area.size {
             return None;
         }
-        lens.regions(old, self.new)
+        regions_within(lens, old, self.new)
     }
 
     pub fn is_same_size(&self) -> bool

@@ -1,5 +1,6 @@
 //! The changes between two regions.
 ghost use Rattle.std.specs.Prelude.{◌≡◌, ℕ, ◌++◌, ◌+◌, ◌/◌, All, List, IfOk, OnOk};
+ghost use Rattle.std.specs.List.{flat_map};
 ghost use Rattle.check_changes.specs.Components.ComponentChanges.{change_of, changes_between};
 ghost use Rattle.check_changes.specs.Components.ComponentChanges.{component_changes, pair_change};
 ghost use Rattle.check_changes.specs.Components.ComponentChanges.{removal_of};
@@ -12,17 +13,13 @@ use crate::components::compare::difference;
 use crate::components::first::{Listing, with_firsts};
 use crate::components::listing::{Listed, components};
 use crate::fault::ChangeFault;
-use crate::images::{Images, RegionPair};
+use crate::images::{Both, Images, RegionPair};
 use crate::lists::push;
 use flash_device::Flash;
 use std::alloc::{AllocError, Global};
 use std::hash::RandomState;
 
-#[derive(Drop)]
-pub struct Listings<'a> {
-    pub old: Listing<'a>,
-    pub new: Listing<'a>,
-}
+pub type Listings<'a> = Both<Listing<'a>>;
 
 /// Pushes the difference and the move from offset `old`.
 fn push_pair(
@@ -53,7 +50,7 @@ fn push_pair(
 }
 
 /// Pushes the changes of a new component, if it is the first of its name.
-fn push_changes<'a, F: Flash, G: Flash>(
+fn push_changes_of<'a, F: Flash, G: Flash>(
     alloc: Global,
     changes: &mut Vec<ComponentChange>,
     images: &mut Images<F, G>,
@@ -81,8 +78,29 @@ fn push_changes<'a, F: Flash, G: Flash>(
         old: lists.old.region,
         new: lists.new.region,
     };
-    let what = difference(images, regions, &old.cell, &listed.cell)?;
+    let what = difference(images, regions, old, listed)?;
     push_pair(alloc, changes, old.cell.at, listed, what)?;
+    Ok(())
+}
+
+fn push_changes<'a, F: Flash, G: Flash>(
+    alloc: Global,
+    changes: &mut Vec<ComponentChange>,
+    images: &mut Images<F, G>,
+    lists: &Listings<'a>,
+) -> Result<(), ChangeFault>
+    requires regions { LieOn F.facts G.facts images.old (regions_of lists.now) }
+
+    ensures after { HasCompared F.facts G.facts (spans lists.now.new.all.now / 24)
+        images.old images.new result }
+    ensures changes { OnBothIn F.facts G.facts images.old (regions_of lists.now) (λ x y. OnOk result
+        (changes.new.items ≡ changes.old.items
+        ++ flat_map (change_of (states_in x lists.now.old.all.now)
+        (states_in y lists.now.new.all.now)) (states_in y lists.now.new.all.now))) }
+{
+    for listed in lists.new.all {
+        push_changes_of(alloc, changes, images, lists, listed)?;
+    }
     Ok(())
 }
 
@@ -100,6 +118,21 @@ fn push_if_removed<'a>(
     if lists.old.is_first(listed) && lists.new.namesake(listed).is_none() {
         let (at, name) = (listed.cell.at, listed.copied_name(alloc)?);
         changes.push(ComponentChange::Removed { at, name })?;
+    }
+    Ok(())
+}
+
+fn push_removed<'a>(
+    alloc: Global,
+    changes: &mut Vec<ComponentChange>,
+    lists: &Listings<'a>,
+) -> Result<(), AllocError>
+    ensures { (x y : List ℕ) → OnOk result (changes.new.items ≡ changes.old.items
+        ++ flat_map (removal_of (states_in x lists.now.old.all.now)
+        (states_in y lists.now.new.all.now)) (states_in x lists.now.old.all.now)) }
+{
+    for listed in lists.old.all {
+        push_if_removed(alloc, changes, lists, listed)?;
     }
     Ok(())
 }
@@ -125,12 +158,8 @@ fn list_changes<'a, F: Flash, G: Flash>(
         new: with_firsts(alloc, keys, regions.new, new)?,
     };
     let mut changes = Vec::new(alloc);
-    for added in lists.new.all {
-        push_changes(alloc, &mut changes, images, &lists, added)?;
-    }
-    for removed in lists.old.all {
-        push_if_removed(alloc, &mut changes, &lists, removed)?;
-    }
+    push_changes(alloc, &mut changes, images, &lists)?;
+    push_removed(alloc, &mut changes, &lists)?;
     Ok(changes)
 }
 

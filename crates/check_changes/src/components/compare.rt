@@ -1,13 +1,14 @@
 //! The comparison of components.
-ghost use Rattle.std.specs.Prelude.{◌≡◌, ◌+◌, ◌-◌, ◌/◌, ◌≤◌, ◌<◌, ◌^◌, [], slice_range, IfOk};
+ghost use Rattle.std.specs.Prelude.{◌≡◌, ◌+◌, ◌-◌, ◌/◌, ◌≤◌, ◌<◌, ◌^◌, slice_range, IfOk};
 ghost use Rattle.std.specs.Str.{bytes_eq};
 ghost use Rattle.flash_format.specs.Entry.{name_end};
 ghost use Rattle.check_changes.specs.Components.ComponentChanges.{difference};
-ghost use Rattle.check_changes.specs.Components.Listings.{IsUsedIn, state_at};
+ghost use Rattle.check_changes.specs.Components.Listings.{IsListedIn, state_in};
 ghost use Rattle.check_changes.specs.Images.{HasCompared, LieOn, OnBothIn};
 
 use crate::areas::blocks_of;
 use crate::components::change::Difference;
+use crate::components::listing::Listed;
 use crate::fault::ChangeFault;
 use crate::images::{Images, RegionPair};
 use cbfs_walk::Cell;
@@ -19,19 +20,19 @@ use std::ops::Range;
 pub fn difference<F: Flash, G: Flash>(
     images: &mut Images<F, G>,
     regions: RegionPair,
-    old: &Cell,
-    new: &Cell,
+    old: &Listed,
+    new: &Listed,
 ) -> Result<Option<Difference>, ChangeFault>
     requires regions { LieOn F.facts G.facts images.old regions }
-    requires old { IsUsedIn regions.old.size old.now }
-    requires new { IsUsedIn regions.new.size new.now }
+    requires old { IsListedIn regions.old.size old.now }
+    requires new { IsListedIn regions.new.size new.now }
 
-    ensures after { HasCompared F.facts G.facts (2 + new.now.span / 4096)
+    ensures after { HasCompared F.facts G.facts (2 + new.now.cell.span / 4096)
         images.old images.new result }
     ensures difference { OnBothIn F.facts G.facts images.old regions (λ x y.
-        IfOk result (λ what.
-        what ≡ difference (state_at x [] old.now) (state_at y [] new.now))) }
+        IfOk result (λ what. what ≡ difference (state_in x old.now) (state_in y new.now))) }
 {
+    let (old, new) = (&old.cell, &new.cell);
     if old.head.kind != new.head.kind {
         return Ok(Some(Difference::Type));
     }

@@ -8,7 +8,7 @@ ghost use Rattle.check_changes.specs.Regions.RegionChanges.{changes_in, region_c
 use crate::areas::NamedAreas;
 use crate::components::component_changes;
 use crate::fault::ChangeFault;
-use crate::images::{Images, taken};
+use crate::images::{Images, regions_within, taken};
 use crate::lists::push;
 use crate::regions::change::{ComponentChanges, RegionChange};
 use check_findings::ImageFinding;
@@ -45,7 +45,7 @@ fn push_changes<'a, F: Flash, G: Flash>(
     let Some(old) = olds.namesake(area) else {
         return Ok(());
     };
-    let Some(regions) = taken(left, images.lengths().regions(old, *area)) else {
+    let Some(regions) = taken(left, regions_within(images.lengths(), old, *area)) else {
         push(changes, RegionChange::NotCompared(*area))?;
         return Ok(());
     };

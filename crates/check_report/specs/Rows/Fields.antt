@@ -12,7 +12,7 @@ use Rattle.flash_format.specs.Printed.{hexadecimal, printed_name, tab, line_feed
 use Rattle.flash_format.specs.TypeNames.{name_of_type}
 use Rattle.check_report.specs.declared.rows.field.Value.{Value}
 use Rattle.check_report.specs.declared.rows.field.Value.TheVariants as values
-use Rattle.check_report.specs.declared.rows.field.Field.{Field}
+use Rattle.std.specs.Borrow.{Bor}
 
 -- a value in both forms
 pub record SeenValue : Type 0 where
@@ -83,8 +83,8 @@ printed_compression n = if n == 0 then codes "none"
 abbrev pub SeenField : Type 0
 SeenField = List ℕ × SeenValue
 
-abbrev pub seen_field : Field → SeenField
-seen_field field = (field.key.now, seen_value field.value)
+abbrev pub seen_field : Bor (List ℕ) × Value → SeenField
+seen_field field = (field.0.now, seen_value field.1)
 
 -- a tab and the field's text, if any
 abbrev pub field_text : SeenField → List ℕ

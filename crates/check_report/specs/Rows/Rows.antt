@@ -1,6 +1,6 @@
 -- Rows and their lines.
 use Rattle.std.specs.Prelude.{ℕ, List, [], ◌∷◌, ◌++◌, Bool, Option, Some, None}
-use Rattle.std.specs.Prelude.{count_by, if◌then◌else◌}
+use Rattle.std.specs.Prelude.{◌+◌, fold, if◌then◌else◌}
 use Rattle.flash_format.specs.Flashmap.{text_of}
 use Rattle.flash_map.specs.declared.areas.NumberedArea.{NumberedArea}
 use Rattle.std.specs.Fmt.{decimal}
@@ -10,12 +10,10 @@ use Prim.Native.String.{String}
 use lib.Chars.{codes}
 use Rattle.check_report.specs.declared.rows.row.Verdict.{Verdict}
 use Rattle.check_report.specs.declared.rows.row.Verdict.TheVariants as verdicts
-use Rattle.check_report.specs.declared.rows.row.Detail.{Detail}
-use Rattle.check_report.specs.declared.rows.row.Detail.TheVariants as details
 use Rattle.check_report.specs.declared.rows.row.Row.{Row}
 use Rattle.check_report.specs.declared.rows.kinds.Counts.{Counts}
 use Rattle.check_report.specs.Rows.Fields.{Line, SeenValue, absent, code_value, count_value, dash}
-use Rattle.check_report.specs.Rows.Fields.{name_value, offset_value, text_value}
+use Rattle.check_report.specs.Rows.Fields.{name_value, offset_value, seen_value, text_value}
 
 -- a row by its bytes
 pub record SeenRow : Type 0 where
@@ -25,7 +23,7 @@ pub record SeenRow : Type 0 where
   pub position : Option ℕ
   pub code : List ℕ
   pub what : List ℕ
-  pub detail : Detail
+  pub detail : SeenValue
   pub other : Option (List ℕ)
 
 abbrev pub seen_row : Row → SeenRow
@@ -36,7 +34,7 @@ seen_row row = record {
   position = row.position;
   code = row.code.now;
   what = row.what.now;
-  detail = row.detail;
+  detail = seen_value row.detail;
   other = option_copied row.other;
 }
 
@@ -52,7 +50,7 @@ row_of verdict code what = record {
   position = None;
   code = code;
   what = what;
-  detail = details.None;
+  detail = absent;
   other = None;
 }
 
@@ -76,10 +74,10 @@ abbrev pub of_component : List ℕ → List ℕ → SeenRow → SeenRow
 of_component area name row = record row { area = Some area; component = Some name }
 
 abbrev pub with_count : ℕ → SeenRow → SeenRow
-with_count n row = record row { detail = details.Count n }
+with_count n row = record row { detail = count_value n }
 
 abbrev pub with_number : ℕ → SeenRow → SeenRow
-with_number n row = record row { detail = details.Number n }
+with_number n row = record row { detail = offset_value n }
 
 abbrev pub with_other : NumberedArea → SeenRow → SeenRow
 with_other a row = record row { other = Some (area_name a) }
@@ -88,11 +86,6 @@ abbrev pub verdict_word : Verdict → List ℕ
 verdict_word verdicts.Bad = codes "bad"
 verdict_word verdicts.Remark = codes "remark"
 verdict_word verdicts.Change = codes "change"
-
-abbrev pub detail_value : Detail → SeenValue
-detail_value details.None = absent
-detail_value (details.Count n) = count_value n
-detail_value (details.Number n) = offset_value n
 
 abbrev pub row_line : SeenRow → Line
 row_line row = record {
@@ -103,7 +96,7 @@ row_line row = record {
       ∷ (codes "component", option_map_or name_value row.component dash)
       ∷ (codes "position", option_map_or offset_value row.position dash)
       ∷ (codes "what", text_value row.what)
-      ∷ (codes "value", detail_value row.detail)
+      ∷ (codes "value", row.detail)
       ∷ (codes "other", option_map_or name_value row.other absent)
       ∷ [];
 }
@@ -111,15 +104,15 @@ row_line row = record {
 abbrev pub is_verdict : Verdict → Verdict → Bool
 is_verdict wanted verdict = bytes_eq (verdict_word wanted) (verdict_word verdict)
 
-abbrev pub count_of : Verdict → List SeenRow → ℕ
-count_of verdict rows = count_by (λ row. is_verdict verdict row.verdict) rows
+-- the counts after another row
+abbrev pub tallied : Counts → Verdict → Counts
+tallied counts verdicts.Bad = record counts { bad = counts.bad + 1 }
+tallied counts verdicts.Remark = record counts { remarks = counts.remarks + 1 }
+tallied counts verdicts.Change = record counts { changes = counts.changes + 1 }
 
 abbrev pub counts_of : List SeenRow → Counts
-counts_of rows = record {
-  bad = count_of verdicts.Bad rows;
-  remarks = count_of verdicts.Remark rows;
-  changes = count_of verdicts.Change rows;
-}
+counts_of rows = fold (λ counts row. tallied counts row.verdict)
+    (record { bad = 0; remarks = 0; changes = 0 }) rows
 
 abbrev pub is_bad_row : SeenRow → Bool
 is_bad_row row = is_verdict verdicts.Bad row.verdict

@@ -1,25 +1,19 @@
 -- The effects of printers and writers of rows.
-use Rattle.std.specs.Prelude.{◌≡◌, ℕ, ◌+◌, ◌≤◌, Bool, false, ◌==◌, List, [], ◌∷◌, ◌++◌, Option}
-use Rattle.std.specs.Prelude.{Result, OnOk}
-use Rattle.std.specs.Prelude.{fold, map, if◌then◌else◌}
+use Rattle.std.specs.Prelude.{◌≡◌, ℕ, ◌+◌, ◌≤◌, Bool, false, List, [], ◌∷◌, ◌++◌, Option}
+use Rattle.std.specs.Prelude.{Result, OnOk, map}
 use Rattle.std.specs.Io.KnownBytes.{Appends}
 use Rattle.std.specs.declared.alloc.AllocError.{AllocError}
 use Rattle.json.specs.Token.{Token}
 use Rattle.json.specs.Written.{Written}
 use Rattle.flash_device.specs.Device.{fault_count}
 use Rattle.check_report.specs.declared.fault.WriteFault.{WriteFault}
-use Rattle.check_report.specs.declared.rows.kinds.Counts.{Counts}
-use Rattle.check_report.specs.declared.rows.kinds.Kind.{Kind}
-use Rattle.check_report.specs.declared.rows.row.Row.{Row}
-use Rattle.check_report.specs.declared.rows.row.Verdict.{Verdict}
-use Rattle.check_report.specs.declared.rows.row.Verdict.TheVariants as verdicts
 use Rattle.check_report.specs.declared.rows.writer.Rows.{Rows, Empty, Then'}
 use Rattle.check_report.specs.declared.rows.writer.RowWriter.{RowWriter}
 use Rattle.check_report.specs.declared.rows.printer.Printer.{Printer}
 use Rattle.check_report.specs.Faults.{by_sink}
 use Rattle.check_report.specs.Rows.Fields.{Line}
 use Rattle.check_report.specs.Rows.Rows.{SeenRow, row_line, seen_row, counts_of}
-use Rattle.check_report.specs.Rows.Limits.{seen_kind, is_of, kinds_of, shown_rows}
+use Rattle.check_report.specs.Rows.Limits.{kinds_of, seen_kind, shown_after}
 use Rattle.check_report.specs.Rows.Reports.{follows_after, parts, rows_text}
 
 -- a successful call adds tokens
@@ -60,7 +54,7 @@ rows_in writer = rows_then writer.rows.value
 
 -- the lines of shown rows
 abbrev pub shown_lines : Bool → List SeenRow → List Line
-shown_lines is_verbose rows = map row_line (if is_verbose then rows else shown_rows rows)
+shown_lines is_verbose rows = map row_line (shown_after is_verbose [] rows)
 
 -- The kinds, counts and printed lines are correct for the rows so far.
 pub record IsSound {W : Type 0} (contents : W → Option (List ℕ)) (writer : RowWriter W) : Type 0
@@ -90,29 +84,3 @@ abbrev pub Ends : {W : Type 0} → (W → Option (List ℕ)) → RowWriter W →
     → Type 0
 Ends contents old more new = Appends (contents old.begun.value.out) (contents new.out)
     (rows_text old.begun.value.form old.is_verbose (rows_in old ++ more))
-
--- ---- a row is counted
-
--- the count of the row's kind, or n for another kind
-abbrev pub earlier : SeenRow → ℕ → Kind → ℕ
-earlier row n kind = if is_of (seen_kind kind) row then kind.count else n
-
--- the number of earlier rows of the row's kind
-abbrev pub count_in : List Kind → SeenRow → ℕ
-count_in kinds row = fold (earlier row) 0 kinds
-
-abbrev pub count_once : SeenRow → Kind → Kind
-count_once row kind =
-    if is_of (seen_kind kind) row then record kind { count = kind.count + 1 } else kind
-
-abbrev pub new_kind : Row → Kind
-new_kind row = record { verdict = row.verdict; code = row.code; count = 1 }
-
-abbrev pub counted : List Kind → Row → List Kind
-counted kinds row = map (count_once (seen_row row)) kinds
-    ++ (if count_in kinds (seen_row row) == 0 then new_kind row ∷ [] else [])
-
-abbrev pub tallied : Counts → Verdict → Counts
-tallied counts verdicts.Bad = record counts { bad = counts.bad + 1 }
-tallied counts verdicts.Remark = record counts { remarks = counts.remarks + 1 }
-tallied counts verdicts.Change = record counts { changes = counts.changes + 1 }

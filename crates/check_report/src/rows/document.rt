@@ -30,18 +30,12 @@ fn put(writer: &mut Writer, token: Token<'_>) -> Result<(), AllocError>
     writer.token(token)
 }
 
-fn put_number(writer: &mut Writer, n: u64) -> Result<(), AllocError>
-    ensures { AddsTokens result writer.old writer.new (number (decimal n) ∷ []) }
-{
-    writer.u64(n)
-}
-
 fn put_numbers(writer: &mut Writer, bytes: &[u8]) -> Result<(), AllocError>
     ensures { AddsTokens result writer.old writer.new
         (map (λ byte. number (decimal byte)) bytes.now) }
 {
     for byte in bytes {
-        put_number(writer, u64::from(*byte))?;
+        writer.u64(u64::from(*byte))?;
     }
     Ok(())
 }
@@ -77,15 +71,15 @@ fn put_hexadecimal(writer: &mut Writer, n: u64) -> Result<(), AllocError>
 fn put_member(writer: &mut Writer, field: Field<'_>) -> Result<(), AllocError>
     ensures { AddsTokens result writer.old writer.new (member_tokens (seen_field field.entry)) }
 {
-    if matches!(field.value, Value::Absent | Value::Dash) {
+    if matches!(field.1, Value::Absent | Value::Dash) {
         return Ok(());
     }
-    put(writer, Token::Key(field.key))?;
-    match field.value {
+    put(writer, Token::Key(field.0))?;
+    match field.1 {
         Value::Absent | Value::Dash => Ok(()),
         Value::Code(text) | Value::Text(text) => put(writer, Token::String(text)),
         Value::Name(name) => put_name(writer, name),
-        Value::Count(n) | Value::Offset(n) => put_number(writer, n),
+        Value::Count(n) | Value::Offset(n) => writer.u64(n),
         Value::Hexadecimal(n) => put_hexadecimal(writer, n),
     }
 }
@@ -140,9 +134,9 @@ fn file_fields<'a>(files: Files<'a>) -> [Field<'a>; 3]
     ensures { map seen_field result ≡ file_fields files.entry }
 {
     [
-        Field::new("format", Value::Count(1)),
-        Field::new("image", Value::Text(files.image)),
-        Field::new("old", Value::text_if(files.old)),
+        ("format", Value::Count(1)),
+        ("image", Value::Text(files.image)),
+        ("old", Value::text_if(files.old)),
     ]
 }
 

@@ -2,7 +2,7 @@
 ghost use Rattle.std.specs.Prelude.{◌≡◌};
 ghost use Rattle.std.specs.Option.{option_copied, option_map_or};
 ghost use Rattle.check_report.specs.Rows.Fields as of;
-ghost use Rattle.check_report.specs.Rows.Fields.{name_value, offset_value, seen_field};
+ghost use Rattle.check_report.specs.Rows.Fields.{name_value, offset_value};
 ghost use Rattle.check_report.specs.Rows.Fields.{seen_value, text_value};
 
 use flash_format::type_name;
@@ -27,20 +27,8 @@ pub enum Value<'a> {
     Hexadecimal(u64),
 }
 
-/// A field of a line, with its JSON key.
-#[derive(Clone, Copy)]
-pub struct Field<'a> {
-    pub key: &'static str,
-    pub value: Value<'a>,
-}
-
-impl<'a> Field<'a> {
-    pub fn new(key: &'static str, value: Value<'a>) -> Field<'a>
-        ensures { seen_field result ≡ (key.now, seen_value value.entry) }
-    {
-        Field { key, value }
-    }
-}
+/// A field of a line: its JSON key and its value.
+pub type Field<'a> = (&'static str, Value<'a>);
 
 impl<'a> Value<'a> {
     pub fn name_or(name: Option<&'a [u8]>, other: Value<'a>) -> Value<'a>

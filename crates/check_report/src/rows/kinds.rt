@@ -1,8 +1,7 @@
 //! Kinds of rows. A kind is a verdict and a code.
-ghost use Rattle.std.specs.Prelude.{◌≡◌, ◌+◌, ◌++◌, ◌∷◌, [], map, IfOk, OnOk};
-ghost use Rattle.check_report.specs.Rows.Limits.{is_of, seen_kind};
-ghost use Rattle.check_report.specs.Rows.Writing.{count_in, count_once, counted, earlier, tallied};
-ghost use Rattle.check_report.specs.Rows.Rows.{seen_row};
+ghost use Rattle.std.specs.Prelude.{◌≡◌, ◌+◌, map, IfOk, OnOk};
+ghost use Rattle.check_report.specs.Rows.Limits.{count_in, counted, is_of, seen_kind};
+ghost use Rattle.check_report.specs.Rows.Rows.{seen_row, tallied};
 ghost use Rattle.check_report.specs.Rows.Fields.{seen_field};
 ghost use Rattle.check_report.specs.Rows.Reports.{count_fields};
 
@@ -39,63 +38,31 @@ impl Kind {
     {
         self.verdict.word() == row.verdict.word() && self.code == row.code
     }
-
-    /// Returns the count of the row's kind, or `before` for another kind.
-    fn earlier(self, row: &Row, before: u64) -> u64
-        ensures { result ≡ earlier (seen_row row.now) before self }
-    {
-        if self.is_of(row) { self.count } else { before }
-    }
-
-    fn with(self, row: &Row) -> Result<Kind, AllocError>
-        ensures { IfOk result (λ kind. kind ≡ count_once (seen_row row.now) self) }
-    {
-        if !self.is_of(row) {
-            return Ok(self);
-        }
-        Ok(Kind {
-            count: next(self.count)?,
-            ..self
-        })
-    }
-}
-
-fn push(kinds: &mut Vec<Kind>, kind: Kind) -> Result<(), AllocError>
-    ensures { OnOk result (kinds.new.items ≡ kinds.old.items ++ kind ∷ []) }
-{
-    kinds.push(kind)?;
-    Ok(())
-}
-
-/// Counts a row. Returns the number of earlier rows, or 0 for a new kind.
-fn count_known(kinds: &mut [Kind], row: &Row) -> Result<u64, AllocError>
-    ensures before { IfOk result (λ n. n ≡ count_in kinds.old (seen_row row.now)) }
-    ensures kinds { OnOk result (kinds.new ≡ map (count_once (seen_row row.now)) kinds.old) }
-{
-    let mut before = 0;
-    for i in 0..kinds.len() {
-        let kind = kinds[i];
-        before = kind.earlier(row, before);
-        kinds[i] = kind.with(row)?;
-    }
-    Ok(before)
 }
 
 /// Counts a row. Returns the number of earlier rows of its kind.
 pub fn count_row(kinds: &mut Vec<Kind>, row: &Row) -> Result<u64, AllocError>
-    ensures before { IfOk result (λ n. n ≡ count_in kinds.old.items (seen_row row.now)) }
-    ensures kinds { OnOk result (kinds.new.items ≡ counted kinds.old.items row.now) }
+    ensures before { IfOk result (λ n.
+        n ≡ count_in (map seen_kind kinds.old.items) (seen_row row.now)) }
+    ensures kinds { OnOk result (map seen_kind kinds.new.items
+        ≡ counted (map seen_kind kinds.old.items) (seen_row row.now)) }
 {
-    let before = count_known(kinds, row)?;
-    if before == 0 {
-        let kind = Kind {
-            verdict: row.verdict,
-            code: row.code,
-            count: 1,
-        };
-        push(kinds, kind)?;
+    for i in 0..kinds.len() {
+        let kind = kinds[i];
+        if kind.is_of(row) {
+            kinds[i] = Kind {
+                count: next(kind.count)?,
+                ..kind
+            };
+            return Ok(kind.count);
+        }
     }
-    Ok(before)
+    kinds.push(Kind {
+        verdict: row.verdict,
+        code: row.code,
+        count: 1,
+    })?;
+    Ok(0)
 }
 
 impl Counts {
@@ -103,9 +70,9 @@ impl Counts {
         ensures { map seen_field result ≡ count_fields self }
     {
         [
-            Field::new("bad", Value::Count(self.bad)),
-            Field::new("remarks", Value::Count(self.remarks)),
-            Field::new("changes", Value::Count(self.changes)),
+            ("bad", Value::Count(self.bad)),
+            ("remarks", Value::Count(self.remarks)),
+            ("changes", Value::Count(self.changes)),
         ]
     }
 

@@ -36,10 +36,6 @@ impl<W: Sink + Drop> Printer<W> {
         }
     }
 
-    pub fn alloc(&self) -> Global {
-        self.alloc
-    }
-
     /// Prints the report up to this array's first item.
     pub fn start(&mut self, files: Files<'_>, array: &str) -> Result<(), WriteFault>
         ensures { Prints W.contents W.faults result self.old self.new

@@ -2,9 +2,8 @@
 
 ghost use Rattle.std.specs.Prelude.{◌≡◌, map};
 ghost use Rattle.check_report.specs.Rows.Rows as rows;
-ghost use Rattle.check_report.specs.Rows.Rows.{detail_value, row_line, seen_row};
-ghost use Rattle.check_report.specs.Rows.Rows.{verdict_word};
-ghost use Rattle.check_report.specs.Rows.Fields.{seen_field, seen_value};
+ghost use Rattle.check_report.specs.Rows.Rows.{row_line, seen_row, verdict_word};
+ghost use Rattle.check_report.specs.Rows.Fields.{seen_field};
 
 use crate::rows::field::{Field, Value};
 use flash_map::NumberedArea;
@@ -40,30 +39,8 @@ impl Verdict {
             position: None,
             code,
             what,
-            detail: Detail::None,
+            detail: Value::Absent,
             other: None,
-        }
-    }
-}
-
-/// The number after a row's text.
-#[derive(Clone, Copy)]
-pub enum Detail {
-    None,
-    /// A count, printed in decimal.
-    Count(u64),
-    /// A number, printed in hexadecimal.
-    Number(u64),
-}
-
-impl Detail {
-    fn value<'a>(self) -> Value<'a>
-        ensures { seen_value result ≡ detail_value self }
-    {
-        match self {
-            Detail::None => Value::Absent,
-            Detail::Count(count) => Value::Count(count),
-            Detail::Number(number) => Value::Offset(number),
         }
     }
 }
@@ -80,7 +57,8 @@ pub struct Row<'a> {
     pub code: &'static str,
     /// A text without tabs and line feeds.
     pub what: &'static str,
-    pub detail: Detail,
+    /// The number after the text, if any.
+    pub detail: Value<'a>,
     /// The name of a second area.
     pub other: Option<&'a [u8]>,
 }
@@ -91,14 +69,14 @@ impl<'a> Row<'a> {
         ensures { map seen_field result ≡ (row_line (seen_row self.now)).fields }
     {
         [
-            Field::new("verdict", Value::Code(self.verdict.word())),
-            Field::new("code", Value::Code(self.code)),
-            Field::new("area", Value::name_or(self.area, Value::Dash)),
-            Field::new("component", Value::name_or(self.component, Value::Dash)),
-            Field::new("position", Value::offset_or_dash(self.position)),
-            Field::new("what", Value::Text(self.what)),
-            Field::new("value", self.detail.value()),
-            Field::new("other", Value::name_or(self.other, Value::Absent)),
+            ("verdict", Value::Code(self.verdict.word())),
+            ("code", Value::Code(self.code)),
+            ("area", Value::name_or(self.area, Value::Dash)),
+            ("component", Value::name_or(self.component, Value::Dash)),
+            ("position", Value::offset_or_dash(self.position)),
+            ("what", Value::Text(self.what)),
+            ("value", self.detail),
+            ("other", Value::name_or(self.other, Value::Absent)),
         ]
     }
 
@@ -135,14 +113,14 @@ impl<'a> Row<'a> {
     pub fn count(mut self, count: u64) -> Row<'a>
         ensures { seen_row result ≡ rows.with_count count (seen_row self.entry) }
     {
-        self.detail = Detail::Count(count);
+        self.detail = Value::Count(count);
         self
     }
 
     pub fn number(mut self, number: u64) -> Row<'a>
         ensures { seen_row result ≡ rows.with_number number (seen_row self.entry) }
     {
-        self.detail = Detail::Number(number);
+        self.detail = Value::Offset(number);
         self
     }
 

@@ -45,7 +45,7 @@ fn push_field(text: &mut Vec<u8>, field: Field<'_>) -> Result<(), AllocError>
     ensures { OnOk result (text.new.items
         ≡ text.old.items ++ field_text (seen_field field.entry)) }
 {
-    match field.value {
+    match field.1 {
         Value::Absent | Value::Code(_) => Ok(()),
         Value::Dash => push_tabbed(text, b"-"),
         Value::Text(part) => push_tabbed(text, part.as_bytes()),

@@ -14,6 +14,7 @@ use crate::rows::kinds::{Counts, Kind, count_row};
 use crate::rows::printer::Printer;
 use crate::rows::row::Row;
 use flash_device::Sink;
+use std::alloc::Global;
 use std::mem;
 use std::snapshot::Snapshot;
 
@@ -90,7 +91,7 @@ impl<W: Sink + Drop> Printer<W> {
 }
 
 impl<'a, W: Sink + Drop> RowWriter<'a, W> {
-    pub fn new(printer: Printer<W>, is_verbose: bool) -> RowWriter<'a, W>
+    pub fn new(alloc: Global, printer: Printer<W>, is_verbose: bool) -> RowWriter<'a, W>
         ensures sound { printer.follows ≡ false → IsSound W.contents result }
         ensures rows { rows_in result ≡ [] }
         ensures begun { result.begun.value ≡ printer }
@@ -99,9 +100,9 @@ impl<'a, W: Sink + Drop> RowWriter<'a, W> {
     {
         let begun = Snapshot::of(&printer);
         RowWriter {
-            kinds: Vec::new(printer.alloc()),
             printer,
             is_verbose,
+            kinds: Vec::new(alloc),
             counts: Counts {
                 bad: 0,
                 remarks: 0,

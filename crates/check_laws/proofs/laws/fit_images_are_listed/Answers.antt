@@ -7,5 +7,5 @@ use Rattle.check_laws.proofs.Telling.{listed_area}
 use Rattle.check_laws.proofs.laws.fit_images_are_listed.Goals as goal
 
 pub returns : goal.returns
-returns c = λ needs image names expected verbose fit.
-    All-weaker (IsFit image) (IsListed image verbose) (listed_area image verbose) (region_areas (image_findings image names expected)) (c.fit_images_are_whole.ensures needs image names expected fit)
+returns c = λ needs image names expected fit.
+    All-weaker (IsFit image) (IsListed image) (listed_area image) (region_areas (image_findings image names expected)) (c.fit_images_are_whole.ensures needs image names expected fit)

@@ -19,7 +19,7 @@ returns g c =
     (after _ _ _ _ _ (rw (untyped, c.from.ensures, kind) at c.in_ok-add_if-3.ensures)
     (rw (
       placed c.at-hashed.ensures c.of_component-4.ensures c.row.ensures,
-      c.verdict_of-verdict.ensures,
+      c.finding_verdict-verdict.ensures,
       c.is_bad_hash.ensures,
       c.hash_words.ensures.code,
       c.hash_words.ensures.text,

@@ -3,7 +3,7 @@ use Rattle.check_changes.proofs.ComponentLemmas.ListingLemmas.{listing_start, li
 use Rattle.check_changes.proofs.components.listing.components.Goals as goal
 
 pub loop-cell-init : goal.loop-cell-init
-loop-cell-init g c = rw c.new-walk.ensures (listing_start g.F.Flash.facts c.args.region c.new-all.result.items c.args.paged.now c.new-all.ensures.items)
+loop-cell-init g c = rw c.new-walk.ensures (listing_start g.F.Flash.facts c.args.region c.new-all.result c.args.paged.now c.new-all.ensures.items)
 
 pub loop-cell-preserved : goal.loop-cell-preserved
 loop-cell-preserved g c =
@@ -12,7 +12,7 @@ loop-cell-preserved g c =
     let reads = rw is at c.in-Ok-Cell.ensures.after in
     let answer = rw is at c.in-Ok-Cell.ensures.answer in
     let moved = rw is at c.in-Ok-Cell.ensures.moved in
-    listing_more g.F.Flash.facts c.args.region c.loop-cell.walk c.loop-cell.all.items _ _ c.requires c.loop-cell.invariant c.in-Ok-Cell.cell _ _ _ _ _
+    listing_more g.F.Flash.facts c.args.region c.loop-cell.walk c.loop-cell.all _ _ c.requires c.loop-cell.invariant c.in-Ok-Cell.cell _ _ _ _ _
     given reads refl c.in_ok-list_cell-in-Ok-Cell.ensures.after answer moved c.in_ok-list_cell-in-Ok-Cell.ensures.cells c.in_ok-list_cell-in-Ok-Cell.ensures.room c.in_ok-list_cell-in-Ok-Cell.ensures.listed
 
 pub returns-in-Ok-Tail-clause-lists : goal.returns-in-Ok-Tail-clause-lists

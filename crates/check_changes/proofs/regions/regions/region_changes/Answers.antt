@@ -1,10 +1,10 @@
-use Rattle.std.proofs.Common.{ap}
-use Rattle.check_changes.specs.declared.images.Lengths.{Lengths}
+use Rattle.std.proofs.Common.{ℕ, ap}
+use Rattle.check_changes.specs.declared.images.Both.{Both}
 use Rattle.check_changes.proofs.RegionLemmas.{changing_all, changing_more, changing_start}
 use Rattle.check_changes.proofs.regions.regions.region_changes.Goals as goal
 
 pub loop-finding-init : goal.loop-finding-init
-loop-finding-init g c = changing_start _ _ _ _ _ _ _ (ap (λ (l : Lengths). l.old) c.lengths-left.ensures.lengths) c.new-changes.ensures.items
+loop-finding-init g c = changing_start _ _ _ _ _ _ _ (ap (λ (l : Both ℕ). l.old) c.lengths-left.ensures.lengths) c.new-changes.ensures.items
 
 pub loop-finding-preserved : goal.loop-finding-preserved
 loop-finding-preserved g c =

@@ -1,0 +1,43 @@
+use Rattle.std.proofs.Common.{◌≡◌, ◌+◌, ◌/◌, ◌++◌, get_or, rules}
+use Rattle.flash_device.specs.Device.{fault_count}
+use Rattle.flash_device.specs.Regions.{bytes_in}
+use Rattle.check_changes.specs.Components.ComponentChanges.{change_of}
+use Rattle.check_changes.specs.Components.Listings.{state_in, states_in}
+use Rattle.check_changes.specs.Images.{HasReadBoth}
+use Rattle.check_changes.specs.Faults.{by_new, by_old}
+use Rattle.check_changes.proofs.AreaLemmas.Changing.{flat_map-all, flat_map-more}
+use Rattle.check_changes.proofs.ComponentLemmas.ChangeLemmas.{reads_all, reads_more, spans_part}
+use Rattle.check_changes.proofs.ImageLemmas.{both-within, OnBoth-before}
+use Rattle.check_changes.proofs.components.changes.push_changes.Goals as goal
+
+pub returns-in_err-push_changes_of-clause-after : goal.returns-in_err-push_changes_of-clause-after
+returns-in_err-push_changes_of-clause-after g c =
+    let new = c.args.lists.now.new in
+    let i = c.loop-listed.listed-index in
+    let result = c.from_residual.result in
+    let n = 2 + (get_or new.all.now i c.listed-item.result).cell.span / 4096 in
+    let step : HasReadBoth g.F.Flash.facts g.G.Flash.facts n n (fault_count by_old result) (fault_count by_new result) c.loop-listed.images c.push_changes_of.new.images = search rules in
+    reads_all _ _ _ new.all.now new.cells i c.listed-item.result c.loop-listed-test.true c.loop-listed.invariant.read step
+
+pub loop-listed-preserved : goal.loop-listed-preserved
+loop-listed-preserved g c =
+    let had = c.loop-listed.invariant in
+    let lists = c.args.lists.now in
+    let item = c.listed-item.result in
+    let i = c.loop-listed.listed-index in
+    let step = rw c.listed-item.is at c.in_ok-push_changes_of.ensures.after in
+    let more = rw c.listed-item.is at c.in_ok-push_changes_of.ensures.changes in
+    let is = OnBoth-before _ _ (λ x y. c.push_changes_of.new.changes.items ≡ c.loop-listed.changes.items
+    ++ change_of (states_in (bytes_in lists.old.region x) lists.old.all.now) (states_in (bytes_in lists.new.region y) lists.new.all.now) (state_in (bytes_in lists.new.region y) (get_or lists.new.all.now i item))) had.read more in
+    record {
+      read = reads_more _ _ _ lists.new.all.now lists.new.cells i item c.loop-listed-test.true had.read step;
+      changes = λ h k. flat_map-more _ _ lists.new.all.now i _ _ _ _ c.loop-listed-test.true (is h k) (had.changes h k);
+    }
+
+pub returns-clause-after : goal.returns-clause-after
+returns-clause-after g c =
+    let few = spans_part c.args.lists.now.new.all.now c.loop-listed.listed-index in
+    both-within _ _ _ _ few few c.loop-listed.invariant.read
+
+pub returns-clause-changes : goal.returns-clause-changes
+returns-clause-changes g c = λ h k. flat_map-all _ _ c.args.lists.now.new.all.now c.loop-listed.listed-index _ _ c.loop-listed-test.false (c.loop-listed.invariant.changes h k)

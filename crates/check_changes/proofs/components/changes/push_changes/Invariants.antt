@@ -1,0 +1,21 @@
+use Rattle.std.proofs.Common.{◌≡◌, ◌++◌, ◌/◌, take, drop}
+use Rattle.std.specs.List.{flat_map}
+use Rattle.check_changes.specs.Components.ComponentChanges.{change_of}
+use Rattle.check_changes.specs.Components.Pairs.{regions_of}
+use Rattle.check_changes.specs.Components.Listings.{spans, states_in}
+use Rattle.check_changes.specs.Images.{HasReadBoth, OnBothIn}
+use Rattle.check_changes.proofs.components.changes.push_changes.Given as goal
+
+abbrev pub invariant-loop-listed : goal.invariant-loop-listed
+invariant-loop-listed g l =
+    let f = g.F.Flash.facts in
+    let k = g.G.Flash.facts in
+    let old = l.lists.old.all.now in
+    let new = l.lists.new.all.now in
+    let n = spans (take l.listed-index new) / 24 in
+    record {
+      read : HasReadBoth f k n n 0 0 l.initial.images l.images;
+      changes : OnBothIn f k l.initial.images (regions_of l.lists) (λ x y.
+          l.changes.items ++ flat_map (change_of (states_in x old) (states_in y new)) (states_in y (drop l.listed-index new))
+          ≡ l.initial.changes.items ++ flat_map (change_of (states_in x old) (states_in y new)) (states_in y new));
+    }
