@@ -7,3 +7,4 @@ mod Printed
 mod Texts
 pub mod BadRows
 mod ShownRows
+mod CountedRows
