@@ -1,2 +1,3 @@
+mod Arguments
 mod Matching
 mod NeedLemmas

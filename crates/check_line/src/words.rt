@@ -35,16 +35,18 @@ fn flag<'a>(option: Arg<'a>) -> Arg<'a>
 pub fn whole_command<'a>(alloc: Global) -> Result<Command<'a>, AllocError>
     ensures { IfOk result (λ c. app_of c ≡ check_words) }
 {
-    Command::new(alloc, "cbfscheck")
-        .no_binary_name(true)
-        .arg(Arg::new(alloc, "image"))?
-        .arg(Arg::new(alloc, "new"))?
-        .arg(short(alloc, 'r', "areas"))?
-        .arg(flag(short(alloc, 'v', "verbose")))?
-        .arg(flag(long(alloc, "json")))?
-        .arg(flag(long(alloc, "list")))?
-        .arg(long(alloc, "keep"))?
-        .arg(flag(long(alloc, "keep-preserved")))?
-        .arg(flag(long(alloc, "all-hashed")))?
-        .arg(long(alloc, "need"))
+    let arguments = vec![in alloc;
+        Arg::new(alloc, "image"),
+        Arg::new(alloc, "new"),
+        short(alloc, 'r', "areas"),
+        flag(short(alloc, 'v', "verbose")),
+        flag(long(alloc, "json")),
+        flag(long(alloc, "list")),
+        long(alloc, "keep"),
+        flag(long(alloc, "keep-preserved")),
+        flag(long(alloc, "all-hashed")),
+        long(alloc, "need"),
+    ]?;
+    let command = Command::new(alloc, "cbfscheck").no_binary_name(true);
+    command.args(arguments)
 }
