@@ -4,13 +4,16 @@ ghost use Rattle.std.specs.List.{fold};
 ghost use Rattle.check_findings.specs.Region.RegionFindings.{all_marked};
 ghost use Rattle.check_findings.specs.Region.Reports.{mark_at};
 
-use crate::lists::Pushed;
+use crate::lists::{Pushed, push_if};
 use crate::region::finding::RegionFinding;
 use std::alloc::{AllocError, Global};
 use std::collections::HashSet;
 use std::hash::RandomState;
 
-/// Returns their indices. The keys of the hash are random, since an image's author chooses names.
+/// Names, hashed with random keys, since an image's author chooses names.
+type Names<'a> = HashSet<&'a [u8], RandomState>;
+
+/// Returns their indices.
 fn shadowed(
     alloc: Global,
     keys: RandomState,
@@ -19,18 +22,12 @@ fn shadowed(
     ensures { IfOk result (λ indices.
         fold mark_at findings.now indices.items ≡ all_marked [] findings.now) }
 {
-    let mut names: HashSet<&[u8], RandomState> = HashSet::with_capacity_and_hasher(
-        alloc,
-        findings.len(),
-        keys,
-    )?;
+    let mut names: Names = HashSet::with_capacity_and_hasher(alloc, findings.len(), keys)?;
     let mut indices = Vec::new(alloc);
     for i in 0..findings.len() {
         if let RegionFinding::Component { name, .. } = &findings[i] {
             let is_new = names.insert(name.as_slice())?;
-            if !is_new {
-                indices.push(i)?;
-            }
+            push_if(&mut indices, !is_new, i)?;
         }
     }
     Ok(indices)
