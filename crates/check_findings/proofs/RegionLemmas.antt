@@ -1,4 +1,4 @@
-pub mod NameLemmas
+pub mod Marks
 pub mod CountLemmas
 pub mod Reporting
 pub mod Tails

@@ -1,5 +1,5 @@
 -- The largest reported content is the longest content with a first place.
-use Rattle.std.proofs.Common.{◌≡◌, ℕ, ◌+◌, ◌-◌, ◌≤◌, ◌⊎◌, inl, inr, zero, suc, Bool, false, List, [], ◌∷◌, ◌++◌, length, Option, Some, None, Contains, refl, sym, subst, ◌∙◌, arith}
+use Rattle.std.proofs.Common.{◌≡◌, ℕ, ◌+◌, ◌-◌, ◌≤◌, ◌⊎◌, inl, inr, zero, suc, Bool, false, List, [], ◌∷◌, ◌++◌, length, Option, Some, None, Contains, refl, sym, ap, subst, ◌∙◌, arith}
 use Rattle.std.specs.Prelude.{◌||◌, is_some, max, nat_le}
 use Rattle.std.specs.List.{cons_option, filter_map, slice_get}
 use Rattle.std.proofs.lemmas.Bool.{le-leb, leb-true}
@@ -14,9 +14,9 @@ use Rattle.cbfs_edit.specs.Runs.{add_run, runs_from}
 use Rattle.cbfs_edit.specs.declared.group.CellRange.{CellRange}
 use Rattle.cbfs_edit.specs.declared.place.Place.{Place}
 use Rattle.check_findings.specs.Region.Counts.{largest_room, usable}
-use Rattle.check_findings.specs.Region.RegionFindings.{cells_findings, counts_of, end_findings, region_findings}
+use Rattle.check_findings.specs.Region.RegionFindings.{all_marked, cells_findings, counts_of, end_findings, marked, region_findings, walk_findings}
 use Rattle.check_findings.specs.declared.region.finding.RegionFinding.{RegionFinding}
-use Rattle.check_findings.specs.declared.region.finding.RegionFinding.TheVariants.{LargestContent}
+use Rattle.check_findings.specs.declared.region.finding.RegionFinding.TheVariants.{Component, LargestContent}
 use Rattle.check_findings.proofs.RegionLemmas.Parts.{IsIn, cell_part, end_part, of_cells, of_end}
 use Rattle.check_laws.specs.Laws.{LargestContentIsTaken, IsTaken, IsWithinLargest, content_of}
 
@@ -61,24 +61,42 @@ module _ (size n : ℕ) where
       let most = enough_max (usable size start at) (largest_room size end end cells) in
       grind (arith, nat_tests, longer, later, closed, most)
 
+-- marks change no other finding than a component
+module _ (m : ℕ) where
+  unmarked : (earlier : List RegionFinding) (f : RegionFinding) → marked earlier f ≡ LargestContent m → f ≡ LargestContent m
+  unmarked earlier (Component at name is content) same = absurd cc
+  unmarked earlier other same = same
+
+  was_there : (earlier all : List RegionFinding) → Contains (all_marked earlier all) (LargestContent m) → Contains all (LargestContent m)
+  unfolding all_marked
+  was_there earlier [] has = has
+  was_there earlier (f ∷ all) (zero, lt, is) = (0, omega arith, unmarked earlier f is)
+  was_there earlier (f ∷ all) (suc k, lt, is) = Contains-append_right (f ∷ []) all _ (was_there (f ∷ earlier) all (k, omega (arith, lt), is))
+
+  stays : (earlier all : List RegionFinding) → Contains all (LargestContent m) → Contains (all_marked earlier all) (LargestContent m)
+  unfolding all_marked
+  stays earlier [] has = has
+  stays earlier (f ∷ all) (zero, lt, is) = (0, omega arith, ap (marked earlier) is)
+  stays earlier (f ∷ all) (suc k, lt, is) = Contains-append_right (marked earlier f ∷ []) _ _ (stays (f ∷ earlier) all (k, omega (arith, lt), is))
+
 module _ (x : List ℕ) (good : shape_fault x ≡ None) where
   abbrev room : ℕ
   room = largest_room (length x) 0 0 (cut x).cells
 
   of_all : List RegionFinding
-  of_all = cells_findings [] 0 (cut x).cells
+  of_all = cells_findings 0 (cut x).cells
 
   last : List RegionFinding
   last = end_findings x (place_after 0 (cut x).cells) (cut x).end
 
-  whole : region_findings x ≡ of_all ++ (last ++ counts_of (length x) (cut x).cells)
-  unfolding region_findings of_all last
+  whole : region_findings x ≡ all_marked [] (of_all ++ (last ++ counts_of (length x) (cut x).cells))
+  unfolding region_findings walk_findings of_all last
   whole = rw good refl
 
   reported : 28 ≤ room → Contains (region_findings x) (LargestContent (room - 28))
   reported fits =
       subst (λ l. Contains l (LargestContent (room - 28))) (sym whole)
-      (Contains-append_right of_all _ _ (Contains-append_right last _ _ (2, omega arith, rw (le-leb 28 room fits) refl)))
+      (stays (room - 28) [] _ (Contains-append_right of_all _ _ (Contains-append_right last _ _ (2, omega arith, rw (le-leb 28 room fits) refl))))
 
   -- the length and 28 bytes are the room
   by_counts : (m : ℕ) → Contains (counts_of (length x) (cut x).cells) (LargestContent m) → 28 + m ≡ room
@@ -89,14 +107,14 @@ module _ (x : List ℕ) (good : shape_fault x ≡ None) where
 
   found : (m : ℕ) → Contains (region_findings x) (LargestContent m) → 28 + m ≡ room
   unfolding of_all last
-  found m has = go (Contains-append_cases of_all _ _ (subst (λ l. Contains l (LargestContent m)) whole has))
+  found m has = go (Contains-append_cases of_all _ _ (was_there m [] _ (subst (λ l. Contains l (LargestContent m)) whole has)))
     where
       later : Contains last (LargestContent m) ⊎ Contains (counts_of (length x) (cut x).cells) (LargestContent m) → 28 + m ≡ room
       later (inl there) = absurd (let is : IsIn end_part (LargestContent m) = All-contains (IsIn end_part) last (LargestContent m) (of_end x (place_after 0 (cut x).cells) (cut x).end) there in cc)
       later (inr there) = by_counts m there
 
       go : Contains of_all (LargestContent m) ⊎ Contains (last ++ counts_of (length x) (cut x).cells) (LargestContent m) → 28 + m ≡ room
-      go (inl there) = absurd (let is : IsIn cell_part (LargestContent m) = All-contains (IsIn cell_part) of_all (LargestContent m) (of_cells [] 0 (cut x).cells) there in cc)
+      go (inl there) = absurd (let is : IsIn cell_part (LargestContent m) = All-contains (IsIn cell_part) of_all (LargestContent m) (of_cells 0 (cut x).cells) there in cc)
       go (inr there) = later (Contains-append_cases last _ _ there)
 
   taken : (n : ℕ) → IsTaken x n → IsWithinLargest x n

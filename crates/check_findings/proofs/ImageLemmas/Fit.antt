@@ -1,22 +1,22 @@
 -- Regions without bad findings.
 use Rattle.std.proofs.Common.{arith, ◌≡◌, ◌≢◌, ℕ, ◌+◌, Bool, true, false, cond, List, [], ◌∷◌, ◌++◌, Some, None, Contains, All, length, sym, ap, ◌∙◌}
 use Rattle.std.specs.List.{list_any}
-use Rattle.std.proofs.lemmas.Bool.{false≢true}
+use Rattle.std.proofs.lemmas.Bool.{false≢true, or_parts}
 use Rattle.std.proofs.lemmas.List.Elements.{All-nil, All-cons}
 use Rattle.std.proofs.lemmas.List.Folds.{list_any_at}
 use Rattle.flash_format.specs.declared.head.DamageKind.{DamageKind}
 use Rattle.flash_format.specs.Head.{head_of, is_free}
 use Rattle.flash_format.specs.Entry.{entry}
 use Rattle.flash_format.specs.Cut.{End, damage, cut}
-use Rattle.flash_format.specs.Components.{Component, component_at, components_from, cell_name}
+use Rattle.flash_format.specs.Components.{Component, component_at, components_from}
 use Rattle.cbfs_walk.specs.Shaped.{place_after}
 use Rattle.cbfs_walk.specs.Shapes.{has_bad_size, is_absent, refused_or}
 use Rattle.cbfs_walk.specs.declared.walk.WalkFault.TheVariants as faults
 use Rattle.std.proofs.lemmas.Grind.{common_steps}
 use Rattle.check_findings.specs.Region.Laws.{IsBlankTail}
-use Rattle.check_findings.specs.Region.Names.{is_among}
-use Rattle.check_findings.specs.Region.RegionFindings.{cell_findings, cells_findings, component_finding, counts_of, end_findings, free_findings, names_after, region_findings, shape_findings, tail_bytes, tail_findings}
+use Rattle.check_findings.specs.Region.RegionFindings.{all_marked, cell_findings, cells_findings, component_finding, counts_of, end_findings, free_findings, marked, region_findings, shape_findings, tail_bytes, tail_findings, walk_findings}
 use Rattle.check_findings.specs.declared.region.finding.RegionFinding.{RegionFinding}
+use Rattle.check_findings.specs.declared.region.finding.RegionFinding.TheVariants as findings
 use Rattle.check_findings.proofs.MapLemmas.Sound.{none_of}
 use Rattle.check_findings.proofs.RegionLemmas.Tails.{none_filled}
 use Rattle.check_findings.specs.Image.Laws.{IsIntact, IsWhole}
@@ -34,32 +34,44 @@ good_shape needs size absent rest fit = grind (arith, common_steps, fit)
 undamaged : (needs : Bool) (bytes : List ℕ) (at : ℕ) (end : End) (rest : List RegionFinding) → list_any (is_bad_region needs) (end_findings bytes at end ++ rest) ≡ false → (kind : DamageKind) → end ≢ damage kind
 undamaged needs bytes at end rest fit kind is = false≢true (sym (rw is at fit))
 
-intact_cell : (needs : Bool) (names : List (List ℕ)) (at : ℕ) (x : List ℕ) (others : List Component) (free : Bool)
-    → list_any (is_bad_region needs) (cond free (free_findings at (head_of x)) (component_finding (is_among (cell_name x) names) (component_at at x) ∷ [])) ≡ false → All IsIntact others
+intact_cell : (needs : Bool) (at : ℕ) (x : List ℕ) (others : List Component) (free : Bool)
+    → list_any (is_bad_region needs) (cond free (free_findings at (head_of x)) (component_finding false (component_at at x) ∷ [])) ≡ false → All IsIntact others
     → All IsIntact (cond free others (component_at at x ∷ others))
-intact_cell needs names at x others true fit rest = rest
-intact_cell needs names at x others false fit rest = All-cons IsIntact (component_at at x) others (λ stored is. grind (arith, common_steps, is, fit)) rest
+intact_cell needs at x others true fit rest = rest
+intact_cell needs at x others false fit rest = All-cons IsIntact (component_at at x) others (λ stored is. grind (arith, common_steps, is, fit)) rest
 
-intact : (needs : Bool) (names : List (List ℕ)) (at : ℕ) (cells : List (List ℕ)) → list_any (is_bad_region needs) (cells_findings names at cells) ≡ false → All IsIntact (components_from at cells)
+intact : (needs : Bool) (at : ℕ) (cells : List (List ℕ)) → list_any (is_bad_region needs) (cells_findings at cells) ≡ false → All IsIntact (components_from at cells)
 unfolding cells_findings components_from
-intact needs names at [] fit = All-nil IsIntact
-intact needs names at (x ∷ cells) fit =
-    let parts = none_of (is_bad_region needs) (cell_findings names at x) _ fit in
-    intact_cell needs names at x (components_from (at + length x) cells) (is_free (head_of x)) parts.0 (intact needs (names_after names x) (at + length x) cells parts.1)
+intact needs at [] fit = All-nil IsIntact
+intact needs at (x ∷ cells) fit =
+    let parts = none_of (is_bad_region needs) (cell_findings at x) _ fit in
+    intact_cell needs at x (components_from (at + length x) cells) (is_free (head_of x)) parts.0 (intact needs (at + length x) cells parts.1)
 
 blank : (needs : Bool) (at : ℕ) (x : List ℕ) (rest : List RegionFinding) → list_any (is_bad_region needs) (tail_findings at x ++ rest) ≡ false → IsBlankTail at x
 unfolding tail_findings
 blank needs at x rest fit = none_filled at (tail_bytes at x) (grind (arith, common_steps, fit))
 
+-- a mark makes no finding good
+bad_marked : (needs : Bool) (earlier : List RegionFinding) (f : RegionFinding) → is_bad_region needs (marked earlier f) ≡ false → is_bad_region needs f ≡ false
+bad_marked needs earlier (findings.Component at name is content) fit = grind (arith, common_steps, fit)
+bad_marked needs earlier other fit = fit
+
+none_bad : (needs : Bool) (earlier all : List RegionFinding) → list_any (is_bad_region needs) (all_marked earlier all) ≡ false → list_any (is_bad_region needs) all ≡ false
+unfolding all_marked
+none_bad needs earlier [] fit = fit
+none_bad needs earlier (f ∷ all) fit =
+    let parts = or_parts (is_bad_region needs (marked earlier f)) _ fit in
+    rw (bad_marked needs earlier f parts.0) (none_bad needs (f ∷ earlier) all parts.1)
+
 -- a region without bad findings is whole
 pub fit_region : (needs : Bool) (x : List ℕ) → list_any (is_bad_region needs) (region_findings x) ≡ false → IsWhole x
-unfolding region_findings
+unfolding region_findings walk_findings
 fit_region needs x fit =
-    let all = good_shape needs (has_bad_size (length x)) (is_absent (entry x)) _ fit in
-    let parts = none_of (is_bad_region needs) (cells_findings [] 0 (cut x).cells) _ all.1 in
+    let all = good_shape needs (has_bad_size (length x)) (is_absent (entry x)) _ (none_bad needs [] _ fit) in
+    let parts = none_of (is_bad_region needs) (cells_findings 0 (cut x).cells) _ all.1 in
     record {
       shaped = all.0;
       undamaged = undamaged needs x (place_after 0 (cut x).cells) (cut x).end (counts_of (length x) (cut x).cells) parts.1;
-      intact = intact needs [] 0 (cut x).cells parts.0;
+      intact = intact needs 0 (cut x).cells parts.0;
       blank = λ is. blank needs (place_after 0 (cut x).cells) x (counts_of (length x) (cut x).cells) (rw is at parts.1);
     }

@@ -5,14 +5,14 @@ use Rattle.std.proofs.lemmas.List.Elements.{All-append, All-head, All-tail, All-
 use Rattle.std.specs.Option.{option_map}
 use Rattle.std.proofs.lemmas.Grind.{common_steps}
 use Rattle.flash_format.specs.Cut.{cut}
-use Rattle.flash_format.specs.Components.{Component, components_from, components, cell_name}
+use Rattle.flash_format.specs.Components.{Component, components_from, components}
 use Rattle.cbfs_walk.specs.Finding.{component_in, first_named}
 use Rattle.cbfs_walk.specs.Shapes.{shape_fault, refused_or}
 use Rattle.cbfs_walk.specs.Shaped.{place_after}
 use Rattle.cbfs_walk.specs.declared.walk.WalkFault.{WalkFault}
 use Rattle.cbfs_walk.specs.declared.walk.WalkFault.TheVariants as walk
 use Rattle.check_findings.specs.Region.Counts.{free_bytes, largest_room}
-use Rattle.check_findings.specs.Region.RegionFindings.{cells_findings, component_content, counts_of, end_findings, region_findings, shape_findings}
+use Rattle.check_findings.specs.Region.RegionFindings.{all_marked, cells_findings, component_content, counts_of, end_findings, marked, region_findings, shape_findings, walk_findings}
 use Rattle.flash_format.specs.Flashmap.{is_area}
 use Rattle.check_findings.specs.Image.Needs.{Wish, content_named, first_content, unmet, unmet_by}
 use Rattle.check_findings.specs.Image.Laws.{IsMet, NeedsAreThere}
@@ -42,13 +42,21 @@ none_among name [] none = refl
 none_among name (f ∷ l) none = let here = All-head (λ (g : RegionFinding). content_named name g ≡ None) f l none in rw here (none_among name l (All-tail (λ (g : RegionFinding). content_named name g ≡ None) f l none))
 
 -- the first content is the content of the first component, in order
-of_cells : (name : List ℕ) (names : List (List ℕ)) (at : ℕ) (cells : List (List ℕ)) (last : List RegionFinding) → first_content name last ≡ None
-    → first_content name (cells_findings names at cells ++ last) ≡ option_map component_content (first_named name (components_from at cells))
+of_cells : (name : List ℕ) (at : ℕ) (cells : List (List ℕ)) (last : List RegionFinding) → first_content name last ≡ None
+    → first_content name (cells_findings at cells ++ last) ≡ option_map component_content (first_named name (components_from at cells))
 unfolding cells_findings components_from
-of_cells name names at [] last none = none
-of_cells name names at (x ∷ cells) last none =
-    let later : (ns : List (List ℕ)) → first_content name (cells_findings ns (at + length x) cells ++ last) ≡ option_map component_content (first_named name (components_from (at + length x) cells)) = λ ns. of_cells name ns (at + length x) cells last none in
-    grind (arith, common_steps, later names, later (cell_name x ∷ names))
+of_cells name at [] last none = none
+of_cells name at (x ∷ cells) last none = let later = of_cells name (at + length x) cells last none in grind (arith, common_steps, later)
+
+-- marks change no content
+of_mark : (name : List ℕ) (earlier : List RegionFinding) (f : RegionFinding) → content_named name (marked earlier f) ≡ content_named name f
+of_mark name earlier (OfComponent at other is content) = refl
+of_mark name earlier other = refl
+
+of_marks : (name : List ℕ) (earlier all : List RegionFinding) → first_content name (all_marked earlier all) ≡ first_content name all
+unfolding all_marked
+of_marks name earlier [] = refl
+of_marks name earlier (f ∷ all) = rw (of_mark name earlier f, of_marks name (f ∷ earlier) all) refl
 
 of_shape : (name : List ℕ) (fault : WalkFault) → first_content name (shape_findings fault) ≡ None
 of_shape name walk.RegionShape = refl
@@ -60,8 +68,8 @@ HasContent x name content = (c : Component) × (component_in x name ≡ Ok (Some
 
 -- a content of the name belongs to the component that a search finds
 has_content : (x name : List ℕ) (content : Content) → first_content name (region_findings x) ≡ Some content → HasContent x name content
-unfolding region_findings component_in
-has_content x name content is = go (shape_fault x) refl is
+unfolding region_findings walk_findings component_in
+has_content x name content is = go (shape_fault x) refl (sym (of_marks name [] (walk_findings x)) ∙ is)
   where
     cells : List (List ℕ)
     cells = (cut x).cells
@@ -82,9 +90,9 @@ has_content x name content is = go (shape_fault x) refl is
     listed None e here good = absurd cc
     listed (Some c) e here good = (c, rw (good, here) refl, cc)
 
-    go : (o : Option WalkFault) → shape_fault x ≡ o → first_content name (refused_or shape_findings o (cells_findings [] 0 cells ++ (ended ++ counts_of (length x) cells))) ≡ Some content → HasContent x name content
+    go : (o : Option WalkFault) → shape_fault x ≡ o → first_content name (refused_or shape_findings o (cells_findings 0 cells ++ (ended ++ counts_of (length x) cells))) ≡ Some content → HasContent x name content
     go (Some fault) bad e = absurd (let none = of_shape name fault in cc)
-    go None good e = listed (first_named name (components x)) (sym (of_cells name [] 0 cells _ (none_among name _ none)) ∙ e) refl good
+    go None good e = listed (first_named name (components x)) (sym (of_cells name 0 cells _ (none_among name _ none)) ∙ e) refl good
 
 -- ---- an image
 

@@ -21,13 +21,11 @@ use Rattle.cbfs_walk.proofs.Shapes.{shaped_step}
 use Rattle.flash_format.specs.Head.{head_of, is_free}
 use Rattle.flash_format.specs.declared.head.DamageKind.{DamageKind}
 use Rattle.check_findings.specs.Region.Counts.{IsCountBefore, nothing, count_after}
-use Rattle.check_findings.specs.Region.RegionFindings.{names_after, cell_findings, cells_findings, counts_of, end_findings, tail_findings, shape_findings, region_findings}
-use Rattle.check_findings.specs.Region.Names.{HasNames}
-use Rattle.check_findings.specs.Region.Reports.{Gains, counted}
+use Rattle.check_findings.specs.Region.RegionFindings.{cell_findings, cells_findings, counts_of, end_findings, tail_findings, shape_findings, walk_findings}
+use Rattle.check_findings.specs.Region.Reports.{counted}
 use Rattle.check_findings.specs.declared.region.finding.RegionFinding.{RegionFinding}
 use Rattle.check_findings.specs.declared.region.finding.RegionFinding.TheVariants as findings
 use Rattle.check_findings.specs.declared.region.count.Count.{Count}
-use Rattle.check_findings.specs.declared.region.report.Report.{Report}
 use Rattle.check_findings.proofs.RegionLemmas.CountLemmas.{count_all, count_more, count_none, count_whole}
 
 -- ---- by the cut
@@ -36,59 +34,59 @@ use Rattle.check_findings.proofs.RegionLemmas.CountLemmas.{count_all, count_more
 last : List ℕ → End → ℕ → List RegionFinding → List RegionFinding
 last bytes end at counts = end_findings bytes at end ++ counts
 
--- the findings of a region after these names and counts, if the cut continues at an offset
-cut_findings : List ℕ → ℕ → Cut → List (List ℕ) → Count → List RegionFinding
-cut_findings bytes at k names n = cells_findings names at k.cells ++ last bytes k.end (place_after at k.cells) (count_all n at k.cells)
+-- the findings of a region after these counts, if the cut continues at an offset
+cut_findings : List ℕ → ℕ → Cut → Count → List RegionFinding
+cut_findings bytes at k n = cells_findings at k.cells ++ last bytes k.end (place_after at k.cells) (count_all n at k.cells)
 
-cell_step : List ℕ → Cell → (List (List ℕ) → Count → List RegionFinding) → List (List ℕ) → Count → List RegionFinding
-cell_step x given later names n = cell_findings names given.at x ++ later (names_after names x) (count_after n (is_free given.head) given.at given.span)
+cell_step : List ℕ → Cell → (Count → List RegionFinding) → Count → List RegionFinding
+cell_step x given later n = cell_findings given.at x ++ later (count_after n (is_free given.head) given.at given.span)
 
-fault_findings : WalkFault → List (List ℕ) → Count → List RegionFinding
-fault_findings fault names n = shape_findings fault
+fault_findings : WalkFault → Count → List RegionFinding
+fault_findings fault n = shape_findings fault
 
-cell_more : (bytes : List ℕ) (at : ℕ) (x : List ℕ) (k : Cut) (names : List (List ℕ)) (n : Count)
-    → cut_findings bytes at (after (x ∷ []) k) names n ≡ cell_findings names at x ++ cut_findings bytes (at + length x) k (names_after names x) (count_after n (is_free (head_of x)) at (length x))
+cell_more : (bytes : List ℕ) (at : ℕ) (x : List ℕ) (k : Cut) (n : Count)
+    → cut_findings bytes at (after (x ∷ []) k) n ≡ cell_findings at x ++ cut_findings bytes (at + length x) k (count_after n (is_free (head_of x)) at (length x))
 unfolding cut_findings cells_findings last
-cell_more bytes at x k names n =
-    let later = cells_findings (names_after names x) (at + length x) k.cells in
-    ap (λ (m : List RegionFinding). (cell_findings names at x ++ later) ++ last bytes k.end (place_after (at + length x) k.cells) m) (count_more n at x k.cells)
-    ∙ append_assoc (cell_findings names at x) later _
+cell_more bytes at x k n =
+    let later = cells_findings (at + length x) k.cells in
+    ap (λ (m : List RegionFinding). (cell_findings at x ++ later) ++ last bytes k.end (place_after (at + length x) k.cells) m) (count_more n at x k.cells)
+    ∙ append_assoc (cell_findings at x) later _
 
 law : (bytes : List ℕ) → ReadsCells (cut_findings bytes) cell_step
 unfolding cell_step
-law bytes at x k = fun_ext (λ (names : List (List ℕ)). fun_ext (λ (n : Count). cell_more bytes at x k names n))
+law bytes at x k = fun_ext (λ (n : Count). cell_more bytes at x k n)
 
 -- the findings from an offset on
-pub findings_from : List ℕ → List (List ℕ) → Count → ℕ → List RegionFinding
-findings_from x names n at = reading_of fault_findings (cut_findings x) x at names n
+pub findings_from : List ℕ → Count → ℕ → List RegionFinding
+findings_from x n at = reading_of fault_findings (cut_findings x) x at n
 
-whole_findings : (x : List ℕ) → region_findings x ≡ findings_from x [] (nothing (length x)) 0
-unfolding findings_from fault_findings region_findings reading_of cut_findings last
+whole_findings : (x : List ℕ) → walk_findings x ≡ findings_from x (nothing (length x)) 0
+unfolding findings_from fault_findings walk_findings reading_of cut_findings last
 whole_findings x = go (shape_fault x)
   where
-    go : (o : Option WalkFault) → refused_or shape_findings o (cells_findings [] 0 (cut x).cells ++ last x (cut x).end (place_after 0 (cut x).cells) (counts_of (length x) (cut x).cells)) ≡ refused_or fault_findings o (cut_findings x 0 (cut x)) [] (nothing (length x))
-    go None = ap (λ (m : List RegionFinding). cells_findings [] 0 (cut x).cells ++ last x (cut x).end (place_after 0 (cut x).cells) m) (sym (count_whole (length x) (cut x).cells))
+    go : (o : Option WalkFault) → refused_or shape_findings o (cells_findings 0 (cut x).cells ++ last x (cut x).end (place_after 0 (cut x).cells) (counts_of (length x) (cut x).cells)) ≡ refused_or fault_findings o (cut_findings x 0 (cut x)) (nothing (length x))
+    go None = ap (λ (m : List RegionFinding). cells_findings 0 (cut x).cells ++ last x (cut x).end (place_after 0 (cut x).cells) m) (sym (count_whole (length x) (cut x).cells))
     go (Some fault) = refl
 
 -- the same by the result of the walk
-findings_by : List ℕ → List (List ℕ) → Count → Answer → List RegionFinding
-findings_by x names n answer = by_answer fault_findings (cut_findings x) cell_step x answer names n
+findings_by : List ℕ → Count → Answer → List RegionFinding
+findings_by x n answer = by_answer fault_findings (cut_findings x) cell_step x answer n
 
-by_step : (x : List ℕ) (names : List (List ℕ)) (n : Count) (at : ℕ) → at ≤ length x → at % 64 ≡ 0 → findings_from x names n at ≡ findings_by x names n (answer_at x at)
+by_step : (x : List ℕ) (n : Count) (at : ℕ) → at ≤ length x → at % 64 ≡ 0 → findings_from x n at ≡ findings_by x n (answer_at x at)
 unfolding findings_from findings_by
-by_step x names n at inside aligned = ap (λ (f : List (List ℕ) → Count → List RegionFinding). f names n) (shaped_step fault_findings (cut_findings x) cell_step (law x) x at inside aligned)
+by_step x n at inside aligned = ap (λ (f : Count → List RegionFinding). f n) (shaped_step fault_findings (cut_findings x) cell_step (law x) x at inside aligned)
 
-by_end : (x : List ℕ) (names : List (List ℕ)) (n : Count) → findings_by x names n (Ok steps.End) ≡ findings.Complete ∷ counted n (length x)
+by_end : (x : List ℕ) (n : Count) → findings_by x n (Ok steps.End) ≡ findings.Complete ∷ counted n (length x)
 unfolding findings_by cut_findings cells_findings last
-by_end x names n = ap (λ m. findings.Complete ∷ m) (count_none n (length x))
+by_end x n = ap (λ m. findings.Complete ∷ m) (count_none n (length x))
 
-by_tail : (x : List ℕ) (names : List (List ℕ)) (n : Count) (at : ℕ) → findings_by x names n (Ok (steps.Tail at)) ≡ tail_findings at x ++ counted n at
+by_tail : (x : List ℕ) (n : Count) (at : ℕ) → findings_by x n (Ok (steps.Tail at)) ≡ tail_findings at x ++ counted n at
 unfolding findings_by cut_findings cells_findings last
-by_tail x names n at = ap (λ m. tail_findings at x ++ m) (count_none n at)
+by_tail x n at = ap (λ m. tail_findings at x ++ m) (count_none n at)
 
-by_damage : (x : List ℕ) (names : List (List ℕ)) (n : Count) (at : ℕ) (kind : DamageKind) → findings_by x names n (Err (walk.Damaged at kind)) ≡ findings.Damaged at kind ∷ counted n at
+by_damage : (x : List ℕ) (n : Count) (at : ℕ) (kind : DamageKind) → findings_by x n (Err (walk.Damaged at kind)) ≡ findings.Damaged at kind ∷ counted n at
 unfolding findings_by cut_findings cells_findings last
-by_damage x names n at kind = ap (λ m. findings.Damaged at kind ∷ m) (count_none n at)
+by_damage x n at kind = ap (λ m. findings.Damaged at kind ∷ m) (count_none n at)
 
 -- a tail begins at the walk's offset
 tail_place : (x : List ℕ) (place at : ℕ) → (let a : Answer = Ok (steps.Tail at) in a) ≡ answer_at x place → at ≡ place
@@ -97,23 +95,18 @@ tail_place x place at is = grind (arith, common_steps, is)
 
 -- ---- the loop
 
--- the findings of a region begin with the report's, and the others follow from the report's names
-abbrev pub IsPart : List ℕ → Report → (List (List ℕ) → List RegionFinding) → Type 0
-IsPart x report rest = (names : List (List ℕ)) × HasNames report.names.keys names × (region_findings x ≡ report.findings.items ++ rest names)
-
 -- the check has reached the walk's offset
-pub record Checking {F : Type 0} (facts : F → Device) (r : Range) (w : Walking) (report : Report) (count : Count) (old now : Pages F) : Type 0 where
+pub record Checking {F : Type 0} (facts : F → Device) (r : Range) (w : Walking) (found : List RegionFinding) (count : Count) (old now : Pages F) : Type 0 where
   pub region : w.region ≡ r
   pub going : w.ended ≡ None
   pub inside : w.at ≤ r.size
   pub aligned : w.at % 64 ≡ 0
   pub read : HasRead facts (w.at / 16) 0 old now
   pub before : IsCountBefore w.at count
-  pub so_far : OnHonestIn facts old.device r (λ x. IsPart x report (λ names. findings_from x names count w.at))
+  pub so_far : OnHonestIn facts old.device r (λ x. walk_findings x ≡ found ++ findings_from x count w.at)
 
-pub checking_start : {F : Type 0} (facts : F → Device) (r : Range) (report : Report) (old : Pages F) → LiesOn r (facts old.device) → report.findings.items ≡ [] → report.names.keys ≡ []
-    → Checking facts r (walk_of r) report (nothing r.size) old old
-checking_start facts r report old lies none unnamed = record {
+pub checking_start : {F : Type 0} (facts : F → Device) (r : Range) (old : Pages F) → LiesOn r (facts old.device) → Checking facts r (walk_of r) [] (nothing r.size) old old
+checking_start facts r old lies = record {
   region = refl;
   going = refl;
   inside = omega arith;
@@ -122,7 +115,7 @@ checking_start facts r report old lies none unnamed = record {
   before = (omega arith, omega arith);
   so_far = λ h.
       let x = bytes_in r (facts old.device).content in
-      ([], rw unnamed (λ q. refl), rw none (whole_findings x ∙ ap (λ n. findings_from x [] (nothing n) 0) (length-bytes_in r (facts old.device).content lies.inside)));
+      whole_findings x ∙ ap (λ n. findings_from x (nothing n) 0) (length-bytes_in r (facts old.device).content lies.inside);
 }
 
 -- a result without a device fault
@@ -130,7 +123,7 @@ no_fault : (a b : Answer) → (IsErrOf a walk.Device → ⊥) → IsErrOf a walk
 no_fault a b other (inl e) = absurd (other e)
 no_fault a b other (inr e) = e
 
-module _ {F : Type 0} (facts : F → Device) (r : Range) (w : Walking) (report : Report) (count : Count) (old now : Pages F) (lies : LiesOn r (facts old.device)) (i : Checking facts r w report count old now) where
+module _ {F : Type 0} (facts : F → Device) (r : Range) (w : Walking) (found : List RegionFinding) (count : Count) (old now : Pages F) (lies : LiesOn r (facts old.device)) (i : Checking facts r w found count old now) where
   abbrev x : List ℕ
   x = bytes_in r (facts old.device).content
 
@@ -138,22 +131,21 @@ module _ {F : Type 0} (facts : F → Device) (r : Range) (w : Walking) (report :
   abbrev pub Answers : Answer → Type 0
   Answers a = IsTrue (facts now.device).honest → w.ended ≡ None → IsErrOf a walk.Device ⊎ (a ≡ answer_at (bytes_in w.region (facts now.device).content) w.at)
 
-  answered : (a : Answer) → Answers a → (IsErrOf a walk.Device → ⊥) → IsTrue (facts old.device).honest → (a ≡ answer_at x w.at) × IsPart x report (λ names. findings_by x names count a)
+  answered : (a : Answer) → Answers a → (IsErrOf a walk.Device → ⊥) → IsTrue (facts old.device).honest → (a ≡ answer_at x w.at) × (walk_findings x ≡ found ++ findings_by x count a)
   answered a answer other h =
       let is = no_fault a _ other (answer (honest_still i.read.device.calls.same_honesty h) i.going) in
       let len : length x ≡ r.size = length-bytes_in r (facts old.device).content lies.inside in
       let here : a ≡ answer_at x w.at = is ∙ ap (λ (k : Range). answer_at (bytes_in k (facts now.device).content) w.at) i.region ∙ ap (λ (l : List ℕ). answer_at (bytes_in r l) w.at) (i.read.device.unchanged h) in
-      let known = i.so_far h in
-      let step = by_step x known.0 count w.at (omega (arith, len, i.inside)) i.aligned ∙ ap (λ (b : Answer). findings_by x known.0 count b) (sym here) in
-      (here, (known.0, known.1, known.2 ∙ ap (λ (l : List RegionFinding). report.findings.items ++ l) step))
+      let step = by_step x count w.at (omega (arith, len, i.inside)) i.aligned ∙ ap (λ (b : Answer). findings_by x count b) (sym here) in
+      (here, i.so_far h ∙ ap (λ (l : List RegionFinding). found ++ l) step)
 
   -- another cell
-  pub checking_more : (c : Cell) (v : Walking) (next : Report) (more : Count) (mid new : Pages F) (n m : ℕ) → IsCellIn w.region.size c × (c.at ≡ w.at)
+  pub checking_more : (c : Cell) (v : Walking) (next : List RegionFinding) (more : Count) (mid new : Pages F) (n m : ℕ) → IsCellIn w.region.size c × (c.at ≡ w.at)
       → HasRead facts n 0 now mid → n ≡ reads_over c.span → HasRead facts m 0 mid new → m ≡ 3 + 2 * (c.span / 3840)
       → Answers (Ok (steps.Cell c))
       → v ≡ record w { at = w.at + c.span; steps = w.steps + 1 }
       → IsCountBefore (c.at + c.span) more → more ≡ count_after count (is_free c.head) c.at c.span
-      → OnHonestIn facts mid.device r (λ y. StandsIn y c → (names : List (List ℕ)) → HasNames report.names.keys names → Gains report next (names_after names (cell_in y c)) (cell_findings names c.at (cell_in y c)))
+      → OnHonestIn facts mid.device r (λ y. StandsIn y c → next ≡ found ++ cell_findings c.at (cell_in y c))
       → Checking facts r v next more old new
   unfolding findings_by cell_step findings_from
   checking_more c v next more mid new n m given reads few over fewer answer moved before is_more gains = rw moved (record {
@@ -168,15 +160,9 @@ module _ {F : Type 0} (facts : F → Device) (r : Range) (w : Walking) (report :
         let same : (facts mid.device).content ≡ (facts old.device).content = reads.device.unchanged k ∙ i.read.device.unchanged h in
         let known = answered (Ok (steps.Cell c)) answer (λ e. cc) h in
         let stands : StandsIn x c = ap (λ p. answer_at x p) given.1 ∙ sym known.0 in
-        let names = known.1.0 in
-        let found = cell_findings names c.at (cell_in x c) in
-        let gained = (rw same at (gains (honest_still reads.device.calls.same_honesty k))) stands names known.1.1 in
-        let rest : Count → ℕ → List RegionFinding = findings_from x (names_after names (cell_in x c)) in (
-          names_after names (cell_in x c),
-          gained.1,
-          known.1.2 ∙ sym (append_assoc report.findings.items found _) ∙ ap (λ p. (report.findings.items ++ found) ++ rest (count_after count (is_free c.head) c.at c.span) (p + c.span)) given.1
-              ∙ rw (gained.0, is_more) refl,
-        );
+        let cells = cell_findings c.at (cell_in x c) in
+        let gained = (rw same at (gains (honest_still reads.device.calls.same_honesty k))) stands in
+        known.1 ∙ sym (append_assoc found cells _) ∙ ap (λ p. (found ++ cells) ++ findings_from x (count_after count (is_free c.head) c.at c.span) (p + c.span)) given.1 ∙ rw (gained, is_more) refl;
   })
     where
       cell_of_region : IsCellIn r.size c
@@ -185,41 +171,40 @@ module _ {F : Type 0} (facts : F → Device) (r : Range) (w : Walking) (report :
   -- ---- the walk ended
 
   -- the last findings follow
-  stopped : (a : Answer) (more all : List RegionFinding) → Answers a → (IsErrOf a walk.Device → ⊥) → all ≡ report.findings.items ++ more → ((names : List (List ℕ)) → findings_by x names count a ≡ more) → IsTrue (facts old.device).honest → all ≡ region_findings x
+  stopped : (a : Answer) (more all : List RegionFinding) → Answers a → (IsErrOf a walk.Device → ⊥) → all ≡ found ++ more → findings_by x count a ≡ more → IsTrue (facts old.device).honest → all ≡ walk_findings x
   stopped a more all answer other is_all is h =
-      let known = (answered a answer other h).1 in
-      is_all ∙ sym (known.2 ∙ ap (λ (l : List RegionFinding). report.findings.items ++ l) (is known.0))
+      is_all ∙ sym ((answered a answer other h).1 ∙ ap (λ (l : List RegionFinding). found ++ l) is)
 
   -- the last findings and the counts
-  with_counts : (more next all : List RegionFinding) (end : ℕ) → next ≡ report.findings.items ++ more → all ≡ next ++ counted count end → all ≡ report.findings.items ++ (more ++ counted count end)
-  with_counts more next all end pushed is_all = is_all ∙ ap (λ (l : List RegionFinding). l ++ counted count end) pushed ∙ append_assoc report.findings.items more (counted count end)
+  with_counts : (more next all : List RegionFinding) (end : ℕ) → next ≡ found ++ more → all ≡ next ++ counted count end → all ≡ found ++ (more ++ counted count end)
+  with_counts more next all end pushed is_all = is_all ∙ ap (λ (l : List RegionFinding). l ++ counted count end) pushed ∙ append_assoc found more (counted count end)
 
-  pub checking_end : (end : ℕ) (next all : List RegionFinding) → Answers (Ok steps.End) → end ≡ r.size → next ≡ report.findings.items ++ findings.Complete ∷ [] → all ≡ next ++ counted count end
-      → IsTrue (facts old.device).honest → all ≡ region_findings x
+  pub checking_end : (end : ℕ) (next all : List RegionFinding) → Answers (Ok steps.End) → end ≡ r.size → next ≡ found ++ findings.Complete ∷ [] → all ≡ next ++ counted count end
+      → IsTrue (facts old.device).honest → all ≡ walk_findings x
   checking_end end next all answer place pushed is_all =
       let same : end ≡ length x = place ∙ sym (length-bytes_in r (facts old.device).content lies.inside) in
       stopped (Ok steps.End) (findings.Complete ∷ counted count end) all answer (λ e. cc) (with_counts (findings.Complete ∷ []) next all end pushed is_all)
-      (λ names. by_end x names count ∙ ap (λ p. findings.Complete ∷ counted count p) (sym same))
+      (by_end x count ∙ ap (λ p. findings.Complete ∷ counted count p) (sym same))
 
   pub checking_tail : (at here n : ℕ) (mid : Pages F) (next all : List RegionFinding) → Answers (Ok (steps.Tail at)) → here ≡ w.at → HasRead facts n 0 now mid
-      → OnHonestIn facts mid.device r (λ y. next ≡ report.findings.items ++ tail_findings here y) → all ≡ next ++ counted count here → IsTrue (facts old.device).honest → all ≡ region_findings x
+      → OnHonestIn facts mid.device r (λ y. next ≡ found ++ tail_findings here y) → all ≡ next ++ counted count here → IsTrue (facts old.device).honest → all ≡ walk_findings x
   checking_tail at here n mid next all answer place reads pushed is_all h =
       let k = honest_still i.read.device.calls.same_honesty h in
       let content : (facts mid.device).content ≡ (facts old.device).content = reads.device.unchanged k ∙ i.read.device.unchanged h in
       let same : at ≡ here = tail_place x w.at at (answered (Ok (steps.Tail at)) answer (λ e. cc) h).0 ∙ sym place in
       stopped (Ok (steps.Tail at)) (tail_findings here x ++ counted count here) all answer (λ e. cc)
       (with_counts (tail_findings here x) next all here (rw content at (pushed (honest_still reads.device.calls.same_honesty k))) is_all)
-      (λ names. by_tail x names count at ∙ ap (λ p. tail_findings p x ++ counted count p) same) h
+      (by_tail x count at ∙ ap (λ p. tail_findings p x ++ counted count p) same) h
 
-  pub checking_damage : (at : ℕ) (kind : DamageKind) (next all : List RegionFinding) → Answers (Err (walk.Damaged at kind)) → next ≡ report.findings.items ++ findings.Damaged at kind ∷ [] → all ≡ next ++ counted count at
-      → IsTrue (facts old.device).honest → all ≡ region_findings x
+  pub checking_damage : (at : ℕ) (kind : DamageKind) (next all : List RegionFinding) → Answers (Err (walk.Damaged at kind)) → next ≡ found ++ findings.Damaged at kind ∷ [] → all ≡ next ++ counted count at
+      → IsTrue (facts old.device).honest → all ≡ walk_findings x
   checking_damage at kind next all answer pushed is_all =
-      stopped (Err (walk.Damaged at kind)) (findings.Damaged at kind ∷ counted count at) all answer (λ e. cc) (with_counts (findings.Damaged at kind ∷ []) next all at pushed is_all) (λ names. by_damage x names count at kind)
+      stopped (Err (walk.Damaged at kind)) (findings.Damaged at kind ∷ counted count at) all answer (λ e. cc) (with_counts (findings.Damaged at kind ∷ []) next all at pushed is_all) (by_damage x count at kind)
 
-  pub checking_size : (all : List RegionFinding) → Answers (Err walk.RegionShape) → all ≡ report.findings.items ++ findings.BadSize ∷ [] → IsTrue (facts old.device).honest → all ≡ region_findings x
+  pub checking_size : (all : List RegionFinding) → Answers (Err walk.RegionShape) → all ≡ found ++ findings.BadSize ∷ [] → IsTrue (facts old.device).honest → all ≡ walk_findings x
   unfolding findings_by fault_findings
-  checking_size all answer pushed = stopped (Err walk.RegionShape) (findings.BadSize ∷ []) all answer (λ e. cc) pushed (λ names. refl)
+  checking_size all answer pushed = stopped (Err walk.RegionShape) (findings.BadSize ∷ []) all answer (λ e. cc) pushed refl
 
-  pub checking_absent : (all : List RegionFinding) → Answers (Err walk.NotCbfs) → all ≡ report.findings.items ++ findings.NotCbfs ∷ [] → IsTrue (facts old.device).honest → all ≡ region_findings x
+  pub checking_absent : (all : List RegionFinding) → Answers (Err walk.NotCbfs) → all ≡ found ++ findings.NotCbfs ∷ [] → IsTrue (facts old.device).honest → all ≡ walk_findings x
   unfolding findings_by fault_findings
-  checking_absent all answer pushed = stopped (Err walk.NotCbfs) (findings.NotCbfs ∷ []) all answer (λ e. cc) pushed (λ names. refl)
+  checking_absent all answer pushed = stopped (Err walk.NotCbfs) (findings.NotCbfs ∷ []) all answer (λ e. cc) pushed refl

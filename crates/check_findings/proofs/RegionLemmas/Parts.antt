@@ -6,9 +6,8 @@ use Rattle.std.proofs.lemmas.Bool.{cond_both}
 use Rattle.std.proofs.lemmas.List.Elements.{All-nil, All-cons, All-append}
 use Rattle.flash_format.specs.Cut.{End, complete, tail, damage}
 use Rattle.flash_format.specs.Head.{head_of, is_free}
-use Rattle.flash_format.specs.Components.{cell_name, component_at}
-use Rattle.check_findings.specs.Region.Names.{is_among}
-use Rattle.check_findings.specs.Region.RegionFindings.{begins_with_entry, cell_findings, cells_findings, component_finding, count_findings, end_findings, entries_findings, entry_findings, filled_findings, free_findings, is_filled, names_after, room_finding, tail_bytes, tail_findings}
+use Rattle.flash_format.specs.Components.{component_at}
+use Rattle.check_findings.specs.Region.RegionFindings.{begins_with_entry, cell_findings, cells_findings, component_finding, count_findings, end_findings, entries_findings, entry_findings, filled_findings, free_findings, is_filled, room_finding, tail_bytes, tail_findings}
 use Rattle.check_findings.specs.declared.region.finding.RegionFinding.{RegionFinding}
 use Rattle.check_findings.specs.declared.region.finding.RegionFinding.TheVariants.{Component, Deleted, Complete, Tail, TailFilled, TailEntry, Damaged, Components, NoComponents, FreeBytes, LargestContent, NoRoom}
 
@@ -35,16 +34,14 @@ if_so : (part : Part) (f : RegionFinding) → IsIn part f → (b : Bool) → All
 if_so part f is true = All-cons (IsIn part) f [] is (All-nil (IsIn part))
 if_so part f is false = All-nil (IsIn part)
 
-of_cell : (names : List (List ℕ)) (at : ℕ) (x : List ℕ) (free : Bool) → All (IsIn cell_part) (cond free (free_findings at (head_of x)) (component_finding (is_among (cell_name x) names) (component_at at x) ∷ []))
-of_cell names at x true = if_so cell_part (Deleted at) refl ((head_of x).kind == 0)
-of_cell names at x false = All-cons (IsIn cell_part) _ [] refl (All-nil (IsIn cell_part))
+of_cell : (at : ℕ) (x : List ℕ) (free : Bool) → All (IsIn cell_part) (cond free (free_findings at (head_of x)) (component_finding false (component_at at x) ∷ []))
+of_cell at x true = if_so cell_part (Deleted at) refl ((head_of x).kind == 0)
+of_cell at x false = All-cons (IsIn cell_part) _ [] refl (All-nil (IsIn cell_part))
 
-pub of_cells : (names : List (List ℕ)) (at : ℕ) (all : List (List ℕ)) → All (IsIn cell_part) (cells_findings names at all)
+pub of_cells : (at : ℕ) (all : List (List ℕ)) → All (IsIn cell_part) (cells_findings at all)
 unfolding cells_findings
-of_cells names at [] = All-nil (IsIn cell_part)
-of_cells names at (x ∷ all) =
-    All-append (IsIn cell_part) (cell_findings names at x) _ (of_cell names at x (is_free (head_of x)))
-    (of_cells (names_after names x) (at + length x) all)
+of_cells at [] = All-nil (IsIn cell_part)
+of_cells at (x ∷ all) = All-append (IsIn cell_part) (cell_findings at x) _ (of_cell at x (is_free (head_of x))) (of_cells (at + length x) all)
 
 of_entries : (n at : ℕ) (x : List ℕ) → All (IsIn end_part) (entries_findings n at x)
 unfolding entries_findings

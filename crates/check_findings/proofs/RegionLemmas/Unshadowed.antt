@@ -1,47 +1,48 @@
 -- Unshadowed components.
-use Rattle.std.proofs.Common.{◌≡◌, ℕ, zero, suc, ◌+◌, Bool, true, false, cond, List, [], ◌∷◌, ◌++◌, length, Some, Option, Contains, refl, sym, subst, ◌∙◌, arith}
+use Rattle.std.proofs.Common.{◌≡◌, ℕ, zero, suc, ◌+◌, ◌==◌, Bool, true, false, cond, List, [], ◌∷◌, ◌++◌, length, Some, Option, Contains, refl, sym, subst, ◌∙◌, arith}
 use Rattle.std.specs.Cmp.Lexicographic.{nat_list_eq_equiv}
+use Rattle.std.specs.List.{list_any}
 use Rattle.std.specs.Str.{bytes_eq}
 use Rattle.std.proofs.lemmas.Bool.{false_from_ne_true, or_parts}
 use Rattle.std.proofs.lemmas.Slice.Eq.{bytes_eq-Decides}
-use Rattle.std.proofs.lemmas.List.Elements.{Contains-append_left, Contains-append_right}
+use Rattle.std.proofs.lemmas.List.Elements.{Contains-append_right}
 use Rattle.flash_format.specs.Head.{head_of, is_free}
 use Rattle.flash_format.specs.Cut.{cut}
-use Rattle.flash_format.specs.Components.{Component, component_at, components_from, cell_name}
+use Rattle.flash_format.specs.Components.{Component, component_at, components_from}
 use Rattle.cbfs_walk.specs.Finding.{component_in, first_named}
 use Rattle.cbfs_walk.specs.Shapes.{refused_or}
 use Rattle.cbfs_walk.specs.Shaped.{place_after}
 use Rattle.cbfs_walk.specs.declared.walk.WalkFault.{WalkFault}
 use Rattle.check_findings.specs.Region.Laws.{UnshadowedAreFound}
-use Rattle.check_findings.specs.Region.Names.{is_among}
-use Rattle.check_findings.specs.Region.RegionFindings.{free_findings, component_finding, cells_findings, counts_of, end_findings, shape_findings, region_findings}
+use Rattle.check_findings.specs.Region.RegionFindings.{all_marked, component_finding, cells_findings, counts_of, end_findings, is_named, shape_findings, region_findings, walk_findings}
 use Rattle.check_findings.specs.declared.region.finding.RegionFinding.{RegionFinding}
+use Rattle.check_findings.specs.declared.region.finding.RegionFinding.TheVariants.{Deleted}
 
 module _ (c : Component) where
   -- the component isn't reported as shadowed
   abbrev Quiet : List RegionFinding → Type 0
   Quiet findings = Contains findings (component_finding true c) → ⊥
 
-  -- the component's name is new after these names, and the component is the first of its name
-  IsFirst : List (List ℕ) → List Component → Type 0
-  IsFirst names all = (is_among c.name names ≡ false) × (first_named c.name all ≡ Some c)
+  -- no earlier component has the name, and the component is the first of its name
+  IsFirst : List RegionFinding → List Component → Type 0
+  IsFirst earlier all = (list_any (is_named c.name) earlier ≡ false) × (first_named c.name all ≡ Some c)
 
-  first_here : (names : List (List ℕ)) (others : List Component) (more : List RegionFinding) → Quiet (component_finding (is_among c.name names) c ∷ more) → IsFirst names (c ∷ others)
+  first_here : (earlier : List RegionFinding) (others : List Component) (more : List RegionFinding) → Quiet (component_finding (list_any (is_named c.name) earlier) c ∷ more) → IsFirst earlier (c ∷ others)
   unfolding IsFirst
-  first_here names others more quiet =
-      let new : is_among c.name names ≡ false = false_from_ne_true _ (λ known. (rw known at quiet) (0, omega arith, refl)) in
+  first_here earlier others more quiet =
+      let new : list_any (is_named c.name) earlier ≡ false = false_from_ne_true _ (λ known. (rw known at quiet) (0, omega arith, refl)) in
       (new, rw ((bytes_eq-Decides c.name c.name).1 refl) refl)
 
-  first_later : (names : List (List ℕ)) (d : Component) (others : List Component) → IsFirst (d.name ∷ names) others → IsFirst names (d ∷ others)
+  first_later : (earlier : List RegionFinding) (d : Component) (others : List Component) → IsFirst (component_finding false d ∷ earlier) others → IsFirst earlier (d ∷ others)
   unfolding IsFirst
-  first_later names d others first =
-      let parts = or_parts (bytes_eq c.name d.name) (is_among c.name names) first.0 in
+  first_later earlier d others first =
+      let parts = or_parts (bytes_eq c.name d.name) (list_any (is_named c.name) earlier) first.0 in
       (parts.1, rw (nat_list_eq_equiv.symm d.name c.name ∙ parts.0) first.1)
 
-  unshadowed : (names : List (List ℕ)) (at : ℕ) (cells : List (List ℕ)) → Contains (components_from at cells) c → Quiet (cells_findings names at cells) → IsFirst names (components_from at cells)
-  unfolding components_from cells_findings
-  unshadowed names at [] has quiet = absurd (omega (arith, has.1))
-  unshadowed names at (x ∷ cells) has quiet = go (is_free (head_of x)) has quiet (λ ns. unshadowed ns (at + length x) cells)
+  unshadowed : (earlier last : List RegionFinding) (at : ℕ) (cells : List (List ℕ)) → Contains (components_from at cells) c → Quiet (all_marked earlier (cells_findings at cells ++ last)) → IsFirst earlier (components_from at cells)
+  unfolding components_from cells_findings all_marked IsFirst
+  unshadowed earlier last at [] has quiet = absurd (omega (arith, has.1))
+  unshadowed earlier last at (x ∷ cells) has quiet = go (is_free (head_of x)) ((head_of x).kind == 0) has quiet (λ before. unshadowed before last (at + length x) cells)
     where
       d : Component
       d = component_at at x
@@ -49,21 +50,25 @@ module _ (c : Component) where
       others : List Component
       others = components_from (at + length x) cells
 
-      rest : List (List ℕ) → List RegionFinding
-      rest ns = cells_findings ns (at + length x) cells
+      rest : List RegionFinding
+      rest = cells_findings (at + length x) cells
 
-      go : (free : Bool) → Contains (cond free others (d ∷ others)) c → Quiet (cond free (free_findings at (head_of x)) (component_finding (is_among (cell_name x) names) d ∷ []) ++ rest (cond free names (cell_name x ∷ names)))
-          → ((ns : List (List ℕ)) → Contains others c → Quiet (rest ns) → IsFirst ns others) → IsFirst names (cond free others (d ∷ others))
-      go true has quiet known = known names has (λ there. quiet (Contains-append_right (free_findings at (head_of x)) (rest names) _ there))
-      go false (zero, lt, is) quiet known = subst (λ (e : Component). Quiet (component_finding (is_among e.name names) e ∷ rest (e.name ∷ names)) → IsFirst names (e ∷ others)) (sym is) (first_here names others (rest (c.name ∷ names))) quiet
-      go false (suc k, lt, is) quiet known =
-          first_later names d others (known (d.name ∷ names) (k, omega (arith, lt), is) (λ there. quiet (Contains-append_right (component_finding (is_among d.name names) d ∷ []) (rest (d.name ∷ names)) _ there)))
+      go : (free deleted : Bool) → Contains (cond free others (d ∷ others)) c → Quiet (all_marked earlier ((cond free (cond deleted (Deleted at ∷ []) []) (component_finding false d ∷ []) ++ rest) ++ last))
+          → ((before : List RegionFinding) → Contains others c → Quiet (all_marked before (rest ++ last)) → IsFirst before others) → IsFirst earlier (cond free others (d ∷ others))
+      go true false has quiet known = known earlier has quiet
+      go true true has quiet known = known (Deleted at ∷ earlier) has (λ there. quiet (Contains-append_right (Deleted at ∷ []) (all_marked (Deleted at ∷ earlier) (rest ++ last)) _ there))
+      go false deleted (zero, lt, is) quiet known =
+          subst (λ (e : Component). Quiet (component_finding (list_any (is_named e.name) earlier) e ∷ all_marked (component_finding false e ∷ earlier) (rest ++ last)) → IsFirst earlier (e ∷ others)) (sym is) (first_here earlier others _) quiet
+      go false deleted (suc k, lt, is) quiet known =
+          let here = component_finding false d in
+          first_later earlier d others (known (here ∷ earlier) (k, omega (arith, lt), is)
+          (λ there. quiet (Contains-append_right (component_finding (list_any (is_named d.name) earlier) d ∷ []) (all_marked (here ∷ earlier) (rest ++ last)) _ there)))
 
 pub unshadowed_found : UnshadowedAreFound
-unfolding region_findings component_in IsFirst
+unfolding region_findings walk_findings component_in IsFirst
 unshadowed_found x c good listed none =
     let last = end_findings x (place_after 0 (cut x).cells) (cut x).end ++ counts_of (length x) (cut x).cells in
-    let all = cells_findings [] 0 (cut x).cells in
-    let first = unshadowed c [] 0 (cut x).cells listed
-    (λ there. none (subst (λ (o : Option WalkFault). Contains (refused_or shape_findings o (all ++ last)) (component_finding true c)) (sym good) (Contains-append_left all last _ there))) in
+    let all = cells_findings 0 (cut x).cells ++ last in
+    let first = unshadowed c [] last 0 (cut x).cells listed
+    (λ there. none (subst (λ (o : Option WalkFault). Contains (all_marked [] (refused_or shape_findings o all)) (component_finding true c)) (sym good) there)) in
     rw (good, first.1) refl

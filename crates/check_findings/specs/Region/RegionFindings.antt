@@ -1,15 +1,16 @@
 -- Findings of a region.
-use Rattle.std.specs.Prelude.{ℕ, zero, suc, ◌+◌, ◌-◌, ◌/◌, not, ◌||◌, Bool, List, [], ◌∷◌, ◌++◌}
-use Rattle.std.specs.Prelude.{drop, length, nat_le, slice_range, is_some, ◌==◌, if◌then◌else◌}
-use Rattle.std.specs.Prelude.{Option, Some, None}
-use Rattle.std.specs.List.{position_from}
+use Rattle.std.specs.Prelude.{ℕ, zero, suc, ◌+◌, ◌-◌, ◌/◌, Bool, false, not, ◌||◌}
+use Rattle.std.specs.Prelude.{List, [], ◌∷◌, ◌++◌, drop, length, slice_range}
+use Rattle.std.specs.Prelude.{nat_le, is_some, ◌==◌, if◌then◌else◌, Option, Some, None}
+use Rattle.std.specs.List.{list_any, position_from}
+use Rattle.std.specs.Str.{bytes_eq}
 use Rattle.flash_format.specs.declared.head.Head.{Head}
 use Rattle.flash_format.specs.Head.{head_of, is_free}
 use Rattle.flash_format.specs.Made.{algorithm}
 use Rattle.flash_format.specs.Entry.{front}
 use Rattle.flash_format.specs.Cut.{End, complete, tail, damage, cut}
 use Rattle.flash_format.specs.Components.{Component, component_at, components_from}
-use Rattle.flash_format.specs.Components.{cell_name, packing}
+use Rattle.flash_format.specs.Components.{packing}
 use Rattle.cbfs_walk.specs.Hashes.{hash_state}
 use Rattle.cbfs_walk.specs.declared.hashes.HashState.{HashState}
 use Rattle.cbfs_walk.specs.declared.hashes.HashState.TheVariants as states
@@ -18,7 +19,6 @@ use Rattle.cbfs_walk.specs.Shaped.{place_after}
 use Rattle.cbfs_walk.specs.declared.walk.WalkFault.{WalkFault}
 use Rattle.cbfs_walk.specs.declared.walk.WalkFault.TheVariants as walk
 use Rattle.check_findings.specs.Region.Counts.{free_bytes, largest_room}
-use Rattle.check_findings.specs.Region.Names.{is_among}
 use Rattle.check_findings.specs.declared.region.finding.Content.{Content}
 use Rattle.check_findings.specs.declared.region.finding.HashFinding.{HashFinding}
 use Rattle.check_findings.specs.declared.region.finding.HashFinding.TheVariants as hashes
@@ -35,8 +35,8 @@ hash_finding states.Unsupported = hashes.Unsupported
 abbrev pub content_of : ℕ → Head → ℕ → HashState → Content
 content_of at h compression state =
     record {
-      kind = h.kind;
       start = at + h.offset;
+      kind = h.kind;
       len = h.len;
       compression = compression;
       hash = hash_finding state;
@@ -53,20 +53,16 @@ component_finding shadowed c = findings.Component c.at c.name shadowed (componen
 abbrev pub free_findings : ℕ → Head → List RegionFinding
 free_findings at h = if h.kind == 0 then findings.Deleted at ∷ [] else []
 
--- of an entry, after these names
-abbrev pub cell_findings : List (List ℕ) → ℕ → List ℕ → List RegionFinding
-cell_findings names at x =
+-- of an entry
+abbrev pub cell_findings : ℕ → List ℕ → List RegionFinding
+cell_findings at x =
     if is_free (head_of x) then free_findings at (head_of x)
-    else component_finding (is_among (cell_name x) names) (component_at at x) ∷ []
-
-abbrev pub names_after : List (List ℕ) → List ℕ → List (List ℕ)
-names_after names x = if is_free (head_of x) then names else cell_name x ∷ names
+    else component_finding false (component_at at x) ∷ []
 
 -- of entries from this offset on
-unfoldable pub cells_findings : List (List ℕ) → ℕ → List (List ℕ) → List RegionFinding
-cells_findings names at [] = []
-cells_findings names at (x ∷ cells) =
-    cell_findings names at x ++ cells_findings (names_after names x) (at + length x) cells
+unfoldable pub cells_findings : ℕ → List (List ℕ) → List RegionFinding
+cells_findings at [] = []
+cells_findings at (x ∷ cells) = cell_findings at x ++ cells_findings (at + length x) cells
 
 -- ---- the end of the entries
 
@@ -130,9 +126,30 @@ counts_of size cells =
     (largest_room size 0 0 cells)
 
 -- a bad shape alone, or the findings of the entries, of their end, and of the counts
-unfoldable pub region_findings : List ℕ → List RegionFinding
-region_findings x =
+unfoldable pub walk_findings : List ℕ → List RegionFinding
+walk_findings x =
     refused_or shape_findings (shape_fault x)
-    (cells_findings [] 0 (cut x).cells
+    (cells_findings 0 (cut x).cells
     ++ (end_findings x (place_after 0 (cut x).cells) (cut x).end
     ++ counts_of (length x) (cut x).cells))
+
+-- ---- shadowed components
+
+abbrev pub is_named : List ℕ → RegionFinding → Bool
+is_named name (findings.Component at other shadowed content) = bytes_eq name other
+is_named name _ = false
+
+-- a component is shadowed if an earlier component has its name
+abbrev pub marked : List RegionFinding → RegionFinding → RegionFinding
+marked earlier (findings.Component at name shadowed content) =
+    findings.Component at name (shadowed || list_any (is_named name) earlier) content
+marked earlier other = other
+
+unfoldable pub all_marked : List RegionFinding → List RegionFinding → List RegionFinding
+all_marked earlier [] = []
+all_marked earlier (finding ∷ others) =
+    marked earlier finding ∷ all_marked (finding ∷ earlier) others
+
+-- of the walk, with marks
+unfoldable pub region_findings : List ℕ → List RegionFinding
+region_findings x = all_marked [] (walk_findings x)

@@ -64,12 +64,12 @@ impl HashFinding {
     }
 }
 
-/// The type, range, compression and digest of a component's content.
+/// The range, type, compression and digest of a component's content.
 #[derive(Clone, Copy)]
 pub struct Content {
-    pub kind: u32,
     /// The content's offset in the region.
     pub start: u64,
+    pub kind: u32,
     pub len: u32,
     /// The first compression attribute, or 0 without one.
     pub compression: u32,

@@ -4,7 +4,7 @@ mod check;
 mod count;
 mod finding;
 mod laws;
-mod report;
+mod shadows;
 mod start;
 mod tail;
 

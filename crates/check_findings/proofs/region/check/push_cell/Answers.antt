@@ -11,22 +11,25 @@ use Rattle.check_findings.proofs.region.check.push_cell.Goals as goal
 pub returns-in_err-state-clause-after : goal.returns-in_err-state-clause-after
 returns-in_err-state-clause-after g c = search rules
 
-pub returns-in_err-push_component-clause-after : goal.returns-in_err-push_component-clause-after
-returns-in_err-push_component-clause-after g c = search rules
+pub returns-in_err-copied-clause-after : goal.returns-in_err-copied-clause-after
+returns-in_err-copied-clause-after g c = search rules
+
+pub returns-in_err-push-clause-after : goal.returns-in_err-push-clause-after
+returns-in_err-push-clause-after g c = search rules
 
 pub returns-clause-after : goal.returns-clause-after
 returns-clause-after g c = search rules
 
 pub returns-then-is_free-clause-found : goal.returns-then-is_free-clause-found
-returns-then-is_free-clause-found g c = λ h stands. λ names has.
+returns-then-is_free-clause-found g c = λ h stands.
     let r = c.args.region in
     let cell = c.args.cell.now in
     let image = (g.F.Flash.facts c.args.paged.now.device).content in
     let known = c.cells_stand_in_their_image.ensures r image cell c.requires.region.inside c.requires.cell stands in
-    rw (known.head, sym c.is_free.ensures ∙ c.if-is_free.true) (c.in_ok-push_if.ensures, has)
+    rw (known.head, sym c.is_free.ensures ∙ c.if-is_free.true) c.in_ok-push_if.ensures
 
 pub returns-clause-found : goal.returns-clause-found
-returns-clause-found g c = λ h stands. λ names has.
+returns-clause-found g c = λ h stands.
     let r = c.args.region in
     let cell = c.args.cell.now in
     let image = (g.F.Flash.facts c.args.paged.now.device).content in
@@ -43,5 +46,5 @@ returns-clause-found g c = λ h stands. λ names has.
     let stays = subst (λ (l : List ℕ). StandsIn (bytes_in r l) cell) (sym after) stands in
     let state = subst (λ (l : List ℕ). c.in_ok-state.state ≡ hash_state (cell_attributes (cell_in (bytes_in r l) cell)) (cell_content (cell_in (bytes_in r l) cell))) after
     (c.in_ok-state.ensures.state (honest_still packed.calls.same_honesty still) stays) in
-    component_gained c.args.report.now c.push_component.new.self cell.at x _ cell.head c.in_ok-compression.compression _ names (sym c.if-is_free.ensures) (named.name h stands) known.head compressed state
-    (rw (c.from.ensures, c.of.ensures) at (c.in_ok-push_component.ensures names has))
+    component_gained c.args.findings.now.items c.push.new.self.items cell.at x _ cell.head c.in_ok-compression.compression _ (sym c.if-is_free.ensures) (named.name h stands) known.head compressed state
+    (rw (c.in_ok-copied.ensures, c.from.ensures, c.of.ensures) at c.in_ok-push.ensures.items)

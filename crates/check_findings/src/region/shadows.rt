@@ -1,0 +1,49 @@
+//! Components with the name of an earlier component.
+ghost use Rattle.std.specs.Prelude.{◌≡◌, [], IfOk, OnOk};
+ghost use Rattle.std.specs.List.{fold};
+ghost use Rattle.check_findings.specs.Region.RegionFindings.{all_marked};
+ghost use Rattle.check_findings.specs.Region.Reports.{mark_at};
+
+use crate::lists::{Pushed, push_if};
+use crate::region::finding::RegionFinding;
+use std::alloc::{AllocError, Global};
+use std::collections::HashSet;
+use std::hash::RandomState;
+
+/// Names, hashed with random keys, since an image's author chooses names.
+type Names<'a> = HashSet<&'a [u8], RandomState>;
+
+/// Returns their indices.
+fn shadowed(
+    alloc: Global,
+    keys: RandomState,
+    findings: &[RegionFinding],
+) -> Result<Vec<usize>, AllocError>
+    ensures { IfOk result (λ indices.
+        fold mark_at findings.now indices.items ≡ all_marked [] findings.now) }
+{
+    let mut names: Names = HashSet::with_capacity_and_hasher(alloc, findings.len(), keys)?;
+    let mut indices = Vec::new(alloc);
+    for i in 0..findings.len() {
+        if let RegionFinding::Component { name, .. } = &findings[i] {
+            let is_new = names.insert(name.as_slice())?;
+            push_if(&mut indices, !is_new, i)?;
+        }
+    }
+    Ok(indices)
+}
+
+/// Marks them.
+pub fn mark_shadowed(alloc: Global, keys: RandomState, findings: &mut Vec<RegionFinding>) -> Pushed
+    ensures { OnOk result (findings.new.items ≡ all_marked [] findings.old.items) }
+{
+    let indices = shadowed(alloc, keys, findings.as_slice())?;
+    for i in &indices {
+        if *i < findings.len() {
+            if let RegionFinding::Component { is_shadowed, .. } = &mut findings[*i] {
+                *is_shadowed = true;
+            }
+        }
+    }
+    Ok(())
+}
