@@ -18,7 +18,7 @@ use Rattle.check_report.specs.declared.rows.kinds.Counts.{Counts}
 use Rattle.check_report.specs.declared.rows.form.Form.{Form}
 use Rattle.check_report.specs.declared.rows.form.Form.TheVariants as forms
 use Rattle.check_report.specs.Rows.Fields.{Line, SeenField, array_value, line_json, line_text, members}
-use Rattle.check_report.specs.Rows.Reports.{begin_tokens, count_fields, document, ending, file_fields, follows_after, heading, list_fields, member_tokens, objects, parts, report_with}
+use Rattle.check_report.specs.Rows.Reports.{begin_tokens, count_fields, document, ending, file_fields, follows_after, heading, lines_field, member_tokens, parts, report_with}
 use Rattle.check_report.proofs.RowLemmas.Tokens.{fields_tokens, object_tokens}
 
 -- a value just ended after these tokens
@@ -57,15 +57,18 @@ no_parts forms.Text b = refl
 no_parts forms.Json b = refl
 
 -- an object after a value
-pub line_after : (b : Bool) (line : Line) → (if b then codes "," else []) ++ print (json_tokens (line_json line)) ≡ objects b (line_json line ∷ [])
+pub line_after : (b : Bool) (line : Line) → (if b then codes "," else []) ++ print (json_tokens (line_json line)) ≡ parts forms.Json b (line ∷ [])
 unfolding print_from
 line_after true line = ap (λ ts. print_from true ts) (sym (append-nil (json_tokens (line_json line))))
 line_after false line = ap (λ ts. print_from false ts) (sym (append-nil (json_tokens (line_json line))))
 
 -- ---- the parts make the report
 
+abbrev first_fields : Files → Option (List Line) → List SeenField
+first_fields files list = file_fields files ++ option_map_or (λ lines. lines_field (codes "components") lines ∷ []) list []
+
 abbrev opening_tokens : Files → Option (List Line) → List Token
-opening_tokens files list = (begin_object ∷ flat_map member_tokens (file_fields files ++ list_fields list)) ++ begin_tokens (codes "rows")
+opening_tokens files list = (begin_object ∷ flat_map member_tokens (first_fields files list)) ++ begin_tokens (codes "rows")
 
 begun : (ts : List Token) (name : List ℕ) → ended false (ts ++ begin_tokens name) ≡ false
 begun ts name = fold-append (λ _ t. ends t) false ts (begin_tokens name)
@@ -105,7 +108,7 @@ whole forms.Text files list rows counts =
     ap (λ l. l ++ (parts forms.Text false rows ++ ending forms.Text counts)) (opening_lines files list)
     ∙ sym (append_assoc (option_map_or (flat_map line_text) list []) (flat_map line_text rows) (ending forms.Text counts))
 whole forms.Json files list rows counts =
-    let first : List SeenField = file_fields files ++ list_fields list in
+    let first : List SeenField = first_fields files list in
     let last : List SeenField = count_fields counts in
     let start : List Token = begin_object ∷ flat_map member_tokens first in
     let rest : List Token = flat_map member_tokens last ++ end_object ∷ [] in

@@ -26,6 +26,7 @@ use Rattle.check_findings.specs.declared.image.needs.NeedFinding.TheVariants.{Mi
 use Rattle.check_findings.specs.Image.Verdicts.{is_bad_hash, is_bad_map}
 use Rattle.check_report.specs.declared.request.Asked.{Asked}
 use Rattle.check_report.specs.Names.{Names}
+use Rattle.check_report.specs.Rows.Fields.{dash, name_value}
 use Rattle.check_report.specs.declared.rows.row.Verdict.{Verdict}
 use Rattle.check_report.specs.declared.rows.row.Verdict.TheVariants.{Bad, Remark}
 use Rattle.check_report.specs.Rows.Rows.{SeenRow, area_name, in_area, of_area, of_component, row}
@@ -134,7 +135,8 @@ region_rows asked region finding = option_map_or (λ row. in_area region row ∷
 
 -- the row of a name without an area
 abbrev pub missing_row : Option (List ℕ) → SeenRow
-missing_row name = record (row Bad "no-area" "no such area") { area = name }
+missing_row name =
+    record (row Bad "no-area" "no such area") { area = option_map_or name_value name dash }
 
 -- bad if its name is expected
 abbrev pub not_checked_row : NumberedArea → Bool → SeenRow

@@ -19,9 +19,10 @@ use flash_map::NumberedArea;
 pub fn missing_row<'a>(name: Option<&'a [u8]>) -> Row<'a>
     ensures { seen_row result ≡ of.missing_row (option_copied name.entry) }
 {
-    Row {
-        area: name,
-        ..Verdict::Bad.row("no-area", "no such area")
+    let row = Verdict::Bad.row("no-area", "no such area");
+    match name {
+        Some(name) => row.in_area(name),
+        None => row,
     }
 }
 
@@ -40,11 +41,11 @@ fn not_checked_row<'a>(area: &'a NumberedArea, is_named: bool) -> Row<'a>
 }
 
 /// Adds the rows of findings in order. `names` are the given area names.
-pub fn add_findings<'a, W: Sink + Drop>(
-    rows: &mut RowWriter<'a, W>,
+pub fn add_findings<W: Sink + Drop>(
+    rows: &mut RowWriter<W>,
     asked: Asked,
-    findings: &'a [ImageFinding],
-    names: &[&'a [u8]],
+    findings: &[ImageFinding],
+    names: &[&[u8]],
 ) -> Result<(), WriteFault>
     ensures { Adds W.contents W.faults result rows.old rows.new
         (of.finding_rows asked (names_in names.now) findings.now) }

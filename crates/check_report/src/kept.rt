@@ -42,9 +42,9 @@ fn is_missing(old_areas: &[NumberedArea], new_areas: &[NumberedArea], name: &[u8
 }
 
 /// Adds a row for each kept name that neither image has.
-pub fn add_missing<'a, W: Sink + Drop>(
-    rows: &mut RowWriter<'a, W>,
-    kept: &[&'a [u8]],
+pub fn add_missing<W: Sink + Drop>(
+    rows: &mut RowWriter<W>,
+    kept: &[&[u8]],
     old_areas: &[NumberedArea],
     new_areas: &[NumberedArea],
 ) -> Result<(), WriteFault>

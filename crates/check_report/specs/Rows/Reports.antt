@@ -35,12 +35,9 @@ count_fields counts =
 abbrev pub lines_field : List ℕ → List Line → SeenField
 lines_field name lines = (name, array_value (map line_json lines))
 
-abbrev pub list_fields : Option (List Line) → List SeenField
-list_fields None = []
-list_fields (Some lines) = lines_field (codes "components") lines ∷ []
-
 unfoldable pub document : Files → Option (List Line) → List Line → Counts → Json
-document files list rows counts = object_of (file_fields files ++ list_fields list
+document files list rows counts = object_of (file_fields files
+    ++ option_map_or (λ lines. lines_field (codes "components") lines ∷ []) list []
     ++ lines_field (codes "rows") rows ∷ count_fields counts)
 
 -- the text of a list, rows and counts
@@ -71,13 +68,10 @@ starting forms.Text files name = []
 starting forms.Json files name = print (begin_object ∷ flat_map member_tokens (file_fields files)
     ++ begin_tokens name)
 
-abbrev pub objects : Bool → List Json → List ℕ
-objects follows js = print_from follows (flat_map json_tokens js)
-
 -- the parts of lines
 abbrev pub parts : Form → Bool → List Line → List ℕ
 parts forms.Text follows lines = flat_map line_text lines
-parts forms.Json follows lines = objects follows (map line_json lines)
+parts forms.Json follows lines = print_from follows (flat_map json_tokens (map line_json lines))
 
 -- the next line follows another line
 abbrev pub follows_after : Bool → List Line → Bool
