@@ -32,15 +32,11 @@ ended_members b (member k j ms) = fold-append (λ _ t. ends t) false (json_token
 abbrev lines_tokens : List Line → List Token
 lines_tokens lines = flat_map json_tokens (map line_json lines)
 
-follows_true : (lines : List Line) → follows_after true lines ≡ true
-follows_true [] = refl
-follows_true (line ∷ lines) = refl
-
 -- the flag after lines
 ended_lines : (b : Bool) (lines : List Line) → ended b (lines_tokens lines) ≡ follows_after b lines
 ended_lines b [] = refl
 ended_lines b (line ∷ lines) = fold-append (λ _ t. ends t) b (json_tokens (line_json line)) (lines_tokens lines)
-    ∙ ap (λ c. ended c (lines_tokens lines)) (ended_members false (members line.fields)) ∙ ended_lines true lines ∙ follows_true lines
+    ∙ ap (λ c. ended c (lines_tokens lines)) (ended_members false (members line.fields)) ∙ ended_lines true lines
 
 -- lines after lines
 pub parts_append : (form : Form) (b : Bool) (xs ys : List Line) → parts form b (xs ++ ys) ≡ parts form b xs ++ parts form (follows_after b xs) ys

@@ -87,22 +87,12 @@ report_text contents faults (Ok b) first begun made last verbose files list rows
 
 -- ---- rows after rows
 
-pub adds_after : {W : Type 0} (contents : W → Option (List ℕ)) (faults : W → ℕ) (result : Result (Unit {0}) WriteFault) (old mid new : RowWriter W) (xs ys : List SeenRow)
+pub adds_after : {W : Type 0} {contents : W → Option (List ℕ)} {faults : W → ℕ} {result : Result (Unit {0}) WriteFault} {old mid new : RowWriter W} {xs ys : List SeenRow}
     → Adds contents faults (Ok tt) old mid xs → Adds contents faults result mid new ys → Adds contents faults result old new (xs ++ ys)
-adds_after contents faults (Err e) old mid new xs ys a b = record { added = tt; cause = omega (arith, a.cause, b.cause) }
-adds_after contents faults (Ok u) old mid new xs ys a b = record {
-  added = λ start v rows (s : IsSound contents start v rows old). rw append_assoc at (b.added start v (rows ++ xs) (a.added start v rows s));
-  cause = omega (arith, a.cause, b.cause);
-}
+adds_after {result = Err e} a b = record { added = tt; cause = omega (arith, a.cause, b.cause) }
+adds_after {result = Ok u} a b = record { added = λ start v rows s. rw append_assoc at (b.added start v _ (a.added start v rows s)); cause = omega (arith, a.cause, b.cause) }
 
-pub adds_both : {W : Type 0} {contents : W → Option (List ℕ)} {faults : W → ℕ} {old mid new : RowWriter W} {xs ys : List SeenRow}
-    → Adds contents faults (Ok tt) old mid xs → Adds contents faults (Ok tt) mid new ys → Adds contents faults (Ok tt) old new (xs ++ ys)
-adds_both {W} {contents} {faults} {old} {mid} {new} {xs} {ys} a b = adds_after contents faults (Ok tt) old mid new xs ys a b
-
-pub ends_after : {W : Type 0} (contents : W → Option (List ℕ)) (faults : W → ℕ) (result : Result Bool WriteFault) (old mid new : RowWriter W) (xs : List SeenRow)
+pub ends_after : {W : Type 0} {contents : W → Option (List ℕ)} {faults : W → ℕ} {result : Result Bool WriteFault} {old mid new : RowWriter W} {xs : List SeenRow}
     → Adds contents faults (Ok tt) old mid xs → Ends contents faults result mid new [] → Ends contents faults result old new xs
-ends_after contents faults (Err e) old mid new xs a b = record { ended = tt; cause = omega (arith, a.cause, b.cause) }
-ends_after contents faults (Ok is_bad) old mid new xs a b = record {
-  ended = λ start v rows (s : IsSound contents start v rows old). rw (append-nil (rows ++ xs)) at (b.ended start v (rows ++ xs) (a.added start v rows s));
-  cause = omega (arith, a.cause, b.cause);
-}
+ends_after {result = Err e} a b = record { ended = tt; cause = omega (arith, a.cause, b.cause) }
+ends_after {result = Ok is_bad} {xs} a b = record { ended = λ start v rows s. rw (append-nil (rows ++ xs)) at (b.ended start v _ (a.added start v rows s)); cause = omega (arith, a.cause, b.cause) }

@@ -1,7 +1,7 @@
 //! Rows of an image's findings.
-ghost use Rattle.std.specs.Prelude.{◌≡◌, slice_get};
-ghost use Rattle.std.specs.Option.{option_copied};
+ghost use Rattle.std.specs.Prelude.{◌≡◌};
 ghost use Rattle.check_report.specs.Names.{names_in};
+ghost use Rattle.check_report.specs.Rows.Fields.{seen_value};
 ghost use Rattle.check_report.specs.Rows.Rows.{seen_row};
 ghost use Rattle.check_report.specs.Rows.Writing.{Adds};
 ghost use Rattle.check_report.specs.FindingRows as of;
@@ -10,26 +10,27 @@ use crate::fault::WriteFault;
 use crate::map::{finding_verdict, map_row};
 use crate::region::add_region;
 use crate::request::Asked;
-use crate::rows::{Row, RowWriter, Verdict};
+use crate::rows::{Row, RowWriter, Value, Verdict};
 use check_findings::ImageFinding;
 use flash_device::Sink;
 use flash_map::NumberedArea;
 
 /// Returns the row of a name without an area.
-pub fn missing_row<'a>(name: Option<&'a [u8]>) -> Row<'a>
-    ensures { seen_row result ≡ of.missing_row (option_copied name.entry) }
+pub fn missing_row(area: Value<'_>) -> Row<'_>
+    ensures { seen_row result ≡ of.missing_row (seen_value area.entry) }
 {
-    let row = Verdict::Bad.row("no-area", "no such area");
-    match name {
-        Some(name) => row.in_area(name),
-        None => row,
-    }
+    let mut row = Verdict::Bad.row("no-area", "no such area");
+    row.area = area;
+    row
 }
 
-fn name_at<'a>(names: &[&'a [u8]], number: usize) -> Option<&'a [u8]>
-    ensures { option_copied result ≡ slice_get (names_in names.now) number }
+fn name_at<'a>(names: &[&'a [u8]], number: usize) -> Value<'a>
+    ensures { seen_value result ≡ of.name_at (names_in names.now) number }
 {
-    names.get(number).copied()
+    match names.get(number) {
+        Some(name) => Value::Name(name),
+        None => Value::Dash,
+    }
 }
 
 fn not_checked_row<'a>(area: &'a NumberedArea, is_named: bool) -> Row<'a>

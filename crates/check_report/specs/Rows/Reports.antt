@@ -1,6 +1,6 @@
 -- A report: a list of components on request, rows, and counts. JSON is one document (RFC 8259).
 use Rattle.std.specs.Prelude.{ℕ, Bool, true, false, List, [], ◌∷◌, ◌++◌, Option, Some, None, map}
-use Rattle.std.specs.Prelude.{if◌then◌else◌}
+use Rattle.std.specs.Prelude.{fold, if◌then◌else◌}
 use Rattle.std.specs.List.{flat_map}
 use Rattle.std.specs.Option.{option_copied, option_map_or}
 use lib.Chars.{codes}
@@ -73,10 +73,9 @@ abbrev pub parts : Form → Bool → List Line → List ℕ
 parts forms.Text follows lines = flat_map line_text lines
 parts forms.Json follows lines = print_from follows (flat_map json_tokens (map line_json lines))
 
--- the next line follows another line
+-- after a line, the next line follows another line
 abbrev pub follows_after : Bool → List Line → Bool
-follows_after follows [] = follows
-follows_after follows (line ∷ lines) = true
+follows_after follows lines = fold (λ _ _. true) follows lines
 
 -- the part between components and rows
 abbrev pub between : Form → List ℕ

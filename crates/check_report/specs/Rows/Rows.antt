@@ -70,8 +70,7 @@ abbrev pub of_area : NumberedArea → SeenRow → SeenRow
 of_area a row = row_at a.area.offset (in_area (area_name a) row)
 
 abbrev pub of_component : List ℕ → List ℕ → SeenRow → SeenRow
-of_component area name row =
-    record row { area = name_value area; component = name_value name }
+of_component area name row = in_area area (record row { component = name_value name })
 
 abbrev pub with_count : ℕ → SeenRow → SeenRow
 with_count n row = record row { detail = count_value n }
