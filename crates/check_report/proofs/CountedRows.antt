@@ -31,10 +31,9 @@ like_back : (r s : SeenRow) → is_like r s ≡ is_like s r
 like_back r s = go (is_like r s) (is_like s r) refl refl
   where
     go : (b c : Bool) → is_like r s ≡ b → is_like s r ≡ c → b ≡ c
-    go true true f g = refl
-    go false false f g = refl
     go true false f g = sym (like_itself r) ∙ alike (kind_of r) s r f ∙ g
     go false true f g = sym f ∙ sym (alike (kind_of s) r s g) ∙ like_itself s
+    go _ _ f g = refl
 
 one_more : (ks : List SeenKind) (r row : SeenRow) → count_in (counted ks r) row ≡ count_in ks row + (if is_like row r then 1 else 0)
 one_more [] r row = ap (λ b. if b then 1 else 0) (like_back r row) ∙ omega arith

@@ -17,7 +17,7 @@ use Rattle.check_report.specs.declared.request.Files.{Files}
 use Rattle.check_report.specs.declared.rows.kinds.Counts.{Counts}
 use Rattle.check_report.specs.declared.rows.form.Form.{Form}
 use Rattle.check_report.specs.declared.rows.form.Form.TheVariants as forms
-use Rattle.check_report.specs.Rows.Fields.{Line, SeenField, array_value, line_json, line_text, members}
+use Rattle.check_report.specs.Rows.Fields.{Line, SeenField, line_json, line_text, members}
 use Rattle.check_report.specs.Rows.Reports.{begin_tokens, count_fields, document, ending, file_fields, follows_after, heading, lines_field, member_tokens, parts, report_with}
 use Rattle.check_report.proofs.RowLemmas.Tokens.{fields_tokens, object_tokens}
 
@@ -91,7 +91,7 @@ opening_text : (files : Files) (list : Option (List Line)) → heading forms.Jso
 opening_text files None = refl
 opening_text files (Some lines) =
     sym (array_text (begin_object ∷ flat_map member_tokens (file_fields files)) (codes "components") lines (begin_tokens (codes "rows")))
-    ∙ sym (ap print (fields_tokens (file_fields files) [] (codes "components") (map line_json lines) (begin_tokens (codes "rows"))))
+    ∙ sym (ap print (fields_tokens (file_fields files) [] (codes "components") lines (begin_tokens (codes "rows"))))
 
 opening_lines : (files : Files) (list : Option (List Line)) → heading forms.Text files list ≡ option_map_or (flat_map line_text) list []
 opening_lines files None = refl
@@ -110,7 +110,7 @@ whole forms.Json files list rows counts =
     let rest : List Token = flat_map member_tokens last ++ end_object ∷ [] in
     let heads : heading forms.Json files list ≡ print (start ++ begin_tokens (codes "rows")) = opening_text files list in
     let tokens : json_tokens (document files list rows counts) ≡ ((start ++ begin_tokens (codes "rows")) ++ lines_tokens rows) ++ (end_array ∷ rest) =
-    object_tokens (first ++ (codes "rows", array_value (map line_json rows)) ∷ last) ∙ fields_tokens first last (codes "rows") (map line_json rows) (end_object ∷ []) in
+    object_tokens (first ++ lines_field (codes "rows") rows ∷ last) ∙ fields_tokens first last (codes "rows") rows (end_object ∷ []) in
     ap (λ l. l ++ (parts forms.Json false rows ++ (print (end_array ∷ rest) ++ line_feed))) heads
     ∙ sym (append_assoc (print (start ++ begin_tokens (codes "rows"))) (parts forms.Json false rows) (print (end_array ∷ rest) ++ line_feed))
     ∙ sym (append_assoc (print (start ++ begin_tokens (codes "rows")) ++ parts forms.Json false rows) (print (end_array ∷ rest)) line_feed)

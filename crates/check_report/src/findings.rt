@@ -7,7 +7,7 @@ ghost use Rattle.check_report.specs.Rows.Writing.{Adds};
 ghost use Rattle.check_report.specs.FindingRows as of;
 
 use crate::fault::WriteFault;
-use crate::map::{finding_verdict, map_row};
+use crate::map::map_row;
 use crate::region::add_region;
 use crate::request::Asked;
 use crate::rows::{Row, RowWriter, Value, Verdict};
@@ -37,7 +37,7 @@ fn not_checked_row<'a>(area: &'a NumberedArea, is_named: bool) -> Row<'a>
     ensures { seen_row result ≡ of.not_checked_row area.now is_named }
 {
     let what = "isn't checked: checked areas would exceed twice the image";
-    let row = finding_verdict(is_named).row("area-not-checked", what);
+    let row = Verdict::of_finding(is_named).row("area-not-checked", what);
     row.of(area)
 }
 

@@ -7,7 +7,6 @@ ghost use Rattle.check_report.specs.Rows.Writing.{Adds};
 ghost use Rattle.check_report.specs.FindingRows as of;
 
 use crate::fault::WriteFault;
-use crate::map::finding_verdict;
 use crate::request::Asked;
 use crate::rows::{Row, RowWriter, Value, Verdict};
 use check_findings::{HashFinding, RegionFinding, is_bad_hash, is_text};
@@ -107,7 +106,7 @@ fn add_component<W: Sink + Drop>(
         untyped,
         kind,
     )?;
-    let verdict = finding_verdict(is_bad_hash(content.hash, asked.needs_hashes));
+    let verdict = Verdict::of_finding(is_bad_hash(content.hash, asked.needs_hashes));
     let is_shown = asked.has_hash_row(content.hash);
     add_row_if(
         rows,

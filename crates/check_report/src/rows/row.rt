@@ -4,6 +4,7 @@ ghost use Rattle.std.specs.Prelude.{◌≡◌, map};
 ghost use Rattle.check_report.specs.Rows.Rows as rows;
 ghost use Rattle.check_report.specs.Rows.Rows.{row_line, seen_row, verdict_word};
 ghost use Rattle.check_report.specs.Rows.Fields.{seen_field};
+ghost use Rattle.check_report.specs.FindingRows.{finding_verdict};
 
 use crate::rows::field::{Field, Value};
 use flash_map::NumberedArea;
@@ -26,6 +27,13 @@ impl Verdict {
             Verdict::Remark => "remark",
             Verdict::Change => "change",
         }
+    }
+
+    /// Returns `Bad` or `Remark`.
+    pub fn of_finding(is_bad: bool) -> Verdict
+        ensures { result ≡ finding_verdict is_bad }
+    {
+        if is_bad { Self::Bad } else { Self::Remark }
     }
 
     /// Returns a row of the whole image.

@@ -11,4 +11,4 @@ returns g c =
     (adds_after c.in_ok-add_row_if.ensures
     (adds_after (rw c.is_text.ensures at c.in_ok-add_row_if-2.ensures)
     (adds_after (rw (kind, c.from.ensures) at c.in_ok-add_row_if-3.ensures)
-    (rw (c.finding_verdict-verdict.ensures, c.is_bad_hash.ensures, c.hash_words.ensures.code, c.hash_words.ensures.text, c.has_hash_row-is_shown.ensures) at c.add_row_if-4.ensures))))
+    (rw (c.of_finding-verdict.ensures, c.is_bad_hash.ensures, c.hash_words.ensures.code, c.hash_words.ensures.text, c.has_hash_row-is_shown.ensures) at c.add_row_if-4.ensures))))
