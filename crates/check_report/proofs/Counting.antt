@@ -7,7 +7,7 @@ use Rattle.std.proofs.Math.Seq.{drop-cons}
 use Rattle.check_report.specs.declared.rows.kinds.Kind.{Kind}
 use Rattle.check_report.specs.declared.rows.kinds.Counts.{Counts}
 use Rattle.check_report.specs.declared.rows.row.Verdict.{Verdict}
-use Rattle.check_report.specs.declared.rows.row.Verdict.TheVariants.{Bad, Remark, Change}
+use Rattle.check_report.specs.declared.rows.row.Verdict.TheVariants.{Bad}
 use Rattle.check_report.specs.Rows.Rows.{SeenRow, is_bad_row, is_verdict, row_if, tallied}
 use Rattle.check_report.specs.Rows.Limits.{SeenKind, count_in, counted, is_of, seen_kind, shown_after}
 

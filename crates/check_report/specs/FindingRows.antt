@@ -30,7 +30,8 @@ use Rattle.check_report.specs.Rows.Fields.{SeenValue, dash, name_value}
 use Rattle.check_report.specs.declared.rows.row.Verdict.{Verdict}
 use Rattle.check_report.specs.declared.rows.row.Verdict.TheVariants.{Bad, Remark}
 use Rattle.check_report.specs.Rows.Rows.{SeenRow, area_name, in_area, of_area, of_component, row}
-use Rattle.check_report.specs.Rows.Rows.{row_at, row_if, row_of, with_count, with_number, with_other}
+use Rattle.check_report.specs.Rows.Rows.{row_at, row_if, row_of, with_count, with_number}
+use Rattle.check_report.specs.Rows.Rows.{with_other}
 
 abbrev pub finding_verdict : Bool → Verdict
 finding_verdict true = Bad
