@@ -29,29 +29,15 @@ bad_rows rows bad each (x ∷ xs) = rw (flat_map-cons rows x xs, list_any-append
 
 bad_map : (f : MapFinding) → list_any is_bad_row (map_row f ∷ []) ≡ is_bad_map f
 bad_map of_map.NoMap = refl
-bad_map (of_map.Map m) = refl
-bad_map (of_map.OtherMap m) = refl
-bad_map of_map.OtherSize = refl
-bad_map (of_map.AreaOutside a) = refl
-bad_map (of_map.AreaEmpty a) = refl
-bad_map (of_map.AreaNameNotText a) = refl
-bad_map (of_map.SameName a first) = refl
-bad_map (of_map.Overlap a other) = refl
-bad_map of_map.TooManyAreas = refl
-bad_map of_map.NoMapArea = refl
-bad_map (of_map.MapAreaMisses a) = refl
+bad_map _ = refl
 
 bad_hash : (asked : Asked) (region : List ℕ) (at : ℕ) (name : List ℕ) (hash : HashFinding) (verbose needs : Bool)
     → let a : Asked = record asked { is_verbose = verbose; needs_hashes = needs } in
     list_any is_bad_row (component_row_if region at name (has_hash_row a hash) (hash_row a hash)) ≡ is_bad_hash needs hash
 bad_hash asked region at name hashes.Missing true true = refl
-bad_hash asked region at name hashes.Missing true false = refl
 bad_hash asked region at name hashes.Missing false true = refl
-bad_hash asked region at name hashes.Missing false false = refl
-bad_hash asked region at name (hashes.Valid algorithm) verbose needs = refl
-bad_hash asked region at name (hashes.Invalid algorithm) verbose needs = refl
 bad_hash asked region at name hashes.Unsupported verbose true = refl
-bad_hash asked region at name hashes.Unsupported verbose false = refl
+bad_hash asked region at name _ _ _ = refl
 
 -- a remark or none before other rows
 no_bad : (b : Bool) (row : SeenRow) (rest : List SeenRow) → is_bad_row row ≡ false → list_any is_bad_row (row_if b row ++ rest) ≡ list_any is_bad_row rest
@@ -67,20 +53,8 @@ bad_component asked region at name false content =
     ∙ bad_hash asked region at name content.hash asked.is_verbose asked.needs_hashes
 
 bad_region : (asked : Asked) (region : List ℕ) (f : RegionFinding) → list_any is_bad_row (region_rows asked region f) ≡ is_bad_region asked.needs_hashes f
-bad_region asked region of_region.BadSize = refl
-bad_region asked region of_region.NotCbfs = refl
 bad_region asked region (of_region.Component at name shadowed content) = bad_component asked region at name shadowed content
-bad_region asked region (of_region.Deleted at) = refl
-bad_region asked region of_region.Complete = refl
-bad_region asked region (of_region.Tail at) = refl
-bad_region asked region (of_region.TailFilled at) = refl
-bad_region asked region (of_region.TailEntry at) = refl
-bad_region asked region (of_region.Damaged at kind) = refl
-bad_region asked region of_region.NoComponents = refl
-bad_region asked region (of_region.Components n) = refl
-bad_region asked region (of_region.FreeBytes n) = refl
-bad_region asked region (of_region.LargestContent n) = refl
-bad_region asked region of_region.NoRoom = refl
+bad_region asked region _ = refl
 
 bad_named : (named : Bool) (a : NumberedArea) → list_any is_bad_row (not_checked_row a named ∷ []) ≡ named
 bad_named true a = refl

@@ -31,10 +31,9 @@ like_back : (r s : SeenRow) → is_like r s ≡ is_like s r
 like_back r s = go (is_like r s) (is_like s r) refl refl
   where
     go : (b c : Bool) → is_like r s ≡ b → is_like s r ≡ c → b ≡ c
-    go true true f g = refl
-    go false false f g = refl
     go true false f g = sym (like_itself r) ∙ alike (kind_of r) s r f ∙ g
     go false true f g = sym f ∙ sym (alike (kind_of s) r s g) ∙ like_itself s
+    go _ _ f g = refl
 
 one_more : (ks : List SeenKind) (r row : SeenRow) → count_in (counted ks r) row ≡ count_in ks row + (if is_like row r then 1 else 0)
 one_more [] r row = ap (λ b. if b then 1 else 0) (like_back r row) ∙ omega arith
@@ -54,20 +53,12 @@ by_kind ks (r ∷ rs) row =
 
 -- ---- by verdict
 
-bad_step : (c : Counts) (v : Verdict) → (tallied c v).bad ≡ c.bad + (if is_verdict Bad v then 1 else 0)
-bad_step c Bad = refl
-bad_step c Remark = omega arith
-bad_step c Change = omega arith
-
-remark_step : (c : Counts) (v : Verdict) → (tallied c v).remarks ≡ c.remarks + (if is_verdict Remark v then 1 else 0)
-remark_step c Bad = omega arith
-remark_step c Remark = refl
-remark_step c Change = omega arith
-
-change_step : (c : Counts) (v : Verdict) → (tallied c v).changes ≡ c.changes + (if is_verdict Change v then 1 else 0)
-change_step c Bad = omega arith
-change_step c Remark = omega arith
-change_step c Change = refl
+steps : (c : Counts) (v : Verdict)
+    → ((tallied c v).bad ≡ c.bad + (if is_verdict Bad v then 1 else 0)) × ((tallied c v).remarks ≡ c.remarks + (if is_verdict Remark v then 1 else 0))
+    × ((tallied c v).changes ≡ c.changes + (if is_verdict Change v then 1 else 0))
+steps c Bad = (refl, omega arith, omega arith)
+steps c Remark = (omega arith, refl, omega arith)
+steps c Change = (omega arith, omega arith, refl)
 
 -- a count that grows by one for some verdicts
 by_verdict : (count : Counts → ℕ) (is : Verdict → Bool) → ((c : Counts) (v : Verdict) → count (tallied c v) ≡ count c + (if is v then 1 else 0))
@@ -78,9 +69,9 @@ by_verdict count is step c (r ∷ rs) =
 
 pub counted_rows : RowsAreCounted
 counted_rows rows = record {
-  bad = by_verdict (λ c. c.bad) (is_verdict Bad) bad_step none rows ∙ omega arith;
-  remarks = by_verdict (λ c. c.remarks) (is_verdict Remark) remark_step none rows ∙ omega arith;
-  changes = by_verdict (λ c. c.changes) (is_verdict Change) change_step none rows ∙ omega arith;
+  bad = by_verdict (λ c. c.bad) (is_verdict Bad) (λ c v. (steps c v).0) none rows ∙ omega arith;
+  remarks = by_verdict (λ c. c.remarks) (is_verdict Remark) (λ c v. (steps c v).1) none rows ∙ omega arith;
+  changes = by_verdict (λ c. c.changes) (is_verdict Change) (λ c v. (steps c v).2) none rows ∙ omega arith;
   kinds = λ row. by_kind [] rows row ∙ omega arith;
 }
   where

@@ -7,7 +7,7 @@ use Rattle.std.proofs.Math.Seq.{drop-cons}
 use Rattle.check_report.specs.declared.rows.kinds.Kind.{Kind}
 use Rattle.check_report.specs.declared.rows.kinds.Counts.{Counts}
 use Rattle.check_report.specs.declared.rows.row.Verdict.{Verdict}
-use Rattle.check_report.specs.declared.rows.row.Verdict.TheVariants.{Bad, Remark, Change}
+use Rattle.check_report.specs.declared.rows.row.Verdict.TheVariants.{Bad}
 use Rattle.check_report.specs.Rows.Rows.{SeenRow, is_bad_row, is_verdict, row_if, tallied}
 use Rattle.check_report.specs.Rows.Limits.{SeenKind, count_in, counted, is_of, seen_kind, shown_after}
 
@@ -57,8 +57,7 @@ shown_all ks (row ∷ rows) = ap (λ l. row ∷ l) (shown_all (counted ks row) r
 
 bad_step : (c : Counts) (v : Verdict) (others : Bool) → (nat_lt 0 (tallied c v).bad || others) ≡ (nat_lt 0 c.bad || (is_verdict Bad v || others))
 bad_step c Bad others = grind arith
-bad_step c Remark others = refl
-bad_step c Change others = refl
+bad_step c _ others = refl
 
 pub bad_counts : (c : Counts) (rows : List SeenRow) → nat_lt 0 (fold (λ counts row. tallied counts row.verdict) c rows).bad ≡ (nat_lt 0 c.bad || list_any is_bad_row rows)
 bad_counts c [] = grind arith

@@ -1,21 +1,17 @@
 -- Consecutive lines of a printer.
-use Rattle.std.proofs.Common.{◌≡◌, ◌∙◌, ℕ, ◌<◌, ◌+◌, length, take, get_or, List, [], ◌∷◌, ◌++◌, Bool, Ok, refl, ap, sym, append-nil, arith}
+use Rattle.std.proofs.Common.{◌≡◌, ◌∙◌, ℕ, ◌<◌, ◌+◌, length, take, get_or, List, [], ◌∷◌, ◌++◌, Bool, true, Ok, refl, ap, sym, append-nil, arith}
 use Rattle.std.specs.Prelude.{Option}
 use Rattle.std.specs.List.{flat_map}
 use Rattle.std.proofs.KnownBytes.{Appends-nil, Appends-trans}
 use Rattle.std.proofs.lemmas.List.{take_more}
 use Rattle.std.proofs.lemmas.List.Concat.{flat_map-cons}
+use Rattle.std.proofs.lemmas.List.Sums.{fold-append}
 use Rattle.std.proofs.lemmas.Grind.{flat_map-append}
 use Rattle.check_report.specs.declared.rows.printer.Printer.{Printer}
 use Rattle.check_report.specs.Rows.Fields.{Line}
 use Rattle.check_report.specs.Rows.Reports.{follows_after, parts}
 use Rattle.check_report.specs.Rows.Writing.{HasPrinted, PrintsLines}
 use Rattle.check_report.proofs.ReportParts.{no_parts, parts_append}
-
-follows_append : (b : Bool) (xs ys : List Line) → follows_after b (xs ++ ys) ≡ follows_after (follows_after b xs) ys
-follows_append b [] ys = refl
-follows_append b (x ∷ xs) [] = refl
-follows_append b (x ∷ xs) (y ∷ ys) = refl
 
 pub printed_both : {W : Type 0} (contents : W → Option (List ℕ)) (old mid new : Printer W) (b : Bool) (xs ys : List Line)
     → HasPrinted contents old mid (parts old.form b xs) (follows_after b xs)
@@ -24,7 +20,7 @@ pub printed_both : {W : Type 0} (contents : W → Option (List ℕ)) (old mid ne
 printed_both contents old mid new b xs ys x y = record {
   text = rw (parts_append old.form b xs ys) (Appends-trans (contents old.out) (contents mid.out) (contents new.out) _ _ x.text (rw (x.form, x.follows) at y.text));
   form = y.form ∙ x.form;
-  follows = y.follows ∙ ap (λ f. follows_after f ys) x.follows ∙ sym (follows_append b xs ys);
+  follows = y.follows ∙ ap (λ f. follows_after f ys) x.follows ∙ sym (fold-append (λ _ _. true) b xs ys);
 }
 
 -- no output

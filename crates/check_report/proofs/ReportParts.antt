@@ -17,8 +17,8 @@ use Rattle.check_report.specs.declared.request.Files.{Files}
 use Rattle.check_report.specs.declared.rows.kinds.Counts.{Counts}
 use Rattle.check_report.specs.declared.rows.form.Form.{Form}
 use Rattle.check_report.specs.declared.rows.form.Form.TheVariants as forms
-use Rattle.check_report.specs.Rows.Fields.{Line, SeenField, array_value, line_json, line_text, members}
-use Rattle.check_report.specs.Rows.Reports.{begin_tokens, count_fields, document, ending, file_fields, follows_after, heading, list_fields, member_tokens, objects, parts, report_with}
+use Rattle.check_report.specs.Rows.Fields.{Line, SeenField, line_json, line_text, members}
+use Rattle.check_report.specs.Rows.Reports.{begin_tokens, count_fields, document, ending, file_fields, follows_after, heading, lines_field, member_tokens, parts, report_with}
 use Rattle.check_report.proofs.RowLemmas.Tokens.{fields_tokens, object_tokens}
 
 -- a value just ended after these tokens
@@ -32,15 +32,11 @@ ended_members b (member k j ms) = fold-append (λ _ t. ends t) false (json_token
 abbrev lines_tokens : List Line → List Token
 lines_tokens lines = flat_map json_tokens (map line_json lines)
 
-follows_true : (lines : List Line) → follows_after true lines ≡ true
-follows_true [] = refl
-follows_true (line ∷ lines) = refl
-
 -- the flag after lines
 ended_lines : (b : Bool) (lines : List Line) → ended b (lines_tokens lines) ≡ follows_after b lines
 ended_lines b [] = refl
 ended_lines b (line ∷ lines) = fold-append (λ _ t. ends t) b (json_tokens (line_json line)) (lines_tokens lines)
-    ∙ ap (λ c. ended c (lines_tokens lines)) (ended_members false (members line.fields)) ∙ ended_lines true lines ∙ follows_true lines
+    ∙ ap (λ c. ended c (lines_tokens lines)) (ended_members false (members line.fields)) ∙ ended_lines true lines
 
 -- lines after lines
 pub parts_append : (form : Form) (b : Bool) (xs ys : List Line) → parts form b (xs ++ ys) ≡ parts form b xs ++ parts form (follows_after b xs) ys
@@ -57,15 +53,18 @@ no_parts forms.Text b = refl
 no_parts forms.Json b = refl
 
 -- an object after a value
-pub line_after : (b : Bool) (line : Line) → (if b then codes "," else []) ++ print (json_tokens (line_json line)) ≡ objects b (line_json line ∷ [])
+pub line_after : (b : Bool) (line : Line) → (if b then codes "," else []) ++ print (json_tokens (line_json line)) ≡ parts forms.Json b (line ∷ [])
 unfolding print_from
 line_after true line = ap (λ ts. print_from true ts) (sym (append-nil (json_tokens (line_json line))))
 line_after false line = ap (λ ts. print_from false ts) (sym (append-nil (json_tokens (line_json line))))
 
 -- ---- the parts make the report
 
+abbrev first_fields : Files → Option (List Line) → List SeenField
+first_fields files list = file_fields files ++ option_map_or (λ lines. lines_field (codes "components") lines ∷ []) list []
+
 abbrev opening_tokens : Files → Option (List Line) → List Token
-opening_tokens files list = (begin_object ∷ flat_map member_tokens (file_fields files ++ list_fields list)) ++ begin_tokens (codes "rows")
+opening_tokens files list = (begin_object ∷ flat_map member_tokens (first_fields files list)) ++ begin_tokens (codes "rows")
 
 begun : (ts : List Token) (name : List ℕ) → ended false (ts ++ begin_tokens name) ≡ false
 begun ts name = fold-append (λ _ t. ends t) false ts (begin_tokens name)
@@ -92,7 +91,7 @@ opening_text : (files : Files) (list : Option (List Line)) → heading forms.Jso
 opening_text files None = refl
 opening_text files (Some lines) =
     sym (array_text (begin_object ∷ flat_map member_tokens (file_fields files)) (codes "components") lines (begin_tokens (codes "rows")))
-    ∙ sym (ap print (fields_tokens (file_fields files) [] (codes "components") (map line_json lines) (begin_tokens (codes "rows"))))
+    ∙ sym (ap print (fields_tokens (file_fields files) [] (codes "components") lines (begin_tokens (codes "rows"))))
 
 opening_lines : (files : Files) (list : Option (List Line)) → heading forms.Text files list ≡ option_map_or (flat_map line_text) list []
 opening_lines files None = refl
@@ -105,13 +104,13 @@ whole forms.Text files list rows counts =
     ap (λ l. l ++ (parts forms.Text false rows ++ ending forms.Text counts)) (opening_lines files list)
     ∙ sym (append_assoc (option_map_or (flat_map line_text) list []) (flat_map line_text rows) (ending forms.Text counts))
 whole forms.Json files list rows counts =
-    let first : List SeenField = file_fields files ++ list_fields list in
+    let first : List SeenField = first_fields files list in
     let last : List SeenField = count_fields counts in
     let start : List Token = begin_object ∷ flat_map member_tokens first in
     let rest : List Token = flat_map member_tokens last ++ end_object ∷ [] in
     let heads : heading forms.Json files list ≡ print (start ++ begin_tokens (codes "rows")) = opening_text files list in
     let tokens : json_tokens (document files list rows counts) ≡ ((start ++ begin_tokens (codes "rows")) ++ lines_tokens rows) ++ (end_array ∷ rest) =
-    object_tokens (first ++ (codes "rows", array_value (map line_json rows)) ∷ last) ∙ fields_tokens first last (codes "rows") (map line_json rows) (end_object ∷ []) in
+    object_tokens (first ++ lines_field (codes "rows") rows ∷ last) ∙ fields_tokens first last (codes "rows") rows (end_object ∷ []) in
     ap (λ l. l ++ (parts forms.Json false rows ++ (print (end_array ∷ rest) ++ line_feed))) heads
     ∙ sym (append_assoc (print (start ++ begin_tokens (codes "rows"))) (parts forms.Json false rows) (print (end_array ∷ rest) ++ line_feed))
     ∙ sym (append_assoc (print (start ++ begin_tokens (codes "rows")) ++ parts forms.Json false rows) (print (end_array ∷ rest)) line_feed)

@@ -37,9 +37,8 @@ bad_before (kind ∷ kinds) row some bad = go (is_of kind row) refl (bad_before 
 
 -- the row is shown, or hidden
 shown : (k b s o : Bool) → ((k || b) || s) ≡ ((k || b) || o) → (k || (b || s)) ≡ (k || (b || o))
-shown true b s o is = refl
-shown false true s o is = refl
 shown false false s o is = is
+shown _ _ s o is = refl
 
 hidden : (k b s o : Bool) → (b ≡ true → k ≡ true) → ((k || b) || s) ≡ ((k || b) || o) → (k || s) ≡ (k || (b || o))
 hidden true b s o before is = refl

@@ -1,5 +1,5 @@
 -- Rows of changes. This project defines their codes and texts.
-use Rattle.std.specs.Prelude.{ℕ, Bool, true, not, Some, ◌&&◌, ◌||◌, ◌%◌, nat_le, List, [], ◌∷◌, ◌++◌}
+use Rattle.std.specs.Prelude.{ℕ, Bool, true, not, ◌&&◌, ◌||◌, ◌%◌, nat_le, List, [], ◌∷◌, ◌++◌}
 use Rattle.std.specs.Prelude.{filter, map, nat_lt}
 use Rattle.std.specs.Prelude.{◌==◌, if◌then◌else◌}
 use Rattle.std.specs.List.{list_any}
@@ -24,6 +24,7 @@ use Rattle.check_report.specs.declared.rows.row.Verdict.{Verdict}
 use Rattle.check_report.specs.declared.rows.row.Verdict.TheVariants as verdicts
 use Rattle.check_report.specs.FindingRows.{missing_row}
 use Rattle.check_report.specs.Names.{Names}
+use Rattle.check_report.specs.Rows.Fields.{name_value}
 use Rattle.check_report.specs.Rows.Rows.{SeenRow, area_name, of_area, of_component, row}
 use Rattle.check_report.specs.Rows.Rows.{row_at, row_if, with_count, with_number}
 
@@ -139,4 +140,4 @@ is_missing olds news name = not (is_there olds name || is_there news name)
 
 -- the row of a kept name without an area
 abbrev pub missing_if : List NumberedArea → List NumberedArea → List ℕ → List SeenRow
-missing_if olds news name = row_if (is_missing olds news name) (missing_row (Some name))
+missing_if olds news name = row_if (is_missing olds news name) (missing_row (name_value name))

@@ -26,10 +26,12 @@ use Rattle.check_findings.specs.declared.image.needs.NeedFinding.TheVariants.{Mi
 use Rattle.check_findings.specs.Image.Verdicts.{is_bad_hash, is_bad_map}
 use Rattle.check_report.specs.declared.request.Asked.{Asked}
 use Rattle.check_report.specs.Names.{Names}
+use Rattle.check_report.specs.Rows.Fields.{SeenValue, dash, name_value}
 use Rattle.check_report.specs.declared.rows.row.Verdict.{Verdict}
 use Rattle.check_report.specs.declared.rows.row.Verdict.TheVariants.{Bad, Remark}
 use Rattle.check_report.specs.Rows.Rows.{SeenRow, area_name, in_area, of_area, of_component, row}
-use Rattle.check_report.specs.Rows.Rows.{row_at, row_if, row_of, with_count, with_number, with_other}
+use Rattle.check_report.specs.Rows.Rows.{row_at, row_if, row_of, with_count, with_number}
+use Rattle.check_report.specs.Rows.Rows.{with_other}
 
 abbrev pub finding_verdict : Bool → Verdict
 finding_verdict true = Bad
@@ -133,8 +135,12 @@ region_rows asked region finding = option_map_or (λ row. in_area region row ∷
 -- ---- the image
 
 -- the row of a name without an area
-abbrev pub missing_row : Option (List ℕ) → SeenRow
+abbrev pub missing_row : SeenValue → SeenRow
 missing_row name = record (row Bad "no-area" "no such area") { area = name }
+
+-- the given area name, or a dash
+abbrev pub name_at : Names → ℕ → SeenValue
+name_at names number = option_map_or name_value (slice_get names number) dash
 
 -- bad if its name is expected
 abbrev pub not_checked_row : NumberedArea → Bool → SeenRow
@@ -147,7 +153,7 @@ abbrev pub rows_of : Asked → Names → ImageFinding → List SeenRow
 rows_of asked names (Map finding) = map_row finding ∷ []
 rows_of asked names (Region a findings) = flat_map (region_rows asked (area_name a)) findings
 rows_of asked names (NotChecked a named) = not_checked_row a named ∷ []
-rows_of asked names (NoArea number) = missing_row (slice_get names number) ∷ []
+rows_of asked names (NoArea number) = missing_row (name_at names number) ∷ []
 
 abbrev pub finding_rows : Asked → Names → List ImageFinding → List SeenRow
 finding_rows asked names findings = flat_map (rows_of asked names) findings

@@ -10,13 +10,11 @@ use check_changes::{AreaChange, MapChange};
 use flash_map::NumberedArea;
 
 /// Returns the row of a difference of an area.
-fn changed<'a>(kept: &[&[u8]], area: &'a NumberedArea, row: Row<'a>) -> Row<'a>
+fn changed<'a>(kept: &[&[u8]], area: &'a NumberedArea, mut row: Row<'a>) -> Row<'a>
     ensures { seen_row result ≡ of.changed (names_in kept.now) area.now (seen_row row.entry) }
 {
-    Row {
-        verdict: change_verdict(kept, *area),
-        ..row.of(area)
-    }
+    row.verdict = change_verdict(kept, *area);
+    row.of(area)
 }
 
 /// Returns the row of a change of the flash map itself.

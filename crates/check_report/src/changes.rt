@@ -16,7 +16,7 @@ use flash_map::NumberedArea;
 
 /// Adds rows for the image lengths, and for the number of different blocks of 4096 bytes.
 pub fn add_image_changes<W: Sink + Drop>(
-    rows: &mut RowWriter<'_, W>,
+    rows: &mut RowWriter<W>,
     old_len: u64,
     new_len: u64,
     blocks: u32,
@@ -32,7 +32,7 @@ pub fn add_image_changes<W: Sink + Drop>(
 
 /// Adds a row for each change of the flash map itself.
 pub fn add_map_changes<W: Sink + Drop>(
-    rows: &mut RowWriter<'_, W>,
+    rows: &mut RowWriter<W>,
     changes: &[MapChange],
 ) -> Result<(), WriteFault>
     ensures { Adds W.contents W.faults result rows.old rows.new
@@ -44,11 +44,11 @@ pub fn add_map_changes<W: Sink + Drop>(
     Ok(())
 }
 
-pub fn add_area_changes<'a, W: Sink + Drop>(
-    rows: &mut RowWriter<'a, W>,
+pub fn add_area_changes<W: Sink + Drop>(
+    rows: &mut RowWriter<W>,
     kept: &[&[u8]],
     vital: &[&[u8]],
-    changes: &'a [AreaChange],
+    changes: &[AreaChange],
 ) -> Result<(), WriteFault>
     ensures { Adds W.contents W.faults result rows.old rows.new
         (flat_map (of.area_change_rows (names_in kept.now) (names_in vital.now)) changes.now) }
@@ -61,11 +61,11 @@ pub fn add_area_changes<'a, W: Sink + Drop>(
 }
 
 /// Adds the rows of changed components, all bad in a kept area.
-fn add_component_changes<'a, W: Sink + Drop>(
-    rows: &mut RowWriter<'a, W>,
+fn add_component_changes<W: Sink + Drop>(
+    rows: &mut RowWriter<W>,
     kept: &[&[u8]],
-    area: &'a NumberedArea,
-    changes: &'a [ComponentChange],
+    area: &NumberedArea,
+    changes: &[ComponentChange],
 ) -> Result<(), WriteFault>
     ensures { Adds W.contents W.faults result rows.old rows.new (of.component_change_rows
         (names_in kept.now) area.now changes.now) }
@@ -77,10 +77,10 @@ fn add_component_changes<'a, W: Sink + Drop>(
     Ok(())
 }
 
-pub fn add_region_changes<'a, W: Sink + Drop>(
-    rows: &mut RowWriter<'a, W>,
+pub fn add_region_changes<W: Sink + Drop>(
+    rows: &mut RowWriter<W>,
     kept: &[&[u8]],
-    changes: &'a [RegionChange],
+    changes: &[RegionChange],
 ) -> Result<(), WriteFault>
     ensures { Adds W.contents W.faults result rows.old rows.new
         (flat_map (of.region_change_rows (names_in kept.now)) changes.now) }

@@ -1,50 +1,52 @@
 //! Rows of an image's findings.
-ghost use Rattle.std.specs.Prelude.{◌≡◌, slice_get};
-ghost use Rattle.std.specs.Option.{option_copied};
+ghost use Rattle.std.specs.Prelude.{◌≡◌};
 ghost use Rattle.check_report.specs.Names.{names_in};
+ghost use Rattle.check_report.specs.Rows.Fields.{seen_value};
 ghost use Rattle.check_report.specs.Rows.Rows.{seen_row};
 ghost use Rattle.check_report.specs.Rows.Writing.{Adds};
 ghost use Rattle.check_report.specs.FindingRows as of;
 
 use crate::fault::WriteFault;
-use crate::map::{finding_verdict, map_row};
+use crate::map::map_row;
 use crate::region::add_region;
 use crate::request::Asked;
-use crate::rows::{Row, RowWriter, Verdict};
+use crate::rows::{Row, RowWriter, Value, Verdict};
 use check_findings::ImageFinding;
 use flash_device::Sink;
 use flash_map::NumberedArea;
 
 /// Returns the row of a name without an area.
-pub fn missing_row<'a>(name: Option<&'a [u8]>) -> Row<'a>
-    ensures { seen_row result ≡ of.missing_row (option_copied name.entry) }
+pub fn missing_row(area: Value<'_>) -> Row<'_>
+    ensures { seen_row result ≡ of.missing_row (seen_value area.entry) }
 {
-    Row {
-        area: name,
-        ..Verdict::Bad.row("no-area", "no such area")
-    }
+    let mut row = Verdict::Bad.row("no-area", "no such area");
+    row.area = area;
+    row
 }
 
-fn name_at<'a>(names: &[&'a [u8]], number: usize) -> Option<&'a [u8]>
-    ensures { option_copied result ≡ slice_get (names_in names.now) number }
+fn name_at<'a>(names: &[&'a [u8]], number: usize) -> Value<'a>
+    ensures { seen_value result ≡ of.name_at (names_in names.now) number }
 {
-    names.get(number).copied()
+    match names.get(number) {
+        Some(name) => Value::Name(name),
+        None => Value::Dash,
+    }
 }
 
 fn not_checked_row<'a>(area: &'a NumberedArea, is_named: bool) -> Row<'a>
     ensures { seen_row result ≡ of.not_checked_row area.now is_named }
 {
     let what = "isn't checked: checked areas would exceed twice the image";
-    let row = finding_verdict(is_named).row("area-not-checked", what);
+    let row = Verdict::of_finding(is_named).row("area-not-checked", what);
     row.of(area)
 }
 
 /// Adds the rows of findings in order. `names` are the given area names.
-pub fn add_findings<'a, W: Sink + Drop>(
-    rows: &mut RowWriter<'a, W>,
+pub fn add_findings<W: Sink + Drop>(
+    rows: &mut RowWriter<W>,
     asked: Asked,
-    findings: &'a [ImageFinding],
-    names: &[&'a [u8]],
+    findings: &[ImageFinding],
+    names: &[&[u8]],
 ) -> Result<(), WriteFault>
     ensures { Adds W.contents W.faults result rows.old rows.new
         (of.finding_rows asked (names_in names.now) findings.now) }

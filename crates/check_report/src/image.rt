@@ -33,10 +33,8 @@ pub fn inspect_image<F: Flash>(
         IsInspected (wish_of request.entry) image inspection)) }
 {
     let expected = need_areas(alloc, request.needs)?;
-    let checked = match check_image(alloc, keys, paged, request.areas, &expected) {
-        Ok(checked) => checked,
-        Err(fault) => return Err(ChangeFault::of_new(fault)),
-    };
+    let checked = check_image(alloc, keys, paged, request.areas, &expected);
+    let checked = checked.map_err(ChangeFault::of_new)?;
     Ok(Inspection {
         findings: checked.findings,
         changes: None,

@@ -1,5 +1,5 @@
 //! The result of a check, and its report.
-ghost use Rattle.std.specs.Prelude.{◌≡◌, ◌+◌, ◌≤◌, ◌++◌, false, IfOk, OnOk};
+ghost use Rattle.std.specs.Prelude.{◌≡◌, ◌+◌, ◌≤◌, false, IfOk, OnOk};
 ghost use Rattle.std.specs.List.{list_any};
 ghost use Rattle.std.specs.Io.KnownBytes.{Appends};
 ghost use Rattle.flash_device.specs.Device.{fault_count};
@@ -9,7 +9,7 @@ ghost use Rattle.check_report.specs.Reports.{wish_of};
 ghost use Rattle.check_report.specs.Lists.{list_if};
 ghost use Rattle.check_report.specs.Rows.Reports.{heading, report};
 ghost use Rattle.check_report.specs.Rows.Rows.{is_bad_row};
-ghost use Rattle.check_report.specs.Rows.Writing.{Adds, Ends, IsSound, Prints, rows_in};
+ghost use Rattle.check_report.specs.Rows.Writing.{Adds, Ends, Prints};
 
 use crate::changes::{add_area_changes, add_image_changes, add_map_changes, add_region_changes};
 use crate::fault::WriteFault;
@@ -73,11 +73,11 @@ pub struct Inspection {
     pub changes: Option<Changes>,
 }
 
-fn add_changes<'a, W: Sink + Drop>(
+fn add_changes<W: Sink + Drop>(
     alloc: Global,
-    rows: &mut RowWriter<'a, W>,
-    request: Request<'a>,
-    changes: &'a Changes,
+    rows: &mut RowWriter<W>,
+    request: Request<'_>,
+    changes: &Changes,
 ) -> Result<(), WriteFault>
     ensures { Adds W.contents W.faults result rows.old rows.new
         (change_rows (wish_of request.entry) changes.now) }
@@ -104,11 +104,11 @@ pub struct Written<W> {
 }
 
 impl Inspection {
-    fn add_rows<'a, W: Sink + Drop>(
-        &'a self,
+    fn add_rows<W: Sink + Drop>(
+        &self,
         alloc: Global,
-        request: Request<'a>,
-        rows: &mut RowWriter<'a, W>,
+        request: Request<'_>,
+        rows: &mut RowWriter<W>,
     ) -> Result<(), WriteFault>
         ensures { Adds W.contents W.faults result rows.old rows.new
             (inspection_rows (wish_of request.entry) self.now) }
@@ -139,20 +139,14 @@ impl Inspection {
         }
     }
 
-    fn print_rows<'a, W: Sink + Drop>(
-        &'a self,
+    fn print_rows<W: Sink + Drop>(
+        &self,
         alloc: Global,
-        request: Request<'a>,
-        rows: &mut RowWriter<'a, W>,
+        request: Request<'_>,
+        rows: &mut RowWriter<W>,
     ) -> Result<bool, WriteFault>
-        ensures bad { IsSound W.contents rows.old → IfOk result (λ is_bad. is_bad ≡ list_any
-            is_bad_row (rows_in rows.old
-            ++ inspection_rows (wish_of request.entry) self.now)) }
-        ensures text { IsSound W.contents rows.old → OnOk result (Ends W.contents rows.old
-            (inspection_rows (wish_of request.entry) self.now)
-            rows.new.printer) }
-        ensures cause { W.faults rows.old.printer.out + fault_count by_sink result
-            ≤ W.faults rows.new.printer.out }
+        ensures { Ends W.contents W.faults result rows.old rows.new
+            (inspection_rows (wish_of request.entry) self.now) }
     {
         self.add_rows(alloc, request, rows)?;
         rows.finish()
@@ -174,14 +168,14 @@ impl Inspection {
         let mut printer = Printer::new(alloc, request.form, out);
         if let Err(fault) = self.print_heading(request, &mut printer) {
             return Written {
-                out: printer.into_inner(),
+                out: printer.out,
                 is_bad: Err(fault),
             };
         }
         let mut rows = RowWriter::new(alloc, printer, request.asked.is_verbose);
         let is_bad = self.print_rows(alloc, request, &mut rows);
         Written {
-            out: rows.into_inner(),
+            out: rows.printer.out,
             is_bad,
         }
     }

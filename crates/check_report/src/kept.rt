@@ -8,7 +8,7 @@ ghost use Rattle.check_report.specs.ChangeRows as of;
 
 use crate::fault::WriteFault;
 use crate::findings::missing_row;
-use crate::rows::{RowWriter, Verdict};
+use crate::rows::{RowWriter, Value, Verdict};
 use flash_device::Sink;
 use flash_map::NumberedArea;
 
@@ -42,9 +42,9 @@ fn is_missing(old_areas: &[NumberedArea], new_areas: &[NumberedArea], name: &[u8
 }
 
 /// Adds a row for each kept name that neither image has.
-pub fn add_missing<'a, W: Sink + Drop>(
-    rows: &mut RowWriter<'a, W>,
-    kept: &[&'a [u8]],
+pub fn add_missing<W: Sink + Drop>(
+    rows: &mut RowWriter<W>,
+    kept: &[&[u8]],
     old_areas: &[NumberedArea],
     new_areas: &[NumberedArea],
 ) -> Result<(), WriteFault>
@@ -52,7 +52,7 @@ pub fn add_missing<'a, W: Sink + Drop>(
         (flat_map (of.missing_if old_areas.now new_areas.now) (names_in kept.now)) }
 {
     for name in kept {
-        let missing = missing_row(Some(name));
+        let missing = missing_row(Value::Name(name));
         rows.add_if(is_missing(old_areas, new_areas, name), missing)?;
     }
     Ok(())

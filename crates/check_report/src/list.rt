@@ -26,10 +26,10 @@ fn component_fields<'a>(area: &'a [u8], at: u64, name: &'a [u8], content: Conten
     ]
 }
 
-fn list_area<'a, W: Sink + Drop>(
+fn list_area<W: Sink + Drop>(
     printer: &mut Printer<W>,
-    area: &'a [u8],
-    findings: &'a [RegionFinding],
+    area: &[u8],
+    findings: &[RegionFinding],
 ) -> Result<(), WriteFault>
     ensures { PrintsLines W.contents W.faults result printer.old printer.new
         (flat_map (component_in area.now) findings.now) }

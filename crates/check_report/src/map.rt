@@ -6,21 +6,10 @@ ghost use Rattle.check_report.specs.FindingRows as rows;
 use crate::rows::{Row, Verdict};
 use check_findings::{MapFinding, is_bad_map};
 
-/// Returns `Bad` or `Remark`.
-pub fn finding_verdict(is_bad: bool) -> Verdict
-    ensures { result ≡ rows.finding_verdict is_bad }
-{
-    if is_bad {
-        Verdict::Bad
-    } else {
-        Verdict::Remark
-    }
-}
-
 pub fn map_row(finding: &MapFinding) -> Row<'_>
     ensures { seen_row result ≡ rows.map_row finding.now }
 {
-    let v = finding_verdict(is_bad_map(finding));
+    let v = Verdict::of_finding(is_bad_map(finding));
     match finding {
         MapFinding::NoMap => v.row("no-map", "no flashmap"),
         MapFinding::Map(map) => v.row("map", "flashmap").at(map.at),

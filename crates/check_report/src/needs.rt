@@ -25,10 +25,10 @@ fn need_row<'a>(need: &Need<'a>, finding: NeedFinding) -> Row<'a>
 }
 
 /// Adds a row for each unmet need.
-pub fn add_needs<'a, W: Sink + Drop>(
-    rows: &mut RowWriter<'a, W>,
+pub fn add_needs<W: Sink + Drop>(
+    rows: &mut RowWriter<W>,
     findings: &[ImageFinding],
-    needs: &[Need<'a>],
+    needs: &[Need<'_>],
 ) -> Result<(), WriteFault>
     ensures { Adds W.contents W.faults result rows.old rows.new
         (flat_map (of.need_rows findings.now) (map wish_of needs.now)) }

@@ -1,14 +1,14 @@
 //! Rows of a region's findings.
 ghost use Rattle.std.specs.Prelude.{◌≡◌, option_map};
 ghost use Rattle.std.specs.List.{flat_map};
-ghost use Rattle.check_report.specs.Rows.Rows.{seen_row};
+ghost use Rattle.check_report.specs.Rows.Fields.{seen_value};
+ghost use Rattle.check_report.specs.Rows.Rows.{row_of, seen_row};
 ghost use Rattle.check_report.specs.Rows.Writing.{Adds};
 ghost use Rattle.check_report.specs.FindingRows as of;
 
 use crate::fault::WriteFault;
-use crate::map::finding_verdict;
 use crate::request::Asked;
-use crate::rows::{Row, RowWriter, Verdict};
+use crate::rows::{Row, RowWriter, Value, Verdict};
 use check_findings::{HashFinding, RegionFinding, is_bad_hash, is_text};
 use flash_device::Sink;
 use flash_format::{Algorithm, DamageKind, type_name};
@@ -33,19 +33,49 @@ impl Asked {
     fn has_hash_row(self, hash: HashFinding) -> bool
         ensures { result ≡ of.has_hash_row self hash }
     {
-        match hash {
-            HashFinding::Missing => self.is_verbose || self.needs_hashes,
-            _ => true,
-        }
+        !matches!(hash, HashFinding::Missing) || self.is_verbose || self.needs_hashes
+    }
+}
+
+/// The place of a component's rows.
+#[derive(Clone, Copy)]
+struct Place<'a> {
+    region: &'a [u8],
+    name: &'a [u8],
+    at: u64,
+}
+
+/// Adds a row of this code, text and value, if it is there.
+fn add_row_if<W: Sink + Drop>(
+    rows: &mut RowWriter<W>,
+    is_there: bool,
+    place: Place<'_>,
+    verdict: Verdict,
+    words: (&'static str, &'static str),
+    detail: Value<'_>,
+) -> Result<(), WriteFault>
+    ensures { Adds W.contents W.faults result rows.old rows.new
+        (of.component_row_if place.entry.region.now place.entry.at place.entry.name.now is_there
+        (record (row_of verdict words.entry.0.now words.entry.1.now)
+        { detail = seen_value detail.entry })) }
+{
+    if is_there {
+        let row = Row {
+            detail,
+            ..verdict.row(words.0, words.1)
+        };
+        rows.add(row.of_component(place.region, place.name).at(place.at))
+    } else {
+        Ok(())
     }
 }
 
 /// Adds up to three rows of a component's name and type, and the state of its digest.
-fn add_component<'a, W: Sink + Drop>(
-    rows: &mut RowWriter<'a, W>,
+fn add_component<W: Sink + Drop>(
+    rows: &mut RowWriter<W>,
     asked: Asked,
-    region: &'a [u8],
-    finding: &'a RegionFinding,
+    region: &[u8],
+    finding: &RegionFinding,
 ) -> Result<(), WriteFault>
     ensures { Adds W.contents W.faults result rows.old rows.new
         (of.component_rows asked region.now finding.now) }
@@ -60,19 +90,32 @@ fn add_component<'a, W: Sink + Drop>(
         return Ok(());
     };
     let (at, name) = (*at, name.as_slice());
-    let (bad, remark) = (Verdict::Bad, Verdict::Remark);
-    let shadowed = bad.row("component-shadowed", "has the name of an earlier component");
-    rows.add_if(*is_shadowed, shadowed.of_component(region, name).at(at))?;
-    let unnamed = remark.row("component-name", "name isn't UTF-8");
-    rows.add_if(!is_text(name), unnamed.of_component(region, name).at(at))?;
-    let untyped = remark.row("component-type", "type without a name");
-    let untyped = untyped.number(u64::from(content.kind));
-    let untyped = untyped.of_component(region, name).at(at);
-    rows.add_if(type_name(content.kind).is_none(), untyped)?;
-    let (code, what) = hash_words(content.hash);
-    let verdict = finding_verdict(is_bad_hash(content.hash, asked.needs_hashes));
-    let hashed = verdict.row(code, what).of_component(region, name).at(at);
-    rows.add_if(asked.has_hash_row(content.hash), hashed)
+    let place = Place { region, name, at };
+    let (bad, remark, none) = (Verdict::Bad, Verdict::Remark, Value::Absent);
+    let shadowed = ("component-shadowed", "has the name of an earlier component");
+    add_row_if(rows, *is_shadowed, place, bad, shadowed, none)?;
+    let unnamed = ("component-name", "name isn't UTF-8");
+    add_row_if(rows, !is_text(name), place, remark, unnamed, none)?;
+    let untyped = ("component-type", "type without a name");
+    let kind = Value::Offset(u64::from(content.kind));
+    add_row_if(
+        rows,
+        type_name(content.kind).is_none(),
+        place,
+        remark,
+        untyped,
+        kind,
+    )?;
+    let verdict = Verdict::of_finding(is_bad_hash(content.hash, asked.needs_hashes));
+    let is_shown = asked.has_hash_row(content.hash);
+    add_row_if(
+        rows,
+        is_shown,
+        place,
+        verdict,
+        hash_words(content.hash),
+        none,
+    )
 }
 
 fn damage_text(kind: DamageKind) -> &'static str
@@ -123,11 +166,11 @@ fn plain_row<'a>(finding: &RegionFinding) -> Option<Row<'a>>
     Some(row)
 }
 
-pub fn add_region<'a, W: Sink + Drop>(
-    rows: &mut RowWriter<'a, W>,
+pub fn add_region<W: Sink + Drop>(
+    rows: &mut RowWriter<W>,
     asked: Asked,
-    region: &'a [u8],
-    findings: &'a [RegionFinding],
+    region: &[u8],
+    findings: &[RegionFinding],
 ) -> Result<(), WriteFault>
     ensures { Adds W.contents W.faults result rows.old rows.new
         (flat_map (of.region_rows asked region.now) findings.now) }

@@ -9,8 +9,8 @@ use Rattle.std.proofs.lemmas.Str.{is_utf8-from_IsUtf8, IsUtf8-from_is_utf8}
 use Rattle.json.specs.Json.{Json, member}
 use Rattle.json.specs.Token.{Token, begin_object, begin_array, end_array, end_object, key}
 use Rattle.json.specs.Tree.{json_tokens, items_tokens, members_tokens}
-use Rattle.check_report.specs.Rows.Fields.{SeenField, array_value, bytes_json, items, members, name_json, number_json, object_of}
-use Rattle.check_report.specs.Rows.Reports.{begin_tokens, member_tokens}
+use Rattle.check_report.specs.Rows.Fields.{Line, SeenField, bytes_json, items, line_json, members, name_json, number_json, object_of}
+use Rattle.check_report.specs.Rows.Reports.{begin_tokens, lines_field, member_tokens}
 
 members_tokens-members : (fs : List SeenField) → members_tokens (members fs) ≡ flat_map member_tokens fs ++ end_object ∷ []
 members_tokens-members [] = refl
@@ -33,13 +33,15 @@ regroup : (f j l e : List Token) (k a z : Token) → (f ++ ((k ∷ a ∷ (j ++ z
 regroup f j l e k a z = simp append_assoc
 
 -- fields with an array between
-pub fields_tokens : (first last : List SeenField) (name : List ℕ) (js : List Json) (e : List Token)
-    → (begin_object ∷ flat_map member_tokens (first ++ (name, array_value js) ∷ last)) ++ e
-    ≡ (((begin_object ∷ flat_map member_tokens first) ++ begin_tokens name) ++ flat_map json_tokens js) ++ ((end_array ∷ flat_map member_tokens last) ++ e)
-fields_tokens first last name js e =
-    ap (λ ts. begin_object ∷ (ts ++ e)) (flat_map-append member_tokens first ((name, array_value js) ∷ last)
-    ∙ ap (λ ts. flat_map member_tokens first ++ ((key name ∷ begin_array ∷ ts) ++ flat_map member_tokens last)) (items_tokens-items js))
-    ∙ ap (λ ts. begin_object ∷ ts) (regroup (flat_map member_tokens first) (flat_map json_tokens js) (flat_map member_tokens last) e (key name) begin_array end_array)
+pub fields_tokens : (first last : List SeenField) (name : List ℕ) (lines : List Line) (e : List Token)
+    → let js = flat_map json_tokens (map line_json lines) in
+    (begin_object ∷ flat_map member_tokens (first ++ lines_field name lines ∷ last)) ++ e
+    ≡ (((begin_object ∷ flat_map member_tokens first) ++ begin_tokens name) ++ js) ++ ((end_array ∷ flat_map member_tokens last) ++ e)
+fields_tokens first last name lines e =
+    let js : List Token = flat_map json_tokens (map line_json lines) in
+    ap (λ ts. begin_object ∷ (ts ++ e)) (flat_map-append member_tokens first (lines_field name lines ∷ last)
+    ∙ ap (λ ts. flat_map member_tokens first ++ ((key name ∷ begin_array ∷ ts) ++ flat_map member_tokens last)) (items_tokens-items (map line_json lines)))
+    ∙ ap (λ ts. begin_object ∷ ts) (regroup (flat_map member_tokens first) js (flat_map member_tokens last) e (key name) begin_array end_array)
 
 number_items : (bytes : List ℕ) → items_tokens (items (map number_json bytes)) ≡ map (λ b. Token.number (decimal b)) bytes ++ end_array ∷ []
 number_items [] = refl

@@ -55,10 +55,6 @@ count_value n = record { text = Some (decimal n); json = Some (number_json n) }
 abbrev pub offset_value : ℕ → SeenValue
 offset_value n = record { text = Some (hexadecimal n); json = Some (number_json n) }
 
--- an array in JSON alone
-abbrev pub array_value : List Json → SeenValue
-array_value js = record { text = None; json = Some (array (items js)) }
-
 abbrev pub seen_value : Value → SeenValue
 seen_value values.Absent = absent
 seen_value values.Dash = dash

@@ -1,10 +1,10 @@
 -- A report: a list of components on request, rows, and counts. JSON is one document (RFC 8259).
 use Rattle.std.specs.Prelude.{ℕ, Bool, true, false, List, [], ◌∷◌, ◌++◌, Option, Some, None, map}
-use Rattle.std.specs.Prelude.{if◌then◌else◌}
+use Rattle.std.specs.Prelude.{fold, if◌then◌else◌}
 use Rattle.std.specs.List.{flat_map}
 use Rattle.std.specs.Option.{option_copied, option_map_or}
 use lib.Chars.{codes}
-use Rattle.json.specs.Json.{Json}
+use Rattle.json.specs.Json.{Json, array}
 use Rattle.json.specs.Token.{Token, begin_array, begin_object, end_array, end_object, key}
 use Rattle.json.specs.Tree.{json_tokens}
 use Rattle.json.specs.Print.{print, print_from}
@@ -13,7 +13,7 @@ use Rattle.check_report.specs.declared.request.Files.{Files}
 use Rattle.check_report.specs.declared.rows.kinds.Counts.{Counts}
 use Rattle.check_report.specs.declared.rows.form.Form.{Form}
 use Rattle.check_report.specs.declared.rows.form.Form.TheVariants as forms
-use Rattle.check_report.specs.Rows.Fields.{Line, SeenField, absent, array_value, count_value}
+use Rattle.check_report.specs.Rows.Fields.{Line, SeenField, absent, count_value, items}
 use Rattle.check_report.specs.Rows.Fields.{line_json, line_text, object_of, text_value}
 use Rattle.check_report.specs.Rows.Rows.{SeenRow, counts_of, row_line, summary}
 use Rattle.check_report.specs.Rows.Limits.{limited_rows}
@@ -32,15 +32,14 @@ count_fields counts =
     ∷ (codes "changes", count_value counts.changes)
     ∷ []
 
+-- an array in JSON alone
 abbrev pub lines_field : List ℕ → List Line → SeenField
-lines_field name lines = (name, array_value (map line_json lines))
-
-abbrev pub list_fields : Option (List Line) → List SeenField
-list_fields None = []
-list_fields (Some lines) = lines_field (codes "components") lines ∷ []
+lines_field name lines =
+    (name, record { text = None; json = Some (array (items (map line_json lines))) })
 
 unfoldable pub document : Files → Option (List Line) → List Line → Counts → Json
-document files list rows counts = object_of (file_fields files ++ list_fields list
+document files list rows counts = object_of (file_fields files
+    ++ option_map_or (λ lines. lines_field (codes "components") lines ∷ []) list []
     ++ lines_field (codes "rows") rows ∷ count_fields counts)
 
 -- the text of a list, rows and counts
@@ -71,18 +70,14 @@ starting forms.Text files name = []
 starting forms.Json files name = print (begin_object ∷ flat_map member_tokens (file_fields files)
     ++ begin_tokens name)
 
-abbrev pub objects : Bool → List Json → List ℕ
-objects follows js = print_from follows (flat_map json_tokens js)
-
 -- the parts of lines
 abbrev pub parts : Form → Bool → List Line → List ℕ
 parts forms.Text follows lines = flat_map line_text lines
-parts forms.Json follows lines = objects follows (map line_json lines)
+parts forms.Json follows lines = print_from follows (flat_map json_tokens (map line_json lines))
 
--- the next line follows another line
+-- after a line, the next line follows another line
 abbrev pub follows_after : Bool → List Line → Bool
-follows_after follows [] = follows
-follows_after follows (line ∷ lines) = true
+follows_after follows lines = fold (λ _ _. true) follows lines
 
 -- the part between components and rows
 abbrev pub between : Form → List ℕ

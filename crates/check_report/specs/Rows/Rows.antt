@@ -1,10 +1,9 @@
 -- Rows and their lines.
-use Rattle.std.specs.Prelude.{ℕ, List, [], ◌∷◌, ◌++◌, Bool, Option, Some, None}
+use Rattle.std.specs.Prelude.{ℕ, List, [], ◌∷◌, ◌++◌, Bool}
 use Rattle.std.specs.Prelude.{◌+◌, fold, if◌then◌else◌}
 use Rattle.flash_format.specs.Flashmap.{text_of}
 use Rattle.flash_map.specs.declared.areas.NumberedArea.{NumberedArea}
 use Rattle.std.specs.Fmt.{decimal}
-use Rattle.std.specs.Option.{option_copied, option_map_or}
 use Rattle.std.specs.Str.{bytes_eq}
 use Prim.Native.String.{String}
 use lib.Chars.{codes}
@@ -18,24 +17,24 @@ use Rattle.check_report.specs.Rows.Fields.{name_value, offset_value, seen_value,
 -- a row by its bytes
 pub record SeenRow : Type 0 where
   pub verdict : Verdict
-  pub area : Option (List ℕ)
-  pub component : Option (List ℕ)
-  pub position : Option ℕ
+  pub area : SeenValue
+  pub component : SeenValue
+  pub position : SeenValue
   pub code : List ℕ
   pub what : List ℕ
   pub detail : SeenValue
-  pub other : Option (List ℕ)
+  pub other : SeenValue
 
 abbrev pub seen_row : Row → SeenRow
 seen_row row = record {
   verdict = row.verdict;
-  area = option_copied row.area;
-  component = option_copied row.component;
-  position = row.position;
+  area = seen_value row.area;
+  component = seen_value row.component;
+  position = seen_value row.position;
   code = row.code.now;
   what = row.what.now;
   detail = seen_value row.detail;
-  other = option_copied row.other;
+  other = seen_value row.other;
 }
 
 abbrev pub row_if : Bool → SeenRow → List SeenRow
@@ -45,23 +44,23 @@ row_if is_there row = if is_there then row ∷ [] else []
 abbrev pub row_of : Verdict → List ℕ → List ℕ → SeenRow
 row_of verdict code what = record {
   verdict = verdict;
-  area = None;
-  component = None;
-  position = None;
+  area = dash;
+  component = dash;
+  position = dash;
   code = code;
   what = what;
   detail = absent;
-  other = None;
+  other = absent;
 }
 
 abbrev pub row : Verdict → String → String → SeenRow
 row verdict code what = row_of verdict (codes code) (codes what)
 
 abbrev pub row_at : ℕ → SeenRow → SeenRow
-row_at position row = record row { position = Some position }
+row_at position row = record row { position = offset_value position }
 
 abbrev pub in_area : List ℕ → SeenRow → SeenRow
-in_area name row = record row { area = Some name }
+in_area name row = record row { area = name_value name }
 
 abbrev pub area_name : NumberedArea → List ℕ
 area_name a = text_of a.area.name
@@ -71,7 +70,7 @@ abbrev pub of_area : NumberedArea → SeenRow → SeenRow
 of_area a row = row_at a.area.offset (in_area (area_name a) row)
 
 abbrev pub of_component : List ℕ → List ℕ → SeenRow → SeenRow
-of_component area name row = record row { area = Some area; component = Some name }
+of_component area name row = in_area area (record row { component = name_value name })
 
 abbrev pub with_count : ℕ → SeenRow → SeenRow
 with_count n row = record row { detail = count_value n }
@@ -80,7 +79,7 @@ abbrev pub with_number : ℕ → SeenRow → SeenRow
 with_number n row = record row { detail = offset_value n }
 
 abbrev pub with_other : NumberedArea → SeenRow → SeenRow
-with_other a row = record row { other = Some (area_name a) }
+with_other a row = record row { other = name_value (area_name a) }
 
 abbrev pub verdict_word : Verdict → List ℕ
 verdict_word verdicts.Bad = codes "bad"
@@ -92,12 +91,12 @@ row_line row = record {
   head = verdict_word row.verdict;
   fields = (codes "verdict", code_value (verdict_word row.verdict))
       ∷ (codes "code", code_value row.code)
-      ∷ (codes "area", option_map_or name_value row.area dash)
-      ∷ (codes "component", option_map_or name_value row.component dash)
-      ∷ (codes "position", option_map_or offset_value row.position dash)
+      ∷ (codes "area", row.area)
+      ∷ (codes "component", row.component)
+      ∷ (codes "position", row.position)
       ∷ (codes "what", text_value row.what)
       ∷ (codes "value", row.detail)
-      ∷ (codes "other", option_map_or name_value row.other absent)
+      ∷ (codes "other", row.other)
       ∷ [];
 }
 

@@ -12,7 +12,7 @@ ghost use Rattle.check_report.specs.declared.rows.form.Form.TheVariants as forms
 ghost use Rattle.check_report.specs.Rows.Fields.{bytes_json, name_json};
 ghost use Rattle.check_report.specs.Rows.Fields.{object_of, seen_field};
 ghost use Rattle.check_report.specs.Rows.Reports.{between, ending, file_fields, member_tokens};
-ghost use Rattle.check_report.specs.Rows.Reports.{objects, starting};
+ghost use Rattle.check_report.specs.Rows.Reports.{parts, starting};
 ghost use Rattle.check_report.specs.Rows.Writing.{AddsTokens};
 
 use crate::request::Files;
@@ -122,8 +122,8 @@ pub fn line_object(
     follows: bool,
     fields: &[Field<'_>],
 ) -> Result<Vec<u8>, AllocError>
-    ensures { IfOk result (λ part. part.items
-        ≡ objects follows (object_of (map seen_field fields.now) ∷ [])) }
+    ensures { IfOk result (λ part. part.items ≡ parts forms.Json follows
+        (record { head = []; fields = map seen_field fields.now } ∷ [])) }
 {
     let mut writer = value_writer(alloc, follows)?;
     put_object(&mut writer, fields)?;

@@ -2,7 +2,6 @@
 ghost use Rattle.std.specs.Prelude.{◌≡◌};
 ghost use Rattle.std.specs.Option.{option_copied, option_map_or};
 ghost use Rattle.check_report.specs.Rows.Fields as of;
-ghost use Rattle.check_report.specs.Rows.Fields.{name_value, offset_value};
 ghost use Rattle.check_report.specs.Rows.Fields.{seen_value, text_value};
 
 use flash_format::type_name;
@@ -31,16 +30,6 @@ pub enum Value<'a> {
 pub type Field<'a> = (&'static str, Value<'a>);
 
 impl<'a> Value<'a> {
-    pub fn name_or(name: Option<&'a [u8]>, other: Value<'a>) -> Value<'a>
-        ensures { seen_value result
-            ≡ option_map_or name_value (option_copied name.entry) (seen_value other.entry) }
-    {
-        match name {
-            Some(name) => Value::Name(name),
-            None => other,
-        }
-    }
-
     pub fn text_if(text: Option<&'a str>) -> Value<'a>
         ensures { seen_value result
             ≡ option_map_or text_value (option_copied text.entry) of.absent }
@@ -48,16 +37,6 @@ impl<'a> Value<'a> {
         match text {
             Some(text) => Value::Text(text),
             None => Value::Absent,
-        }
-    }
-
-    /// Returns an offset, or a dash without one.
-    pub fn offset_or_dash(offset: Option<u64>) -> Value<'a>
-        ensures { seen_value result ≡ option_map_or offset_value offset of.dash }
-    {
-        match offset {
-            Some(offset) => Value::Offset(offset),
-            None => Value::Dash,
         }
     }
 

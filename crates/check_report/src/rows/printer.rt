@@ -19,7 +19,7 @@ use std::alloc::Global;
 pub struct Printer<W: Sink + Drop> {
     alloc: Global,
     form: Form,
-    out: W,
+    pub out: W,
     follows: bool,
 }
 
@@ -88,12 +88,5 @@ impl<W: Sink + Drop> Printer<W> {
     {
         put_all(&mut self.out, part)?;
         Ok(())
-    }
-
-    pub fn into_inner(self) -> W
-        ensures { result ≡ self.out }
-    {
-        let Printer { out, .. } = self;
-        out
     }
 }

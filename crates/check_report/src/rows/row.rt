@@ -4,6 +4,7 @@ ghost use Rattle.std.specs.Prelude.{◌≡◌, map};
 ghost use Rattle.check_report.specs.Rows.Rows as rows;
 ghost use Rattle.check_report.specs.Rows.Rows.{row_line, seen_row, verdict_word};
 ghost use Rattle.check_report.specs.Rows.Fields.{seen_field};
+ghost use Rattle.check_report.specs.FindingRows.{finding_verdict};
 
 use crate::rows::field::{Field, Value};
 use flash_map::NumberedArea;
@@ -28,19 +29,26 @@ impl Verdict {
         }
     }
 
+    /// Returns `Bad` or `Remark`.
+    pub fn of_finding(is_bad: bool) -> Verdict
+        ensures { result ≡ finding_verdict is_bad }
+    {
+        if is_bad { Self::Bad } else { Self::Remark }
+    }
+
     /// Returns a row of the whole image.
     pub fn row<'a>(self, code: &'static str, what: &'static str) -> Row<'a>
         ensures { seen_row result ≡ rows.row_of self code.now what.now }
     {
         Row {
             verdict: self,
-            area: None,
-            component: None,
-            position: None,
+            area: Value::Dash,
+            component: Value::Dash,
+            position: Value::Dash,
             code,
             what,
             detail: Value::Absent,
-            other: None,
+            other: Value::Absent,
         }
     }
 }
@@ -49,10 +57,10 @@ impl Verdict {
 #[derive(Clone, Copy)]
 pub struct Row<'a> {
     pub verdict: Verdict,
-    pub area: Option<&'a [u8]>,
-    pub component: Option<&'a [u8]>,
+    pub area: Value<'a>,
+    pub component: Value<'a>,
     /// An offset in bytes.
-    pub position: Option<u64>,
+    pub position: Value<'a>,
     /// A code that later versions keep.
     pub code: &'static str,
     /// A text without tabs and line feeds.
@@ -60,7 +68,7 @@ pub struct Row<'a> {
     /// The number after the text, if any.
     pub detail: Value<'a>,
     /// The name of a second area.
-    pub other: Option<&'a [u8]>,
+    pub other: Value<'a>,
 }
 
 impl<'a> Row<'a> {
@@ -71,12 +79,12 @@ impl<'a> Row<'a> {
         [
             ("verdict", Value::Code(self.verdict.word())),
             ("code", Value::Code(self.code)),
-            ("area", Value::name_or(self.area, Value::Dash)),
-            ("component", Value::name_or(self.component, Value::Dash)),
-            ("position", Value::offset_or_dash(self.position)),
+            ("area", self.area),
+            ("component", self.component),
+            ("position", self.position),
             ("what", Value::Text(self.what)),
             ("value", self.detail),
-            ("other", Value::name_or(self.other, Value::Absent)),
+            ("other", self.other),
         ]
     }
 
@@ -84,14 +92,14 @@ impl<'a> Row<'a> {
     pub fn at(mut self, position: u64) -> Row<'a>
         ensures { seen_row result ≡ rows.row_at position (seen_row self.entry) }
     {
-        self.position = Some(position);
+        self.position = Value::Offset(position);
         self
     }
 
     pub fn in_area(mut self, name: &'a [u8]) -> Row<'a>
         ensures { seen_row result ≡ rows.in_area name.now (seen_row self.entry) }
     {
-        self.area = Some(name);
+        self.area = Value::Name(name);
         self
     }
 
@@ -106,7 +114,7 @@ impl<'a> Row<'a> {
     pub fn of_component(mut self, area: &'a [u8], name: &'a [u8]) -> Row<'a>
         ensures { seen_row result ≡ rows.of_component area.now name.now (seen_row self.entry) }
     {
-        self.component = Some(name);
+        self.component = Value::Name(name);
         self.in_area(area)
     }
 
@@ -127,7 +135,7 @@ impl<'a> Row<'a> {
     pub fn other(mut self, area: &'a NumberedArea) -> Row<'a>
         ensures { seen_row result ≡ rows.with_other area.now (seen_row self.entry) }
     {
-        self.other = Some(area.area.text());
+        self.other = Value::Name(area.area.text());
         self
     }
 }

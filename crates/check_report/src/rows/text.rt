@@ -2,7 +2,7 @@
 ghost use Rattle.std.specs.Prelude.{◌≡◌, ◌++◌, map, IfOk, OnOk};
 ghost use Rattle.std.specs.List.{flat_map};
 ghost use Rattle.std.specs.Fmt.{decimal};
-ghost use Rattle.flash_format.specs.Printed.{printed_name, tab};
+ghost use Rattle.flash_format.specs.Printed.{printed_name};
 ghost use Rattle.check_report.specs.Rows.Fields.{field_text, line_text, seen_field};
 ghost use Rattle.check_report.specs.Rows.Rows.{summary};
 
@@ -34,30 +34,21 @@ fn push_name(text: &mut Vec<u8>, name: &[u8]) -> Result<(), AllocError>
     Ok(())
 }
 
-fn push_tabbed(text: &mut Vec<u8>, part: &[u8]) -> Result<(), AllocError>
-    ensures { OnOk result (text.new.items ≡ text.old.items ++ (tab ++ part.now)) }
-{
-    push(text, b"\t")?;
-    push(text, part)
-}
-
 fn push_field(text: &mut Vec<u8>, field: Field<'_>) -> Result<(), AllocError>
     ensures { OnOk result (text.new.items
         ≡ text.old.items ++ field_text (seen_field field.entry)) }
 {
+    if matches!(field.1, Value::Absent | Value::Code(_)) {
+        return Ok(());
+    }
+    push(text, b"\t")?;
     match field.1 {
         Value::Absent | Value::Code(_) => Ok(()),
-        Value::Dash => push_tabbed(text, b"-"),
-        Value::Text(part) => push_tabbed(text, part.as_bytes()),
-        Value::Name(name) => {
-            push(text, b"\t")?;
-            push_name(text, name)
-        }
-        Value::Count(n) => {
-            push(text, b"\t")?;
-            push_decimal(text, n)
-        }
-        Value::Offset(n) | Value::Hexadecimal(n) => push_tabbed(text, hexadecimal(n).as_slice()),
+        Value::Dash => push(text, b"-"),
+        Value::Text(part) => push(text, part.as_bytes()),
+        Value::Name(name) => push_name(text, name),
+        Value::Count(n) => push_decimal(text, n),
+        Value::Offset(n) | Value::Hexadecimal(n) => push(text, hexadecimal(n).as_slice()),
     }
 }
 

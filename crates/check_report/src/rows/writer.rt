@@ -1,13 +1,9 @@
 //! The rows of a report.
-ghost use Rattle.std.specs.Prelude.{◌≡◌, ◌+◌, ◌≤◌, ◌++◌, ◌∷◌, ◌||◌, [], false, nat_lt, map, IfOk};
-ghost use Rattle.std.specs.Prelude.{OnOk, if◌then◌else◌};
-ghost use Rattle.std.specs.List.{flat_map, list_any};
-ghost use Rattle.flash_device.specs.Device.{fault_count};
-ghost use Rattle.check_report.specs.Faults.{by_sink};
+ghost use Rattle.std.specs.Prelude.{◌≡◌, ◌∷◌, ◌||◌, [], false, nat_lt, map, if◌then◌else◌};
+ghost use Rattle.std.specs.List.{flat_map};
 ghost use Rattle.check_report.specs.Rows.Limits.{more_of, more_row, seen_kind};
-ghost use Rattle.check_report.specs.Rows.Rows.{is_bad_row, row_if, row_line, seen_row};
+ghost use Rattle.check_report.specs.Rows.Rows.{row_if, row_line, seen_row};
 ghost use Rattle.check_report.specs.Rows.Writing.{Adds, Ends, IsSound, PrintsLines};
-ghost use Rattle.check_report.specs.Rows.Writing.{rows_in, rows_then};
 
 use crate::fault::WriteFault;
 use crate::rows::kinds::{Counts, Kind, count_row};
@@ -15,28 +11,17 @@ use crate::rows::printer::Printer;
 use crate::rows::row::Row;
 use flash_device::Sink;
 use std::alloc::Global;
-use std::mem;
-use std::snapshot::Snapshot;
 
 /// The most shown rows of a kind, without `-v`.
 const MOST: u64 = 16;
 
-/// The rows so far, for contracts alone.
-#[derive(Drop)]
-pub enum Rows<'a> {
-    Empty,
-    Then(Row<'a>, Snapshot<Rows<'a>>),
-}
-
 /// A writer that counts rows by kind, and keeps no row.
 #[derive(Drop)]
-pub struct RowWriter<'a, W: Sink + Drop> {
-    printer: Printer<W>,
+pub struct RowWriter<W: Sink + Drop> {
+    pub printer: Printer<W>,
     is_verbose: bool,
     kinds: Vec<Kind>,
     counts: Counts,
-    begun: Snapshot<Printer<W>>,
-    rows: Snapshot<Rows<'a>>,
 }
 
 /// Returns the row for the hidden rows of a kind.
@@ -58,12 +43,6 @@ fn is_shown(is_verbose: bool, before: u64) -> bool
     ensures { result ≡ (is_verbose || nat_lt before 16) }
 {
     is_verbose || before < MOST
-}
-
-fn rows_after<'a>(rows: Snapshot<Rows<'a>>, row: Row<'a>) -> Snapshot<Rows<'a>>
-    ensures { rows_then result.value ≡ rows_then rows.entry.value ++ seen_row row.entry ∷ [] }
-{
-    Snapshot::of(&Rows::Then(row, rows))
 }
 
 impl<W: Sink + Drop> Printer<W> {
@@ -90,15 +69,11 @@ impl<W: Sink + Drop> Printer<W> {
     }
 }
 
-impl<'a, W: Sink + Drop> RowWriter<'a, W> {
-    pub fn new(alloc: Global, printer: Printer<W>, is_verbose: bool) -> RowWriter<'a, W>
-        ensures sound { printer.follows ≡ false → IsSound W.contents result }
-        ensures rows { rows_in result ≡ [] }
-        ensures begun { result.begun.value ≡ printer }
+impl<W: Sink + Drop> RowWriter<W> {
+    pub fn new(alloc: Global, printer: Printer<W>, is_verbose: bool) -> RowWriter<W>
+        ensures sound { printer.follows ≡ false → IsSound W.contents printer is_verbose [] result }
         ensures printer { result.printer ≡ printer }
-        ensures verbose { result.is_verbose ≡ is_verbose }
     {
-        let begun = Snapshot::of(&printer);
         RowWriter {
             printer,
             is_verbose,
@@ -108,25 +83,20 @@ impl<'a, W: Sink + Drop> RowWriter<'a, W> {
                 remarks: 0,
                 changes: 0,
             },
-            begun,
-            rows: Snapshot::of(&Rows::Empty),
         }
     }
 
     /// Adds a row, and prints it unless 16 rows of its kind precede it.
-    pub fn add(&mut self, row: Row<'a>) -> Result<(), WriteFault>
+    pub fn add(&mut self, row: Row<'_>) -> Result<(), WriteFault>
         ensures { Adds W.contents W.faults result self.old self.new (seen_row row.entry ∷ []) }
     {
         let before = count_row(&mut self.kinds, &row)?;
         self.counts = self.counts.with(row.verdict)?;
         let is_shown = is_shown(self.is_verbose, before);
-        self.printer.row_if(is_shown, &row)?;
-        let rows = mem::replace(&mut self.rows, Snapshot::of(&Rows::Empty));
-        self.rows = rows_after(rows, row);
-        Ok(())
+        self.printer.row_if(is_shown, &row)
     }
 
-    pub fn add_if(&mut self, is_there: bool, row: Row<'a>) -> Result<(), WriteFault>
+    pub fn add_if(&mut self, is_there: bool, row: Row<'_>) -> Result<(), WriteFault>
         ensures { Adds W.contents W.faults result self.old self.new
             (row_if is_there (seen_row row.entry)) }
     {
@@ -135,22 +105,10 @@ impl<'a, W: Sink + Drop> RowWriter<'a, W> {
 
     /// Prints the end. Returns whether a row is bad.
     pub fn finish(&mut self) -> Result<bool, WriteFault>
-        ensures bad { IsSound W.contents self.old → IfOk result (λ is_bad.
-            is_bad ≡ list_any is_bad_row (rows_in self.old)) }
-        ensures text { IsSound W.contents self.old → OnOk result
-            (Ends W.contents self.old [] self.new.printer) }
-        ensures cause { W.faults self.old.printer.out + fault_count by_sink result
-            ≤ W.faults self.new.printer.out }
+        ensures { Ends W.contents W.faults result self.old self.new [] }
     {
         self.printer.more(limited(self.is_verbose, &self.kinds))?;
         self.printer.end(self.counts)?;
         Ok(self.counts.bad > 0)
-    }
-
-    pub fn into_inner(self) -> W
-        ensures { result ≡ self.entry.printer.out }
-    {
-        let RowWriter { printer, .. } = self;
-        printer.into_inner()
     }
 }

@@ -1,4 +1,4 @@
-use Rattle.check_report.proofs.SoundRows.{adds_after, adds_both}
+use Rattle.check_report.proofs.SoundRows.{adds_after}
 use Rattle.check_report.proofs.inspection.add_changes.Goals as goal
 
 pub returns : goal.returns
@@ -10,5 +10,5 @@ returns g c =
     let map = rw c.deref-3.ensures.value at c.in_ok-add_map_changes.ensures in
     let areas = rw (c.deref-4.ensures.value, c.deref-5.ensures.value, c.deref-6.ensures.value, kept, vital) at c.in_ok-add_area_changes.ensures in
     let regions = rw (c.deref-7.ensures.value, c.deref-8.ensures.value, kept) at c.in_ok-add_region_changes.ensures in
-    adds_after g.W.Sink.contents g.W.Sink.faults c.add_missing.result _ _ _ _ _ (adds_both (adds_both (adds_both c.in_ok-add_image_changes.ensures map) areas) regions)
+    adds_after (adds_after (adds_after (adds_after c.in_ok-add_image_changes.ensures map) areas) regions)
     (rw (olds, news) at c.add_missing.ensures)

@@ -1,4 +1,4 @@
-use Rattle.std.proofs.Common.{Ok, take}
+use Rattle.std.proofs.Common.{Ok, map, take}
 use Rattle.std.specs.List.{flat_map}
 use Rattle.check_findings.specs.Image.Needs.{wish_of}
 use Rattle.check_report.specs.Rows.Writing.{Adds}
@@ -7,4 +7,4 @@ use Rattle.check_report.proofs.needs.add_needs.Given as goal
 
 abbrev pub invariant-loop-need : goal.invariant-loop-need
 invariant-loop-need g l = Adds g.W.Sink.contents g.W.Sink.faults (Ok tt) l.initial.rows l.rows
-    (flat_map (λ n. need_rows l.findings (wish_of n)) (take l.need-index l.needs))
+    (flat_map (need_rows l.findings) (map wish_of (take l.need-index l.needs)))

@@ -1,4 +1,4 @@
-use Rattle.std.proofs.Common.{Ok, take}
+use Rattle.std.proofs.Common.{Ok, map, take}
 use Rattle.std.specs.List.{flat_map}
 use Rattle.check_report.specs.Rows.Fields.{seen_field}
 use Rattle.check_report.specs.Rows.Reports.{member_tokens}
@@ -6,4 +6,4 @@ use Rattle.check_report.specs.Rows.Writing.{AddsTokens}
 use Rattle.check_report.proofs.rows.document.put_members.Given as goal
 
 abbrev pub invariant-loop-field : goal.invariant-loop-field
-invariant-loop-field l = AddsTokens (Ok tt) l.initial.writer l.writer (flat_map (λ f. member_tokens (seen_field f)) (take l.field-index l.fields))
+invariant-loop-field l = AddsTokens (Ok tt) l.initial.writer l.writer (flat_map member_tokens (map seen_field (take l.field-index l.fields)))
