@@ -1,18 +1,23 @@
 -- The changes of a component, by both listings.
-use Rattle.std.proofs.Common.{◌≡◌, ℕ, ◌+◌, ◌-◌, ◌/◌, ◌<◌, ◌≤◌, Bool, true, false, List, ◌∷◌, [], Some, None, length, take, drop, get_or, refl, arith, add-one, length-drop, length-take}
-use Rattle.std.specs.Prelude.{All, ◌==◌}
+use Rattle.std.proofs.Common.{◌≡◌, ℕ, ◌+◌, ◌-◌, ◌/◌, ◌<◌, ◌≤◌, Bool, true, false, List, ◌∷◌, [], Some, None, Ok, Err, length, take, drop, get_or, refl, subst, arith, add-one, length-drop, length-take}
+use Rattle.std.specs.Prelude.{All, IfOk, Result, ◌==◌}
+use Rattle.std.specs.Result.{MatchResult}
 use Rattle.std.specs.Str.{bytes_eq}
 use Rattle.std.proofs.lemmas.Bool.Decides.{nat_tests}
 use Rattle.std.proofs.lemmas.List.Elements.{All-get_or}
 use Rattle.std.proofs.Math.Seq.{take-suc}
 use Rattle.std.proofs.lemmas.List.Sums.{sum_by-append, sum_by-take-le}
 use Rattle.flash_format.specs.Entry.{name_end}
-use Rattle.flash_device.specs.Device.{Device}
+use Rattle.flash_device.specs.Device.{Device, fault_count}
+use Rattle.flash_device.specs.Pages.{HasRead}
+use Rattle.flash_map.specs.declared.fault.CheckFault.{CheckFault}
+use Rattle.flash_map.specs.Faults.{by_device}
 use Rattle.flash_device.specs.Regions.{LiesIn, Range, bytes_in}
 use Rattle.flash_device.proofs.DeviceLemmas.{length-bytes_in}
 use Rattle.cbfs_walk.specs.Cells.{content_end, content_start}
 use Rattle.cbfs_walk.proofs.Checks.{checks_give}
 use Rattle.check_changes.specs.declared.components.change.Difference.TheVariants.{«Type», Length, Content, Attributes}
+use Rattle.check_changes.specs.declared.fault.ChangeFault.{ChangeFault}
 use Rattle.check_changes.specs.declared.images.Both.{Both}
 use Rattle.check_changes.specs.Components.ComponentChanges.{ComponentState, difference}
 use Rattle.check_changes.specs.declared.components.listing.Listed.{Listed}
@@ -87,3 +92,15 @@ module _ {F G : Type 0} (f : F → Device) (g : G → Device) (size : ℕ) (all 
   reads_all first second =
       let few = spans_part all (i + 1) in
       both-within f g _ _ few few (reads_more first second)
+
+-- ---- two listings
+
+-- the list of a walk without a fault
+pub listed_without : {T : Type 0} (P : T → Type 0) (result : Result T CheckFault) (list : T) → MatchResult result (λ l. ◌≡◌ {A = Result T ChangeFault} (Ok list) (Ok l)) (λ e. ⊥) → IfOk result P → (fault_count by_device result ≡ 0) × P list
+listed_without P (Ok l) list is holds = let same : l ≡ list = cc in (refl, subst P same holds)
+listed_without P (Err fault) list is holds = absurd is
+
+pub reads_listed : {F G : Type 0} (f : F → Device) (g : G → Device) (r : Both Range) (new : List Listed) {k l a b : ℕ} {before mid after : Images F G} → HasRead f (r.old.size / 24 + 2) k before.old_image mid.old_image → HasRead g (r.new.size / 24 + 2) l before.new_image mid.new_image → k ≡ 0 → l ≡ 0
+    → spans new ≤ r.new.size → HasReadBoth f g (spans new / 24) (spans new / 24) a b mid after → HasReadBoth f g ((r.old.size + r.new.size) / 24 + 2) (r.new.size / 12 + 2) a b before after
+reads_listed f g r new of_old of_new old_zero new_zero room read =
+    both-within f g _ _ (omega (arith, room)) (omega (arith, room)) (both-then f g (record { of_old = rw old_zero at of_old; of_new = rw new_zero at of_new }) read)
