@@ -1,17 +1,46 @@
 -- The changes of regions, in the order of their findings.
-use Rattle.std.proofs.Common.{◌≡◌, ◌∙◌, ℕ, ◌+◌, ◌-◌, ◌*◌, ◌/◌, ◌<◌, ◌≤◌, List, [], ◌++◌, length, get_or, drop, refl, sym, ap, add-one, arith, length-append}
+use Rattle.std.proofs.Common.{◌≡◌, ◌∙◌, ℕ, ◌+◌, ◌-◌, ◌*◌, ◌/◌, ◌<◌, ◌≤◌, List, [], ◌∷◌, ◌++◌, Option, Some, length, get_or, drop, refl, sym, ap, add-one, append_assoc, arith, length-append}
 use Rattle.std.proofs.Math.Seq.{drop-cons}
 use Rattle.std.proofs.lemmas.List.{append-nil, drop_all}
 use Rattle.std.proofs.lemmas.List.Sums.{sum_by-append}
+use Rattle.std.proofs.lemmas.Bool.Decides.{nat_tests}
 use Rattle.flash_device.specs.Device.{Device}
+use Rattle.flash_device.specs.Regions.{Range, bytes_in}
 use Rattle.flash_map.specs.declared.areas.NumberedArea.{NumberedArea}
 use Rattle.check_findings.specs.declared.image.finding.ImageFinding.{ImageFinding}
 use Rattle.check_findings.specs.Image.RegionAreas.{region_area, region_areas, sum_sizes}
+use Rattle.check_changes.specs.declared.images.Both.{Both}
 use Rattle.check_changes.specs.declared.images.Images.{Images}
 use Rattle.check_changes.specs.declared.regions.change.RegionChange.{RegionChange}
-use Rattle.check_changes.specs.Images.{HasReadBoth, OnBoth, lengths}
-use Rattle.check_changes.specs.Regions.RegionChanges.{changes_in, region_changes}
+use Rattle.check_changes.specs.declared.regions.change.RegionChange.TheVariants.{Compared}
+use Rattle.check_changes.specs.Areas.AreaChanges.{compared, left_after, namesake}
+use Rattle.check_changes.specs.Components.ComponentChanges.{component_changes}
+use Rattle.check_changes.specs.Images.{HasReadBoth, OnBoth, lengths, lengths_of, regions_within}
+use Rattle.check_changes.specs.Regions.RegionChanges.{changes_in, region_changes, regions_of}
 use Rattle.check_changes.proofs.ImageLemmas.{both-none, both-then, both-within, OnBoth-before}
+
+-- ---- one area
+
+within_size : (lens : Both ℕ) (old new : NumberedArea) (r : Both Range) → regions_within lens old new ≡ Some r → r.new.size ≡ new.area.size
+within_size lens old new r is = grind (arith, nat_tests)
+
+module _ (areas : List NumberedArea) (lens : Both ℕ) (old new : NumberedArea) (one : areas ≡ new ∷ []) (r : Both Range) (given : Option (Both Range)) (left rest : ℕ) (within : given ≡ regions_within lens old new) where
+  -- the reads of a compared area
+  pub reads_first : {F G : Type 0} (f : F → Device) (g : G → Device) {a b : ℕ} {before after : Images F G} → (given ≡ Some r) × (rest + r.old.size ≡ left) → HasReadBoth f g ((r.old.size + r.new.size) / 24 + 2) (r.new.size / 12 + 2) a b before after
+      → HasReadBoth f g ((left - rest + sum_sizes areas) / 24 + 2 * length areas) (sum_sizes areas / 12 + 2 * length areas) a b before after
+  reads_first f g taken read =
+      let size = within_size lens old new r (sym within ∙ taken.0) in
+      rw one (both-within f g _ _ (omega (arith, size, taken.1)) (omega (arith, size)) read)
+
+  -- its changes, before those of later areas
+  pub compared_first : (x y : List ℕ) (olds : List NumberedArea) (before after : List RegionChange) (later : List NumberedArea) → Some old ≡ namesake new olds → lens ≡ lengths_of x y
+      → Some r ≡ compared left given → rest ≡ left_after left given → after ≡ before ++ Compared new (component_changes (bytes_in r.old x) (bytes_in r.new y)) ∷ []
+      → after ++ changes_in rest x y olds later ≡ before ++ changes_in left x y olds (areas ++ later)
+  compared_first x y olds before after later named len is less pushed =
+      let at : regions_of (lengths_of x y) olds new ≡ given = rw (← named, within, len) refl in
+      rw (one, at, ← less, ← is, pushed) (append_assoc before (Compared new (component_changes (bytes_in r.old x) (bytes_in r.new y)) ∷ []) (changes_in rest x y olds later))
+
+-- ---- the loop
 
 module _ {F G : Type 0} (f : F → Device) (g : G → Device) (olds : List NumberedArea) (findings : List ImageFinding) where
   -- the changes of the first i findings are listed, with `left` bytes of the old image for comparisons
@@ -60,6 +89,24 @@ module _ {F G : Type 0} (f : F → Device) (g : G → Device) (olds : List Numbe
             ∙ ap (λ (l : List NumberedArea). changes ++ changes_in left (f old.old_image.device).content (g old.new_image.device).content olds l) (sym split)
             ∙ had.listed h k;
       }
+
+  -- the reads after some findings, or up to a fault in the next one
+  abbrev pub HasReadAll : ℕ → ℕ → Images F G → Images F G → Type 0
+  HasReadAll a b old new =
+      HasReadBoth f g (((lengths f g old).old + 8 * (lengths f g old).new) / 24 + 2 * length (region_areas findings)) (8 * (lengths f g old).new / 12 + 2 * length (region_areas findings)) a b old new
+
+  pub reads_all : {i left : ℕ} {changes : List RegionChange} {old new : Images F G} → sum_sizes (region_areas findings) ≤ 8 * (lengths f g old).new → Changing i left changes old new → HasReadAll 0 0 old new
+  reads_all total had = both-within f g _ _ (omega (arith, total, had.all_sizes, had.all)) (omega (arith, total, had.all_sizes, had.all)) had.read
+
+  pub reads_stopped : {i left a b : ℕ} (rest : ℕ) (d : ImageFinding) {changes : List RegionChange} {old mid new : Images F G} → sum_sizes (region_areas findings) ≤ 8 * (lengths f g old).new → Changing i left changes old mid → i < length findings → rest ≤ left
+      → HasReadBoth f g ((left - rest + sum_sizes (areas_at i d)) / 24 + 2 * length (areas_at i d)) (sum_sizes (areas_at i d) / 12 + 2 * length (areas_at i d)) a b mid new → HasReadAll a b old new
+  reads_stopped {i} {left} rest d total had lt fewer read =
+      let here = areas_at i d in
+      let later = region_areas (drop (i + 1) findings) in
+      let split : region_areas (drop i findings) ≡ here ++ later = rw (add-one, drop-cons findings i d lt) refl in
+      let sizes : had.sizes + sum_sizes here ≤ sum_sizes (region_areas findings) = omega (arith, had.all_sizes, ap sum_sizes split, sum_by-append (λ (a : NumberedArea). a.area.size) here later) in
+      let count : had.count + length here ≤ length (region_areas findings) = omega (arith, had.all, ap length split, length-append here later) in
+      both-within f g _ _ (omega (arith, had.within, fewer, total, sizes, count)) (omega (arith, total, sizes, count)) (both-then f g had.read read)
 
   -- all findings
   pub changing_all : {i left : ℕ} {changes : List RegionChange} {old new : Images F G} → Changing i left changes old new → length findings ≤ i

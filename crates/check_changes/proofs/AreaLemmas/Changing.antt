@@ -1,6 +1,19 @@
 -- The changes of areas, in order.
 use Rattle.std.proofs.Common.{◌≡◌, ◌∙◌, ℕ, ◌+◌, ◌<◌, ◌≤◌, List, [], ◌++◌, length, drop, get_or, map, refl, sym, ap, add-one, append_assoc}
+use Rattle.std.specs.Prelude.{Option, Some, nat_lt}
 use Rattle.std.specs.List.{flat_map}
+use Rattle.flash_device.specs.Device.{Device}
+use Rattle.flash_device.specs.Regions.{Range}
+use Rattle.check_changes.specs.Lists.{only_if}
+use Rattle.check_changes.specs.declared.areas.change.AreaChange.{AreaChange}
+use Rattle.check_changes.specs.declared.areas.change.AreaChange.TheVariants.{Differs}
+use Rattle.check_changes.specs.declared.images.Both.{Both}
+use Rattle.check_changes.specs.Areas.Blocks.{blocks_of, count_below}
+use Rattle.check_changes.specs.declared.areas.pairs.AreaPair.{AreaPair}
+use Rattle.check_changes.specs.declared.images.Images.{Images}
+use Rattle.check_changes.specs.Areas.AreaChanges.{changes_in, compared, content_changes, entry_changes, is_difference, is_own_difference, left_after, regions_of}
+use Rattle.check_changes.specs.Images.{HasReadBoth, OnBoth, lengths, lengths_of}
+use Rattle.check_changes.proofs.ImageLemmas.{OnBoth-before}
 use Rattle.std.proofs.Math.Seq.{drop-cons}
 use Rattle.std.proofs.lemmas.List.{append-nil, drop_all}
 
@@ -16,6 +29,31 @@ flat_map-more f h xs i d before after all lt pushed so_far =
 -- all elements
 pub flat_map-all : {X Y Z : Type 0} (f : Y → List Z) (h : X → Y) (xs : List X) (i : ℕ) (before all : List Z) → length xs ≤ i → before ++ flat_map f (map h (drop i xs)) ≡ all → before ≡ all
 flat_map-all f h xs i before all end is = sym (append-nil before) ∙ ap (λ l. before ++ flat_map f (map h l)) (sym (drop_all i xs end)) ∙ is
+
+-- the change of a compared area
+pub content_compared : (x y : List ℕ) (pairs : List AreaPair) (p : AreaPair) (left : ℕ) (lens : Both ℕ) (given : Option (Both Range)) (r : Both Range) (len blocks own : ℕ) → lens ≡ lengths_of x y → given ≡ regions_of lens p → Some r ≡ compared left given → len ≡ blocks_of r.old.size
+    → blocks ≡ count_below (is_difference x y r) len → own ≡ count_below (is_own_difference x y pairs r) len → only_if (nat_lt 0 blocks) (Differs p.new blocks own) ≡ content_changes x y pairs p (compared left (regions_of (lengths_of x y) p))
+content_compared x y pairs p left lens given r len blocks own lens_are within is long counted own_counted =
+    let at : regions_of (lengths_of x y) p ≡ given = rw (within, lens_are) refl in
+    rw (at, ← is, counted, own_counted, long) refl
+
+-- another pair
+module _ {F G : Type 0} (f : F → Device) (g : G → Device) (pairs : List AreaPair) where
+  pub changes_in-more : {i m n rest : ℕ} (left : ℕ) (d : AreaPair) (before : List AreaChange) {mid after : List AreaChange} {old now : Images F G} (all : List ℕ → List ℕ → List AreaChange) → i < length pairs
+      → HasReadBoth f g m n 0 0 old now → OnBoth f g old (λ x y. before ++ changes_in left x y pairs (drop i pairs) ≡ all x y)
+      → mid ≡ before ++ entry_changes (get_or pairs i d).old (get_or pairs i d).new → rest ≡ left_after left (regions_of (lengths f g now) (get_or pairs i d))
+      → OnBoth f g now (λ x y. after ≡ mid ++ content_changes x y pairs (get_or pairs i d) (compared left (regions_of (lengths_of x y) (get_or pairs i d))))
+      → OnBoth f g old (λ x y. after ++ changes_in rest x y pairs (drop (i + 1) pairs) ≡ all x y)
+  changes_in-more {i} {m} {n} {rest} left d before {mid} {after} {old} {now} all lt read so_far entered less pushed = λ h k.
+      let p = get_or pairs i d in
+      let x = (f old.old_image.device).content in
+      let y = (g old.new_image.device).content in
+      let here = entry_changes p.old p.new in
+      let content = content_changes x y pairs p (compared left (regions_of (lengths_of x y) p)) in
+      let later = changes_in rest x y pairs (drop (i + 1) pairs) in
+      let told = OnBoth-before f g (λ x y. (rest ≡ left_after left (regions_of (lengths_of x y) p)) × (after ≡ mid ++ content_changes x y pairs p (compared left (regions_of (lengths_of x y) p)))) read (λ h k. (less, pushed h k)) h k in
+      let split : changes_in left x y pairs (drop i pairs) ≡ (here ++ content) ++ later = rw (told.0, add-one, drop-cons pairs i d lt) refl in
+      rw (told.1, entered, append_assoc before here content, append_assoc before (here ++ content) later, ← split) (so_far h k)
 
 -- two lists, one after the other
 pub pushed-both : {X : Type 0} (first second all xs ys : List X) → first ≡ [] → second ≡ first ++ xs → all ≡ second ++ ys → all ≡ xs ++ ys

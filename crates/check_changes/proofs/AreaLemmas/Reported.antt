@@ -18,7 +18,7 @@ use Rattle.check_changes.specs.declared.areas.change.AreaChange.{AreaChange}
 use Rattle.check_changes.specs.declared.areas.pairs.AreaPair.{AreaPair}
 use Rattle.check_changes.specs.declared.images.Both.{Both}
 use Rattle.check_changes.specs.Areas.Blocks.{blocks_of, block, differs, count_below}
-use Rattle.check_changes.specs.Areas.AreaChanges.{pairs, regions_of, holds, is_held, is_difference, is_own_difference, all_blocks, own_blocks, compared, content_changes, left_after, entry_changes, changes_in, gone_of, area_changes}
+use Rattle.check_changes.specs.Areas.AreaChanges.{pairs, regions_of, holds, is_held, is_difference, is_own_difference, blocks_that, compared, content_changes, left_after, entry_changes, changes_in, gone_of, area_changes}
 use Rattle.check_changes.specs.Areas.Laws.{has_byte, reports, DifferAt, DifferencesAreReported}
 
 -- ---- one block
@@ -71,7 +71,7 @@ module _ (x y : List ℕ) (all : List AreaPair) where
   changes_in-reports at left (q ∷ ps) p (suc k, lt, is) here =
       any-right (reports at) (pair_changes left q) _ (changes_in-reports at (left_after left (regions_of (lengths_of x y) q)) ps p (k, omega (arith, lt), is) here)
 
-  content-reports : (at left : ℕ) (old new : NumberedArea) → old.area.size ≡ new.area.size → has_byte new at ≡ true → 0 < all_blocks x y (ranges old new) → 0 < own_blocks x y all (ranges old new) → (fits : Bool)
+  content-reports : (at left : ℕ) (old new : NumberedArea) → old.area.size ≡ new.area.size → has_byte new at ≡ true → 0 < blocks_that (is_difference x y (ranges old new)) (ranges old new) → 0 < blocks_that (is_own_difference x y all (ranges old new)) (ranges old new) → (fits : Bool)
       → list_any (reports at) (content_changes x y all (pair old new) (if fits then Some (ranges old new) else None)) ≡ true
   content-reports at left old new same has some own fits = grind (arith, nat_tests)
 

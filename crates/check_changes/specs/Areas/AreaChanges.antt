@@ -61,12 +61,9 @@ abbrev pub is_own_difference : List ℕ → List ℕ → List AreaPair → Both 
 is_own_difference x y pairs r number =
     is_difference x y r number && not (is_held (lengths_of x y) pairs r number)
 
--- the numbers of different blocks, with and without blocks of smaller pairs
-abbrev pub all_blocks : List ℕ → List ℕ → Both Range → ℕ
-all_blocks x y r = count_below (is_difference x y r) (blocks_of r.old.size)
-
-abbrev pub own_blocks : List ℕ → List ℕ → List AreaPair → Both Range → ℕ
-own_blocks x y pairs r = count_below (is_own_difference x y pairs r) (blocks_of r.old.size)
+-- the number of blocks of a region that pass a test
+abbrev pub blocks_that : (ℕ → Bool) → Both Range → ℕ
+blocks_that test r = count_below test (blocks_of r.old.size)
 
 abbrev pub entry_changes : Option NumberedArea → NumberedArea → List AreaChange
 entry_changes None b = Added b ∷ []
@@ -101,8 +98,9 @@ abbrev pub content_changes : List ℕ → List ℕ → List AreaPair → AreaPai
     → List AreaChange
 content_changes x y pairs p None = only_if (is_same_size p) (NotCompared p.new)
 content_changes x y pairs p (Some r) =
-    only_if (nat_lt 0 (all_blocks x y r))
-    (Differs p.new (all_blocks x y r) (own_blocks x y pairs r))
+    let blocks = blocks_that (is_difference x y r) r in
+    only_if (nat_lt 0 blocks)
+    (Differs p.new blocks (blocks_that (is_own_difference x y pairs r) r))
 
 -- the changes of some pairs, with `left` bytes for comparisons
 abbrev pub changes_in : ℕ → List ℕ → List ℕ → List AreaPair → List AreaPair → List AreaChange

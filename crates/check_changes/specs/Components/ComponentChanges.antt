@@ -70,7 +70,7 @@ change_of old new c = if is_first_of new c then change_by (first_of c.name old) 
 abbrev pub removal_of : List ComponentState → List ComponentState → ComponentState
     → List ComponentChange
 removal_of old new c =
-    only_if (is_first_of old c && is_none (first_of c.name new)) (Removed c.at c.name)
+    only_if (is_none (first_of c.name new) && is_first_of old c) (Removed c.at c.name)
 
 -- changes in the order of the new region, then removals in the order of the old region
 unfoldable pub changes_between : List ComponentState → List ComponentState → List ComponentChange

@@ -8,7 +8,7 @@ ghost use Rattle.check_changes.specs.Images.{HasCompared, OnBoth, lengths, lengt
 
 use crate::areas::blocks::{Differing, blocks_of, different_in};
 use crate::areas::change::AreaChange;
-use crate::areas::names::NamedAreas;
+use crate::areas::names::{NamedAreas, NamedBoth};
 use crate::areas::pairs::{AreaPair, pairs, push_gone};
 use crate::fault::ChangeFault;
 use crate::images::{Both, Images, taken, whole};
@@ -84,6 +84,24 @@ fn push_changes<F: Flash, G: Flash>(
     Ok(())
 }
 
+fn area_changes<'a, F: Flash, G: Flash>(
+    alloc: Global,
+    images: &mut Images<F, G>,
+    areas: &NamedBoth<'a>,
+) -> Result<Vec<AreaChange>, ChangeFault>
+    ensures after { HasCompared F.facts G.facts
+        (8 * (lengths F.facts G.facts images.old).new / 4096 + length areas.now.new.all.now)
+        images.old images.new result }
+    ensures changes { OnBoth F.facts G.facts images.old (λ x y. IfOk result (λ changes.
+        changes.items ≡ area_changes x areas.now.old.all.now y areas.now.new.all.now)) }
+{
+    let pairs = pairs(alloc, areas)?;
+    let mut changes = Vec::new(alloc);
+    push_changes(&mut changes, images, &pairs)?;
+    push_gone(&mut changes, areas)?;
+    Ok(changes)
+}
+
 fn different_blocks<F: Flash, G: Flash>(images: &mut Images<F, G>) -> Result<u32, ChangeFault>
     ensures after { HasCompared F.facts G.facts
         (blocks_of (lengths F.facts G.facts images.old).new) images.old images.new result }
@@ -132,14 +150,10 @@ pub fn image_changes<'a, F: Flash, G: Flash>(
         changes.areas.items ≡ area_changes x areas.entry.old.now y areas.entry.new.now)) }
 {
     let blocks = different_blocks(images)?;
-    let old = NamedAreas::of(alloc, areas.old)?;
-    let new = NamedAreas::of(alloc, areas.new)?;
-    let pairs = pairs(alloc, &old, &new)?;
-    let mut changes = Vec::new(alloc);
-    push_changes(&mut changes, images, &pairs)?;
-    push_gone(&mut changes, &old, &new)?;
-    Ok(ImageChanges {
-        blocks,
-        areas: changes,
-    })
+    let areas = NamedBoth {
+        old: NamedAreas::of(alloc, areas.old)?,
+        new: NamedAreas::of(alloc, areas.new)?,
+    };
+    let areas = area_changes(alloc, images, &areas)?;
+    Ok(ImageChanges { blocks, areas })
 }

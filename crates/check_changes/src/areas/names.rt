@@ -4,6 +4,7 @@ ghost use Rattle.std.proofs.Props.{props};
 ghost use Rattle.flash_map.specs.Names.{Notes};
 ghost use Rattle.check_changes.specs.Areas.AreaChanges.{is_reached, namesake};
 
+use crate::images::Both;
 use flash_map::{AreaNames, NumberedArea};
 use std::alloc::{AllocError, Global};
 
@@ -14,6 +15,9 @@ pub struct NamedAreas<'a> {
     names: AreaNames<'a>,
     ghost notes: { Notes names all.now } by { Prim.hlevel props },
 }
+
+/// The areas of both maps.
+pub type NamedBoth<'a> = Both<NamedAreas<'a>>;
 
 impl<'a> NamedAreas<'a> {
     pub fn of(alloc: Global, all: &'a [NumberedArea]) -> Result<NamedAreas<'a>, AllocError>

@@ -5,7 +5,7 @@ ghost use Rattle.check_changes.specs.Areas.AreaChanges.{pairs, gone_of, regions_
 ghost use Rattle.check_changes.specs.Images.{LieWithin};
 
 use crate::areas::change::AreaChange;
-use crate::areas::names::NamedAreas;
+use crate::areas::names::NamedBoth;
 use crate::images::{Lengths, RegionPair, regions_within};
 use crate::lists::push_if;
 use flash_device::PIECE;
@@ -70,36 +70,29 @@ pub fn is_held(pairs: &[AreaPair], lens: Lengths, outer: RegionPair, number: u64
 }
 
 /// Returns the first new area of each name, in order, with its first old namesake.
-pub fn pairs<'a>(
-    alloc: Global,
-    old: &NamedAreas<'a>,
-    new: &NamedAreas<'a>,
-) -> Result<Vec<AreaPair>, AllocError>
-    ensures found { IfOk result (λ found. found.items ≡ pairs old.now.all.now new.now.all.now) }
-    ensures count { IfOk result (λ found. length found.items ≤ length new.now.all.now) }
+pub fn pairs<'a>(alloc: Global, areas: &NamedBoth<'a>) -> Result<Vec<AreaPair>, AllocError>
+    ensures found { IfOk result (λ found. found.items
+        ≡ pairs areas.now.old.all.now areas.now.new.all.now) }
+    ensures count { IfOk result (λ found. length found.items ≤ length areas.now.new.all.now) }
 {
     let mut pairs = Vec::new(alloc);
-    for area in new.all {
+    for area in areas.new.all {
         let pair = AreaPair {
-            old: old.namesake(area),
+            old: areas.old.namesake(area),
             new: *area,
         };
-        push_if(&mut pairs, new.is_first(area), pair)?;
+        push_if(&mut pairs, areas.new.is_first(area), pair)?;
     }
     Ok(pairs)
 }
 
 /// Pushes the old areas without a new namesake, the first of each name.
-pub fn push_gone<'a>(
-    changes: &mut Vec<AreaChange>,
-    old: &NamedAreas<'a>,
-    new: &NamedAreas<'a>,
-) -> Result<(), AllocError>
+pub fn push_gone<'a>(changes: &mut Vec<AreaChange>, areas: &NamedBoth<'a>) -> Result<(), AllocError>
     ensures { OnOk result (changes.new.items ≡ changes.old.items
-        ++ flat_map (gone_of old.now.all.now new.now.all.now) old.now.all.now) }
+        ++ flat_map (gone_of areas.now.old.all.now areas.now.new.all.now) areas.now.old.all.now) }
 {
-    for area in old.all {
-        let is_gone = old.is_first(area) && new.namesake(area).is_none();
+    for area in areas.old.all {
+        let is_gone = areas.old.is_first(area) && areas.new.namesake(area).is_none();
         push_if(changes, is_gone, AreaChange::Gone(*area))?;
     }
     Ok(())

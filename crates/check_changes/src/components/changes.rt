@@ -115,7 +115,7 @@ fn push_if_removed<'a>(
         ++ removal_of (states_in x lists.now.old.all.now) (states_in y lists.now.new.all.now)
         (state_in x listed.now)) }
 {
-    if lists.old.is_first(listed) && lists.new.namesake(listed).is_none() {
+    if lists.new.namesake(listed).is_none() && lists.old.is_first(listed) {
         let (at, name) = (listed.cell.at, listed.copied_name(alloc)?);
         changes.push(ComponentChange::Removed { at, name })?;
     }

@@ -21,7 +21,7 @@ pub struct Listing<'a> {
     pub region: Region,
     pub all: &'a [Listed],
     first: Firsts<'a>,
-    ghost notes: { Notes region.size first all.now } by { Prim.hlevel props },
+    ghost notes: { Notes first all.now } by { Prim.hlevel props },
     ghost cells: { All (IsListedIn region.size) all.now } by { Prim.hlevel props },
 }
 
@@ -56,8 +56,8 @@ pub fn with_firsts<'a>(
     ensures region { IfOk result (λ l. l.region ≡ region) }
     ensures all { IfOk result (λ l. l.all.now ≡ all.now) }
 {
-    let mut first = HashMap::with_hasher(alloc, keys);
     let mut left = all.len();
+    let mut first = HashMap::with_capacity_and_hasher(alloc, left, keys)?;
     // Backwards: the first component replaces later namesakes.
     while left > 0 {
         left -= 1;
@@ -67,8 +67,8 @@ pub fn with_firsts<'a>(
 }
 
 fn note<'a>(first: &mut Firsts<'a>, listed: &'a Listed) -> Result<(), AllocError>
-    ensures { (size : ℕ) (behind : List Listed) → IsListedIn size listed.now
-        → Notes size first.old behind → OnOk result (Notes size first.new (listed.now ∷ behind)) }
+    ensures { (behind : List Listed) → Notes first.old behind
+        → OnOk result (Notes first.new (listed.now ∷ behind)) }
 {
     first.insert(listed.name.as_slice(), listed)?;
     Ok(())

@@ -6,5 +6,5 @@ use Rattle.check_changes.proofs.areas.pairs.pairs.Given as goal
 abbrev pub invariant-loop-area : goal.invariant-loop-area
 invariant-loop-area l = record {
   count : length l.pairs.items ≤ l.area-index;
-  found : l.pairs.items ++ flat_map (pair_of l.old.all.now l.new.all.now) (drop l.area-index l.new.all.now) ≡ pairs l.old.all.now l.new.all.now;
+  found : l.pairs.items ++ flat_map (pair_of l.areas.old.all.now l.areas.new.all.now) (drop l.area-index l.areas.new.all.now) ≡ pairs l.areas.old.all.now l.areas.new.all.now;
 }

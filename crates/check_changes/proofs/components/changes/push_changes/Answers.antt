@@ -1,23 +1,17 @@
-use Rattle.std.proofs.Common.{◌≡◌, ◌+◌, ◌/◌, ◌++◌, get_or, rules}
-use Rattle.flash_device.specs.Device.{fault_count}
+use Rattle.std.proofs.Common.{◌≡◌, ◌++◌, get_or}
 use Rattle.flash_device.specs.Regions.{bytes_in}
 use Rattle.check_changes.specs.Components.ComponentChanges.{change_of}
 use Rattle.check_changes.specs.Components.Listings.{state_in, states_in}
-use Rattle.check_changes.specs.Images.{HasReadBoth}
-use Rattle.check_changes.specs.Faults.{by_new, by_old}
 use Rattle.check_changes.proofs.AreaLemmas.Changing.{flat_map-all, flat_map-more}
 use Rattle.check_changes.proofs.ComponentLemmas.ChangeLemmas.{reads_all, reads_more, spans_part}
-use Rattle.check_changes.proofs.ImageLemmas.{both-within, OnBoth-before}
+use Rattle.check_changes.proofs.ImageLemmas.{both-handed, both-within, OnBoth-before}
 use Rattle.check_changes.proofs.components.changes.push_changes.Goals as goal
 
 pub returns-in_err-push_changes_of-clause-after : goal.returns-in_err-push_changes_of-clause-after
 returns-in_err-push_changes_of-clause-after g c =
     let new = c.args.lists.now.new in
-    let i = c.loop-listed.listed-index in
-    let result = c.from_residual.result in
-    let n = 2 + (get_or new.all.now i c.listed-item.result).cell.span / 4096 in
-    let step : HasReadBoth g.F.Flash.facts g.G.Flash.facts n n (fault_count by_old result) (fault_count by_new result) c.loop-listed.images c.push_changes_of.new.images = search rules in
-    reads_all _ _ _ new.all.now new.cells i c.listed-item.result c.loop-listed-test.true c.loop-listed.invariant.read step
+    let step = rw c.listed-item.is at c.in_err-push_changes_of.ensures.after in
+    both-handed _ _ _ _ c.from_residual.ensures.1 (reads_all _ _ _ new.all.now new.cells c.loop-listed.listed-index c.listed-item.result c.loop-listed-test.true c.loop-listed.invariant.read step)
 
 pub loop-listed-preserved : goal.loop-listed-preserved
 loop-listed-preserved g c =

@@ -5,7 +5,7 @@ use Rattle.check_changes.proofs.components.first.with_firsts.Goals as goal
 pub loop-left-init : goal.loop-left-init
 loop-left-init c = record {
   inside = omega arith;
-  notes = notes-none c.args.region.size c.with_hasher-first.result c.args.all.now c.with_hasher-first.ensures.empty;
+  notes = notes-none c.in_ok-first.first c.args.all.now c.in_ok-first.ensures.empty;
 }
 
 pub loop-left-preserved : goal.loop-left-preserved
@@ -13,5 +13,5 @@ loop-left-preserved c =
     let had = c.loop-left.invariant in
     record {
       inside = omega (arith, had.inside);
-      notes = notes-more c.loop-left.first c.note.new.first c.args.region.size c.args.all.now c.loop-left.left (c.loop-left.left - 1) c.index-all-left.result (omega arith) had.inside c.index-all-left.is c.requires c.in_ok-note.ensures had.notes;
+      notes = notes-more c.loop-left.first c.note.new.first c.args.all.now c.loop-left.left (c.loop-left.left - 1) c.index-all-left.result (omega arith) had.inside c.index-all-left.is c.in_ok-note.ensures had.notes;
     }

@@ -5,7 +5,7 @@ use Rattle.check_changes.proofs.components.first.with_firsts.Given as goal
 abbrev pub invariant-loop-left : goal.invariant-loop-left
 invariant-loop-left l = record {
   inside : l.left ≤ length l.all;
-  notes : Notes l.region.size l.first (drop l.left l.all);
+  notes : Notes l.first (drop l.left l.all);
 }
 
 abbrev pub decreases-loop-left : goal.decreases-loop-left

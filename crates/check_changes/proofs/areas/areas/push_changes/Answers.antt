@@ -1,0 +1,21 @@
+use Rattle.std.proofs.Common.{◌+◌, ◌-◌, ◌*◌, ◌/◌, ◌≤◌, ◌++◌, length, arith}
+use Rattle.check_changes.specs.Areas.AreaChanges.{changes_in}
+use Rattle.check_changes.proofs.AreaLemmas.Changing.{changes_in-more}
+use Rattle.check_changes.proofs.ImageLemmas.{both-handed, both-then, both-within}
+use Rattle.check_changes.proofs.areas.areas.push_changes.Goals as goal
+
+pub returns-in_err-push_content_changes-clause-after : goal.returns-in_err-push_content_changes-clause-after
+returns-in_err-push_content_changes-clause-after g c =
+    let had = c.loop-pair.invariant in
+    let done = c.in_err-push_content_changes.ensures in
+    both-handed _ _ _ _ c.from_residual-in_err-push_content_changes.ensures.1 (both-within _ _ _ _ (omega (arith, had.within, done.fewer)) (omega (arith, had.within, done.fewer)) (both-then _ _ had.read done.after))
+
+pub loop-pair-preserved : goal.loop-pair-preserved
+loop-pair-preserved g c =
+    let had = c.loop-pair.invariant in
+    let done = c.in_ok-push_content_changes.ensures in
+    record {
+      within = omega (arith, had.within, done.fewer);
+      read = both-within _ _ _ _ (omega (arith, had.within, done.fewer)) (omega (arith, had.within, done.fewer)) (both-then _ _ had.read done.after);
+      changes = changes_in-more _ _ c.args.pairs.now _ _ _ (λ x y. c.args.changes.now.items ++ changes_in (8 * length y) x y c.args.pairs.now c.args.pairs.now) c.loop-pair-test.true had.read had.changes c.in_ok-push_entry_changes.ensures done.left done.changes;
+    }
