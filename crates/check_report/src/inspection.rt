@@ -139,6 +139,7 @@ impl Inspection {
         }
     }
 
+    #[tactic(auto, using(crate::proofs::SoundRows::ends_after))]
     fn print_rows<W: Sink + Drop>(
         &self,
         alloc: Global,
