@@ -5,13 +5,13 @@ ghost use Rattle.check_findings.specs.Region.RegionFindings.{all_marked};
 ghost use Rattle.check_findings.specs.Region.Reports.{mark_at};
 
 use crate::lists::{Pushed, push_if};
-use crate::region::finding::RegionFinding;
+use crate::region::finding::{Name, RegionFinding};
 use std::alloc::{AllocError, Global};
 use std::collections::HashSet;
 use std::hash::RandomState;
 
 /// Names, hashed with random keys, since an image's author chooses names.
-type Names<'a> = HashSet<&'a [u8], RandomState>;
+type Names<'a> = HashSet<&'a Name, RandomState>;
 
 /// Returns their indices.
 fn shadowed(
@@ -26,7 +26,7 @@ fn shadowed(
     let mut indices = Vec::new(alloc);
     for i in 0..findings.len() {
         if let RegionFinding::Component { name, .. } = &findings[i] {
-            let is_new = names.insert(name.as_slice())?;
+            let is_new = names.insert(name)?;
             push_if(&mut indices, !is_new, i)?;
         }
     }
