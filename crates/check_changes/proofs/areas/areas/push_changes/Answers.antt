@@ -1,4 +1,4 @@
-use Rattle.std.proofs.Common.{◌+◌, ◌-◌, ◌*◌, ◌/◌, ◌≤◌, ◌++◌, length, arith}
+use Rattle.std.proofs.Common.{◌*◌, ◌++◌, length, arith}
 use Rattle.check_changes.specs.declared.fault.ChangeFault.TheVariants as faults
 use Rattle.check_changes.specs.Areas.AreaChanges.{changes_in}
 use Rattle.check_changes.proofs.AreaLemmas.Changing.{changes_in-more}
