@@ -14,7 +14,7 @@ use Rattle.flash_map.specs.declared.fault.CheckFault.{CheckFault}
 use Rattle.flash_map.specs.Faults.{by_device}
 use Rattle.flash_device.specs.Regions.{LiesIn, Range, bytes_in}
 use Rattle.flash_device.proofs.DeviceLemmas.{length-bytes_in}
-use Rattle.cbfs_walk.specs.Cells.{content_end, content_start}
+use Rattle.cbfs_walk.specs.Cells.{attributes_start, content_end, content_start}
 use Rattle.cbfs_walk.proofs.Checks.{checks_give}
 use Rattle.check_changes.specs.declared.components.change.Difference.TheVariants.{«Type», Length, Content, Attributes}
 use Rattle.check_changes.specs.declared.fault.ChangeFault.{ChangeFault}
@@ -67,6 +67,20 @@ module _ {F G : Type 0} (f : F → Device) (g : G → Device) (images : Images F
 
       pub no_difference : bytes_eq o.content n.content ≡ true → bytes_eq o.attributes n.attributes ≡ true → None ≡ difference o n
       no_difference content same = rw (equal_as o.kind n.kind true (λ e. kind) (λ e. refl), same_lengths true (λ e. len) (λ e. refl), content, same) refl
+
+-- ---- the reads of a comparison
+
+module _ {F G : Type 0} (f : F → Device) (g : G → Device) (size : ℕ) (l : Listed) (is : IsListedIn size l) (from to : ℕ) (begins : from ≡ content_start l.cell) (ends : to ≡ content_end l.cell) where
+  pub reads_content : {a b : ℕ} {before after : Images F G} → HasReadBoth f g (1 + (to - from) / 4096) (1 + (to - from) / 4096) a b before after → HasReadBoth f g (2 + l.cell.span / 4096) (2 + l.cell.span / 4096) a b before after
+  reads_content read =
+      let few : 1 + (to - from) / 4096 ≤ 2 + l.cell.span / 4096 = omega (arith, is.cell.content) in
+      both-within f g _ _ few few read
+
+  pub reads_parts : (start end : ℕ) {a b : ℕ} {before mid after : Images F G} → start ≡ attributes_start l.cell → end ≡ content_start l.cell → HasReadBoth f g (1 + (to - from) / 4096) (1 + (to - from) / 4096) 0 0 before mid
+      → HasReadBoth f g (1 + (end - start) / 4096) (1 + (end - start) / 4096) a b mid after → HasReadBoth f g (2 + l.cell.span / 4096) (2 + l.cell.span / 4096) a b before after
+  reads_parts start end starts stops first second =
+      let few : 1 + (to - from) / 4096 + (1 + (end - start) / 4096) ≤ 2 + l.cell.span / 4096 = omega (arith, is.cell.content, name_first size l is) in
+      both-within f g _ _ few few (both-then f g first second)
 
 -- ---- component by component
 

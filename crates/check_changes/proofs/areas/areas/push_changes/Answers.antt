@@ -1,8 +1,19 @@
-use Rattle.std.proofs.Common.{◌+◌, ◌-◌, ◌*◌, ◌/◌, ◌≤◌, ◌++◌, length, arith}
+use Rattle.std.proofs.Common.{◌*◌, ◌++◌, length, arith}
+use Rattle.check_changes.specs.declared.fault.ChangeFault.TheVariants as faults
 use Rattle.check_changes.specs.Areas.AreaChanges.{changes_in}
 use Rattle.check_changes.proofs.AreaLemmas.Changing.{changes_in-more}
 use Rattle.check_changes.proofs.ImageLemmas.{both-handed, both-then, both-within}
 use Rattle.check_changes.proofs.areas.areas.push_changes.Goals as goal
+
+pub returns-in_err-push_entry_changes-clause-after : goal.returns-in_err-push_entry_changes-clause-after
+returns-in_err-push_entry_changes-clause-after g c =
+    let had = c.loop-pair.invariant in
+    both-handed _ _ _ faults.Memory c.from_residual.ensures.1 (both-within _ _ _ _ (omega (arith, had.within)) (omega (arith, had.within)) had.read)
+
+pub returns-clause-after : goal.returns-clause-after
+returns-clause-after g c =
+    let had = c.loop-pair.invariant in
+    both-within _ _ _ _ (omega (arith, had.within)) (omega (arith, had.within)) had.read
 
 pub returns-in_err-push_content_changes-clause-after : goal.returns-in_err-push_content_changes-clause-after
 returns-in_err-push_content_changes-clause-after g c =

@@ -1,4 +1,4 @@
-use Rattle.std.proofs.Common.{◌≡◌, rules}
+use Rattle.std.proofs.Common.{rules}
 use Rattle.check_changes.specs.Components.Listings.{IsListedIn}
 use Rattle.check_changes.proofs.ComponentLemmas.FirstLemmas.{IsFirst, first_listed, first_state}
 use Rattle.check_changes.proofs.components.first.Listing.namesake.Goals as goal
