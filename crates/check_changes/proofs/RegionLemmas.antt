@@ -19,29 +19,6 @@ use Rattle.check_changes.specs.Images.{HasReadBoth, OnBoth, lengths, lengths_of,
 use Rattle.check_changes.specs.Regions.RegionChanges.{changes_in, region_changes, regions_of}
 use Rattle.check_changes.proofs.ImageLemmas.{both-none, both-then, both-within, OnBoth-before}
 
--- ---- one area
-
-within_size : (lens : Both ℕ) (old new : NumberedArea) (r : Both Range) → regions_within lens old new ≡ Some r → r.new.size ≡ new.area.size
-within_size lens old new r is = grind (arith, nat_tests)
-
-module _ (areas : List NumberedArea) (lens : Both ℕ) (old new : NumberedArea) (one : areas ≡ new ∷ []) (r : Both Range) (given : Option (Both Range)) (left rest : ℕ) (within : given ≡ regions_within lens old new) where
-  -- the reads of a compared area
-  pub reads_first : {F G : Type 0} (f : F → Device) (g : G → Device) {a b : ℕ} {before after : Images F G} → (given ≡ Some r) × (rest + r.old.size ≡ left) → HasReadBoth f g ((r.old.size + r.new.size) / 24 + 2) (r.new.size / 12 + 2) a b before after
-      → HasReadBoth f g ((left - rest + sum_sizes areas) / 24 + 2 * length areas) (sum_sizes areas / 12 + 2 * length areas) a b before after
-  reads_first f g taken read =
-      let size = within_size lens old new r (sym within ∙ taken.0) in
-      rw one (both-within f g _ _ (omega (arith, size, taken.1)) (omega (arith, size)) read)
-
-  -- its changes, before those of later areas
-  pub compared_first : (x y : List ℕ) (olds : List NumberedArea) (before after : List RegionChange) (later : List NumberedArea) → Some old ≡ namesake new olds → lens ≡ lengths_of x y
-      → Some r ≡ compared left given → rest ≡ left_after left given → after ≡ before ++ Compared new (component_changes (bytes_in r.old x) (bytes_in r.new y)) ∷ []
-      → after ++ changes_in rest x y olds later ≡ before ++ changes_in left x y olds (areas ++ later)
-  compared_first x y olds before after later named len is less pushed =
-      let at : regions_of (lengths_of x y) olds new ≡ given = rw (← named, within, len) refl in
-      rw (one, at, ← less, ← is, pushed) (append_assoc before (Compared new (component_changes (bytes_in r.old x) (bytes_in r.new y)) ∷ []) (changes_in rest x y olds later))
-
--- ---- the loop
-
 module _ {F G : Type 0} (f : F → Device) (g : G → Device) (olds : List NumberedArea) (findings : List ImageFinding) where
   -- the changes of the first i findings are listed, with `left` bytes of the old image for comparisons
   pub record Changing (i left : ℕ) (changes : List RegionChange) (old new : Images F G) : Type 0 where

@@ -30,13 +30,6 @@ flat_map-more f h xs i d before after all lt pushed so_far =
 pub flat_map-all : {X Y Z : Type 0} (f : Y → List Z) (h : X → Y) (xs : List X) (i : ℕ) (before all : List Z) → length xs ≤ i → before ++ flat_map f (map h (drop i xs)) ≡ all → before ≡ all
 flat_map-all f h xs i before all end is = sym (append-nil before) ∙ ap (λ l. before ++ flat_map f (map h l)) (sym (drop_all i xs end)) ∙ is
 
--- the change of a compared area
-pub content_compared : (x y : List ℕ) (pairs : List AreaPair) (p : AreaPair) (left : ℕ) (lens : Both ℕ) (given : Option (Both Range)) (r : Both Range) (len blocks own : ℕ) → lens ≡ lengths_of x y → given ≡ regions_of lens p → Some r ≡ compared left given → len ≡ blocks_of r.old.size
-    → blocks ≡ count_below (is_difference x y r) len → own ≡ count_below (is_own_difference x y pairs r) len → only_if (nat_lt 0 blocks) (Differs p.new blocks own) ≡ content_changes x y pairs p (compared left (regions_of (lengths_of x y) p))
-content_compared x y pairs p left lens given r len blocks own lens_are within is long counted own_counted =
-    let at : regions_of (lengths_of x y) p ≡ given = rw (within, lens_are) refl in
-    rw (at, ← is, counted, own_counted, long) refl
-
 -- another pair
 module _ {F G : Type 0} (f : F → Device) (g : G → Device) (pairs : List AreaPair) where
   pub changes_in-more : {i m n rest : ℕ} (left : ℕ) (d : AreaPair) (before : List AreaChange) {mid after : List AreaChange} {old now : Images F G} (all : List ℕ → List ℕ → List AreaChange) → i < length pairs
