@@ -1,22 +1,16 @@
 -- The changes of regions, in the order of their findings.
-use Rattle.std.proofs.Common.{◌≡◌, ◌∙◌, ℕ, ◌+◌, ◌-◌, ◌*◌, ◌/◌, ◌<◌, ◌≤◌, List, [], ◌∷◌, ◌++◌, Option, Some, length, get_or, drop, refl, sym, ap, add-one, append_assoc, arith, length-append}
+use Rattle.std.proofs.Common.{◌≡◌, ◌∙◌, ℕ, ◌+◌, ◌-◌, ◌*◌, ◌/◌, ◌<◌, ◌≤◌, List, [], ◌++◌, length, get_or, drop, refl, sym, ap, add-one, arith, length-append}
 use Rattle.std.proofs.Math.Seq.{drop-cons}
 use Rattle.std.proofs.lemmas.List.{append-nil, drop_all}
 use Rattle.std.proofs.lemmas.List.Sums.{sum_by-append}
-use Rattle.std.proofs.lemmas.Bool.Decides.{nat_tests}
 use Rattle.flash_device.specs.Device.{Device}
-use Rattle.flash_device.specs.Regions.{Range, bytes_in}
 use Rattle.flash_map.specs.declared.areas.NumberedArea.{NumberedArea}
 use Rattle.check_findings.specs.declared.image.finding.ImageFinding.{ImageFinding}
 use Rattle.check_findings.specs.Image.RegionAreas.{region_area, region_areas, sum_sizes}
-use Rattle.check_changes.specs.declared.images.Both.{Both}
 use Rattle.check_changes.specs.declared.images.Images.{Images}
 use Rattle.check_changes.specs.declared.regions.change.RegionChange.{RegionChange}
-use Rattle.check_changes.specs.declared.regions.change.RegionChange.TheVariants.{Compared}
-use Rattle.check_changes.specs.Areas.AreaChanges.{compared, left_after, namesake}
-use Rattle.check_changes.specs.Components.ComponentChanges.{component_changes}
-use Rattle.check_changes.specs.Images.{HasReadBoth, OnBoth, lengths, lengths_of, regions_within}
-use Rattle.check_changes.specs.Regions.RegionChanges.{changes_in, region_changes, regions_of}
+use Rattle.check_changes.specs.Images.{HasReadBoth, OnBoth, lengths}
+use Rattle.check_changes.specs.Regions.RegionChanges.{changes_in, region_changes}
 use Rattle.check_changes.proofs.ImageLemmas.{both-none, both-then, both-within, OnBoth-before}
 
 module _ {F G : Type 0} (f : F → Device) (g : G → Device) (olds : List NumberedArea) (findings : List ImageFinding) where

@@ -1,5 +1,5 @@
 -- Arguments that are added in turn.
-use Rattle.std.proofs.Common.{◌≡◌, ◌∙◌, false, List, [], ◌∷◌, sym, ap, ap₂}
+use Rattle.std.proofs.Common.{◌≡◌, ◌∙◌, false, List, [], ◌∷◌, sym, ap}
 use Rattle.std.specs.Prelude.{⊤, fold}
 use Rattle.clap.specs.Words.{AddsArg, AddsInTurn, App, Rule, app_of, rule_of, with_rule}
 use Rattle.clap.specs.declared.builder.arg.Arg.{Arg}

@@ -1,17 +1,11 @@
 -- The changes of areas, in order.
 use Rattle.std.proofs.Common.{◌≡◌, ◌∙◌, ℕ, ◌+◌, ◌<◌, ◌≤◌, List, [], ◌++◌, length, drop, get_or, map, refl, sym, ap, add-one, append_assoc}
-use Rattle.std.specs.Prelude.{Option, Some, nat_lt}
 use Rattle.std.specs.List.{flat_map}
 use Rattle.flash_device.specs.Device.{Device}
-use Rattle.flash_device.specs.Regions.{Range}
-use Rattle.check_changes.specs.Lists.{only_if}
 use Rattle.check_changes.specs.declared.areas.change.AreaChange.{AreaChange}
-use Rattle.check_changes.specs.declared.areas.change.AreaChange.TheVariants.{Differs}
-use Rattle.check_changes.specs.declared.images.Both.{Both}
-use Rattle.check_changes.specs.Areas.Blocks.{blocks_of, count_below}
 use Rattle.check_changes.specs.declared.areas.pairs.AreaPair.{AreaPair}
 use Rattle.check_changes.specs.declared.images.Images.{Images}
-use Rattle.check_changes.specs.Areas.AreaChanges.{changes_in, compared, content_changes, entry_changes, is_difference, is_own_difference, left_after, regions_of}
+use Rattle.check_changes.specs.Areas.AreaChanges.{changes_in, compared, content_changes, entry_changes, left_after, regions_of}
 use Rattle.check_changes.specs.Images.{HasReadBoth, OnBoth, lengths, lengths_of}
 use Rattle.check_changes.proofs.ImageLemmas.{OnBoth-before}
 use Rattle.std.proofs.Math.Seq.{drop-cons}
