@@ -13,7 +13,7 @@ use std::hash::RandomState;
 /// Names, hashed with random keys, since an image's author chooses names.
 type Names<'a> = HashSet<&'a Name, RandomState>;
 
-/// Returns their indices.
+/// Returns the indices of components with the name of an earlier component.
 fn shadowed(
     alloc: Global,
     keys: RandomState,
@@ -33,7 +33,7 @@ fn shadowed(
     Ok(indices)
 }
 
-/// Marks them.
+/// Marks each component with the name of an earlier component.
 pub fn mark_shadowed(alloc: Global, keys: RandomState, findings: &mut Vec<RegionFinding>) -> Pushed
     ensures { OnOk result (findings.new.items ≡ all_marked [] findings.old.items) }
 {
