@@ -18,17 +18,36 @@ empty = nameless (new_app (codes "cbfscheck"))
 pub returns : goal.returns
 returns c =
     let begun : app_of c.no_binary_name-command.result ≡ empty = ap app_of_fields c.no_binary_name-command.ensures ∙ ap nameless c.new-3.ensures.app in
-    let have : HaveRules c.in_ok-arguments.arguments.items check_words.top.rules = subst (λ (args : List Arg). HaveRules args check_words.top.rules) (sym c.in_ok-arguments.ensures.items)
-        ((c.new.ensures.optional.1, c.new.ensures.rule),
-        ((c.new-2.ensures.optional.1, c.new-2.ensures.rule),
-        ((c.short.ensures.local, c.short.ensures.rule),
-        ((c.flag.ensures.local ∙ c.short-2.ensures.local, c.flag.ensures.rule ∙ ap flag c.short-2.ensures.rule),
-        ((c.flag-2.ensures.local ∙ c.long.ensures.local, c.flag-2.ensures.rule ∙ ap flag c.long.ensures.rule),
-        ((c.flag-3.ensures.local ∙ c.long-2.ensures.local, c.flag-3.ensures.rule ∙ ap flag c.long-2.ensures.rule),
-        ((c.long-3.ensures.local, c.long-3.ensures.rule),
-        ((c.flag-4.ensures.local ∙ c.long-4.ensures.local, c.flag-4.ensures.rule ∙ ap flag c.long-4.ensures.rule),
-        ((c.flag-5.ensures.local ∙ c.long-5.ensures.local, c.flag-5.ensures.rule ∙ ap flag c.long-5.ensures.rule),
-        ((c.long-6.ensures.local, c.long-6.ensures.rule),
-        tt)))))))))) in
+    let have : HaveRules c.in_ok-arguments.arguments.items check_words.top.rules = subst (λ (args : List Arg). HaveRules args check_words.top.rules) (sym c.in_ok-arguments.ensures.items) (
+      (c.new.ensures.optional.1, c.new.ensures.rule),
+      (
+        (c.new-2.ensures.optional.1, c.new-2.ensures.rule),
+        (
+          (c.short.ensures.local, c.short.ensures.rule),
+          (
+            (c.flag.ensures.local ∙ c.short-2.ensures.local, c.flag.ensures.rule ∙ ap flag c.short-2.ensures.rule),
+            (
+              (c.flag-2.ensures.local ∙ c.long.ensures.local, c.flag-2.ensures.rule ∙ ap flag c.long.ensures.rule),
+              (
+                (c.flag-3.ensures.local ∙ c.long-2.ensures.local, c.flag-3.ensures.rule ∙ ap flag c.long-2.ensures.rule),
+                (
+                  (c.long-3.ensures.local, c.long-3.ensures.rule),
+                  (
+                    (c.flag-4.ensures.local ∙ c.long-4.ensures.local, c.flag-4.ensures.rule ∙ ap flag c.long-4.ensures.rule),
+                    (
+                      (c.flag-5.ensures.local ∙ c.long-5.ensures.local, c.flag-5.ensures.rule ∙ ap flag c.long-5.ensures.rule),
+                      (
+                        (c.long-6.ensures.local, c.long-6.ensures.rule),
+                        tt,
+                      ),
+                    ),
+                  ),
+                ),
+              ),
+            ),
+          ),
+        ),
+      ),
+    ) in
     IfOk-weaker c.args-2.result _ _ (λ command added. all_added _ _ check_words.top.rules command have added
-        ∙ ap (λ (app : App). fold with_rule app check_words.top.rules) begun) c.args-2.ensures
+    ∙ ap (λ (app : App). fold with_rule app check_words.top.rules) begun) c.args-2.ensures
