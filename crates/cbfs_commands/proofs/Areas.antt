@@ -6,25 +6,25 @@ use Rattle.std.proofs.lemmas.List.{drop-drop}
 use Rattle.flash_format.specs.Flashmap.{area_of, areas_at, areas_from, map_of, fmap_head_of}
 use Rattle.flash_map.specs.Fmap.{found_in}
 use Rattle.flash_map.specs.declared.search.FoundMap.{FoundMap}
-use Rattle.cbfs_commands.specs.Rows.{area_row, map_row, layout}
+use Rattle.cbfs_commands.specs.Rows.{area_line, map_line, layout}
 use Rattle.cbfs_commands.proofs.Telling.{text_then}
 use Rattle.cbfs_commands.specs.Printouts.{Printout, refuses, shows}
 use Rattle.cbfs_commands.specs.declared.refusal.Refusal.TheVariants as refusals
 
 abbrev pub rows_of : List ℕ → ℕ → ℕ → List ℕ
-rows_of image n at = flat_map area_row (areas_from n (drop at image))
+rows_of image n at = flat_map area_line (areas_from n (drop at image))
 
 -- the output from an area on
 abbrev pub rows_left : List ℕ → ℕ → ℕ → ℕ → Printout
 rows_left image at n i = shows (rows_of image (n - i) (at + 42 * i))
 
-pub one_less : (image : List ℕ) (at n i : ℕ) → i < n → rows_left image at n i ≡ text_then (area_row (area_of (drop (at + 42 * i) image))) (rows_left image at n (i + 1))
+pub one_less : (image : List ℕ) (at n i : ℕ) → i < n → rows_left image at n i ≡ text_then (area_line (area_of (drop (at + 42 * i) image))) (rows_left image at n (i + 1))
 unfolding areas_from
 one_less image at n i lt =
     let more : n - i ≡ suc (n - (i + 1)) = omega arith in
     let next : at + 42 * i + 42 ≡ at + 42 * (i + 1) = omega arith in
     ap (λ j. shows (rows_of image j (at + 42 * i))) more
-    ∙ ap (λ (l : List ℕ). shows (area_row (area_of (drop (at + 42 * i) image)) ++ flat_map area_row (areas_from (n - (i + 1)) l))) (drop-drop 42 (at + 42 * i) image ∙ ap (λ q. drop q image) next)
+    ∙ ap (λ (l : List ℕ). shows (area_line (area_of (drop (at + 42 * i) image)) ++ flat_map area_line (areas_from (n - (i + 1)) l))) (drop-drop 42 (at + 42 * i) image ∙ ap (λ q. drop q image) next)
 
 pub every : (image : List ℕ) (at n : ℕ) → shows (rows_of image n at) ≡ rows_left image at n 0
 every image at n = let none : at ≡ at + 42 * 0 = omega arith in let all : n ≡ n - 0 = omega arith in cc
@@ -34,13 +34,13 @@ unfolding areas_from
 none_left image at n i le = let none : n - i ≡ 0 = omega arith in ap (λ j. shows (rows_of image j (at + 42 * i))) none
 
 -- the map's row, then the areas' rows
-pub layout-is : (image : List ℕ) (map : FoundMap) → Some map ≡ found_in image → layout image ≡ text_then (map_row map.at map.head) (shows (rows_of image map.head.nareas (map.at + 56)))
+pub layout-is : (image : List ℕ) (map : FoundMap) → Some map ≡ found_in image → layout image ≡ text_then (map_line map.at map.head) (shows (rows_of image map.head.nareas (map.at + 56)))
 unfolding layout
 layout-is image map is = go (map_of image) is
   where
     go : (o : Option ℕ) → Some map ≡ option_map (λ q. let found : FoundMap = record { at = q; head = fmap_head_of (drop q image) } in found) o
-        → option_map_or (λ q. shows (map_row q (fmap_head_of (drop q image)) ++ flat_map area_row (areas_at image q))) o (refuses refusals.NoFmap) ≡ text_then (map_row map.at map.head) (shows (rows_of image map.head.nareas (map.at + 56)))
+        → option_map_or (λ q. shows (map_line q (fmap_head_of (drop q image)) ++ flat_map area_line (areas_at image q))) o (refuses refusals.NoFmap) ≡ text_then (map_line map.at map.head) (shows (rows_of image map.head.nareas (map.at + 56)))
     go None is = absurd cc
     go (Some q) is =
         let same : (let found : FoundMap = record { at = q; head = fmap_head_of (drop q image) } in found) ≡ map = cc in
-        ap (λ (m : FoundMap). text_then (map_row m.at m.head) (shows (rows_of image m.head.nareas (m.at + 56)))) same
+        ap (λ (m : FoundMap). text_then (map_line m.at m.head) (shows (rows_of image m.head.nareas (m.at + 56)))) same

@@ -29,7 +29,7 @@ use Rattle.cbfs_commands.specs.declared.refusal.Refusal.{Refusal}
 use Rattle.cbfs_commands.specs.declared.refusal.Refusal.TheVariants as refusals
 use Rattle.cbfs_commands.specs.Creations.{head_for, map_place, plan_for, plan_of, region_place, region_places, some_overlap}
 use Rattle.cbfs_commands.specs.Effects.{changes, effect, edits, outcome, Request}
-use Rattle.cbfs_commands.specs.Rows.{area_row, layout, map_row}
+use Rattle.cbfs_commands.specs.Rows.{area_line, layout, map_line}
 use Rattle.cbfs_commands.specs.Outcomes.{StopsIn, extract_region, print_region, printed_component, printed_in}
 use Rattle.cbfs_commands.specs.Refusals.{HasNoFault, edit_refusal, fault_or, store_refusal, walk_refusal}
 use Rattle.cbfs_commands.specs.Effects as requests
@@ -179,7 +179,7 @@ own_answer : (r : Request) (image source : List ℕ) → Blameless itself (outco
 unfolding print_region layout
 own_answer (requests.on_region region (requests.print verbose)) image source =
     by_region image region (λ x. print_region x verbose) (λ x. unless-misshapen (λ (t : Printout). Blameless itself t.answer) (λ fault. refuses (walk_refusal fault)) x _ tt tt (next-blameless walk_refusal _ _ (found-blameless None (place_after 0 (cut x).cells) (cut x).end) (λ none. tt)))
-own_answer requests.layout image source = elim (map_of image) as (λ o. Blameless itself (option_map_or (λ q. shows (map_row q (fmap_head_of (drop q image)) ++ flat_map area_row (areas_at image q))) o (refuses refusals.NoFmap)).answer) [ None ↦ tt | Some q ↦ tt ]
+own_answer requests.layout image source = elim (map_of image) as (λ o. Blameless itself (option_map_or (λ q. shows (map_line q (fmap_head_of (drop q image)) ++ flat_map area_line (areas_at image q))) o (refuses refusals.NoFmap)).answer) [ None ↦ tt | Some q ↦ tt ]
 own_answer (requests.on_region region (requests.extract name)) image source = by_region image region (λ x. extract_region x name) (λ x. printout-blameless walk_refusal (component_in x name) _ (component_in-blameless x name) told_found-blameless)
 own_answer (requests.on_region region (requests.add name kind hash spot)) image source =
     let new : NewComponent = new_component name kind hash source in

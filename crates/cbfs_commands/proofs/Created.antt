@@ -17,7 +17,7 @@ use Rattle.cbfs_walk.proofs.Answering.{good_size}
 use Rattle.cbfs_edit.specs.Formats.{IsOneFreeCell, formatted}
 use Rattle.cbfs_edit.specs.Removals.{last_four}
 use Rattle.cbfs_edit.proofs.FormatLemmas.{formatted_free}
-use Rattle.cbfs_commands.specs.Creations.{IsPlace, overlap, some_overlap}
+use Rattle.cbfs_commands.specs.Creations.{IsPlace, share_bytes, some_overlap}
 use Rattle.cbfs_commands.specs.Laws.{CreatedRegionsAreFree}
 use Rattle.cbfs_commands.proofs.RegionPlaces.{whole_over}
 use Rattle.cbfs_commands.proofs.Planned.{lie_apart, planned}
@@ -69,11 +69,11 @@ module _ (n : ℕ) (image : List ℕ) (long : length image ≡ n) (place : Range
       (formatted_free (bytes_in place image) (omega (arith, region_long, some)) (ap (λ k. k % 64) region_long ∙ whole) (omega (arith, region_long, is.inside, small)))
 
 -- later formats leave a region unchanged
-untouched : (n : ℕ) (image : List ℕ) (other : Range) (places : List Range) → length image ≡ n → All (IsPlace n) places → list_any (overlap other) places ≡ false → bytes_in other (all_formatted image places) ≡ bytes_in other image
+untouched : (n : ℕ) (image : List ℕ) (other : Range) (places : List Range) → length image ≡ n → All (IsPlace n) places → list_any (share_bytes other) places ≡ false → bytes_in other (all_formatted image places) ≡ bytes_in other image
 untouched n image other [] long each none = refl
 untouched n image other (place ∷ places) long each none =
     let is : IsPlace n place = All-head (IsPlace n) place places each in
-    let parts = or_parts (overlap other place) (list_any (overlap other) places) none in
+    let parts = or_parts (share_bytes other place) (list_any (share_bytes other) places) none in
     untouched n (with_edit place formatted image) other places (image_long n image long place is) (All-tail (IsPlace n) place places each) parts.1 ∙ beside n image long place is other (lie_apart other place parts.0)
 
 all_free : (n : ℕ) (image : List ℕ) (places : List Range) → n < 2 ^ 32 → length image ≡ n → All (IsPlace n) places → some_overlap places ≡ false → All (λ (place : Range). IsOneFreeCell (bytes_in place (all_formatted image places))) places
@@ -81,7 +81,7 @@ all_free n image [] small long each none = All-nil (λ (place : Range). IsOneFre
 all_free n image (place ∷ places) small long each none =
     let is : IsPlace n place = All-head (IsPlace n) place places each in
     let others : All (IsPlace n) places = All-tail (IsPlace n) place places each in
-    let parts = or_parts (list_any (overlap place) places) (some_overlap places) none in
+    let parts = or_parts (list_any (share_bytes place) places) (some_overlap places) none in
     let next : List ℕ = with_edit place formatted image in
     let long_next : length (with_edit place formatted image) ≡ n = image_long n image long place is in
     All-cons (λ (p : Range). IsOneFreeCell (bytes_in p (all_formatted next places))) place places
@@ -95,5 +95,5 @@ created_free n names source plan small is =
     let flashmap : List ℕ = take plan.map_len source in
     let long_erased : length erased ≡ n = length-replicate {A = ℕ} n 0xff in
     let long : length (overwritten erased plan.map.start flashmap) ≡ n = length-overwritten erased plan.map.start flashmap (omega (arith, length-take plan.map_len source, k.fits.room, k.fits.map, long_erased)) ∙ long_erased in
-    let parts = or_parts (list_any (overlap plan.map) plan.regions.items) (some_overlap plan.regions.items) k.none in
+    let parts = or_parts (list_any (share_bytes plan.map) plan.regions.items) (some_overlap plan.regions.items) k.none in
     all_free n (overwritten erased plan.map.start flashmap) plan.regions.items small long k.fits.regions parts.1

@@ -20,7 +20,7 @@ use Rattle.cbfs_commands.specs.declared.refusal.Refusal.TheVariants as refusals
 use Rattle.cbfs_commands.specs.Effects.{adds, changes, outcome, removes}
 use Rattle.cbfs_commands.specs.Outcomes.{AddStopsIn, LeavesOr}
 use Rattle.cbfs_commands.specs.Refusals.{edit_refusal, fault_or, store_refusal}
-use Rattle.cbfs_commands.specs.Printouts.{Answer}
+use Rattle.cbfs_commands.specs.Printouts.{CommandResult}
 use Rattle.cbfs_commands.proofs.Telling.{handed}
 
 -- the error of the place is the error of the addition
@@ -29,7 +29,7 @@ refused_place (Err other) fault next is = let same : other ≡ fault = cc in rw 
 refused_place (Ok place) fault next is = absurd cc
 
 -- a found region: the answer is the edit's error, and only a fault leaves a change
-module _ (image between now source name : List ℕ) (region : Range) (fault : EditFault) (answer : Answer) (sought : (let r : Result Range StoreFault = Ok region in IsErrOf r store.Device ⊎ (r ≡ region_of image name))) (unread : between ≡ image) (printout : IsErrAnd answer (λ refusal. refusal ≡ edit_refusal fault)) (same : fault ≢ edit.Device → fault ≢ edit.Source → now ≡ between) where
+module _ (image between now source name : List ℕ) (region : Range) (fault : EditFault) (answer : CommandResult) (sought : (let r : Result Range StoreFault = Ok region in IsErrOf r store.Device ⊎ (r ≡ region_of image name))) (unread : between ≡ image) (printout : IsErrAnd answer (λ refusal. refusal ≡ edit_refusal fault)) (same : fault ≢ edit.Device → fault ≢ edit.Source → now ≡ between) where
   here : Ok region ≡ region_of image name
   here = elim sought [ inl failed ↦ absurd cc | inr is ↦ is ]
 

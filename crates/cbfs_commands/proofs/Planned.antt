@@ -19,7 +19,7 @@ use Rattle.cbfs_walk.specs.Shapes.{has_bad_size}
 use Rattle.cbfs_commands.specs.declared.create.plan.Plan.{Plan}
 use Rattle.cbfs_commands.specs.declared.refusal.Refusal.{Refusal}
 use Rattle.cbfs_commands.specs.declared.refusal.Refusal.TheVariants as refusals
-use Rattle.cbfs_commands.specs.Creations.{FitsImage, IsPlace, head_for, map_place, overlap, plan_for, plan_of, region_place, region_places, some_overlap}
+use Rattle.cbfs_commands.specs.Creations.{FitsImage, IsPlace, head_for, map_place, share_bytes, plan_for, plan_of, region_place, region_places, some_overlap}
 use Rattle.cbfs_commands.specs.Laws.{PlansAreLaid}
 use Rattle.cbfs_commands.specs.Refusals.{fault_or, store_refusal}
 use Rattle.cbfs_commands.proofs.RegionPlaces.{inside_lies}
@@ -54,7 +54,7 @@ are_places n (area ∷ areas) places is =
 
 -- ---- no overlaps
 
-pub lie_apart : (a b : Range) → overlap a b ≡ false → LieApart a b
+pub lie_apart : (a b : Range) → share_bytes a b ≡ false → LieApart a b
 lie_apart a b none = go (nat_lt a.start (b.start + b.size)) (nat_lt b.start (a.start + a.size)) refl refl none
   where
     go : (c d : Bool) → nat_lt a.start (b.start + b.size) ≡ c → nat_lt b.start (a.start + a.size) ≡ d → (c && d) ≡ false → LieApart a b
@@ -62,16 +62,16 @@ lie_apart a b none = go (nat_lt a.start (b.start + b.size)) (nat_lt b.start (a.s
     go true false e f p = inl (grind (arith, nat_tests))
     go false d e f p = inr (grind (arith, nat_tests))
 
-apart_from : (place : Range) (others : List Range) → list_any (overlap place) others ≡ false → All (LieApart place) others
+apart_from : (place : Range) (others : List Range) → list_any (share_bytes place) others ≡ false → All (LieApart place) others
 apart_from place [] none = All-nil (LieApart place)
 apart_from place (other ∷ others) none =
-    let parts = or_parts (overlap place other) (list_any (overlap place) others) none in
+    let parts = or_parts (share_bytes place other) (list_any (share_bytes place) others) none in
     All-cons (LieApart place) other others (lie_apart place other parts.0) (apart_from place others parts.1)
 
 all_apart : (places : List Range) → some_overlap places ≡ false → AllPairs LieApart places
 all_apart [] none = λ i j d order below. absurd (omega arith)
 all_apart (place ∷ places) none =
-    let parts = or_parts (list_any (overlap place) places) (some_overlap places) none in
+    let parts = or_parts (list_any (share_bytes place) places) (some_overlap places) none in
     AllPairs-cons LieApart place places (apart_from place places parts.0) (all_apart places parts.1)
 
 -- ---- the plan

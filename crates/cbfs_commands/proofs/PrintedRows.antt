@@ -19,7 +19,7 @@ use Rattle.flash_format.specs.declared.head.Head.{Head}
 use Rattle.flash_format.proofs.PrintedLaws.{decimal_field, hexadecimal_field, name_field, same_decimals, same_hexadecimals, same_names, split}
 use Rattle.flash_format.proofs.TypeLaws.{is_word, read_back, type_is_word, word_is_field}
 use Rattle.cbfs_commands.specs.Laws.{AreSameAreas, AreSameCells, HasAreaNumbers, HasMapNumbers, HasNumbers, HaveAreaNumbers, HaveNumbers, IsSameArea, IsSameCell, IsSameMap}
-use Rattle.cbfs_commands.specs.Rows.{area_row, map_row, printed_packing, printed_type, row, row_text, rows_from}
+use Rattle.cbfs_commands.specs.Rows.{area_line, map_line, printed_packing, printed_type, cell_row, row_text, rows_from}
 
 -- ---- types
 
@@ -164,7 +164,7 @@ abbrev row_if : Bool → ℕ → List ℕ → List ℕ
 row_if free at x = if free then row_text at (head_of x) None 0 else row_text at (head_of x) (Some (cell_name x)) (packing (cell_attributes x))
 
 pub rows_read_back : (at other : ℕ) (x y more rest : List ℕ) → at < 2 ^ 64 → other < 2 ^ 64 → HasNumbers x → HasNumbers y
-    → row at x ++ more ≡ row other y ++ rest → IsSameCell at x other y × (more ≡ rest)
+    → cell_row at x ++ more ≡ cell_row other y ++ rest → IsSameCell at x other y × (more ≡ rest)
 rows_read_back at other x y more rest sat sother fx fy e = go (is_free (head_of x)) (is_free (head_of y)) refl refl e
   where
     go : (p q : Bool) → is_free (head_of x) ≡ p → is_free (head_of y) ≡ q → row_if p at x ++ more ≡ row_if q other y ++ rest → IsSameCell at x other y × (more ≡ rest)
@@ -186,7 +186,7 @@ rows_read_back at other x y more rest sat sother fx fy e = go (is_free (head_of 
         let kind = same.0.kind in
         absurd (let free : is_free (head_of x) ≡ true = (rw kind free_y) in cc)
 
-some_row : (at : ℕ) (x more : List ℕ) → [] ≢ row at x ++ more
+some_row : (at : ℕ) (x more : List ℕ) → [] ≢ cell_row at x ++ more
 some_row at x more = go (is_free (head_of x))
   where
     begun : (a s : List ℕ) → [] ≢ a ++ 9 ∷ s
@@ -200,9 +200,9 @@ some_row at x more = go (is_free (head_of x))
     go true = text (head_of x) None 0
     go false = text (head_of x) (Some (cell_name x)) (packing (cell_attributes x))
 
-rows_step : (at : ℕ) (x : List ℕ) (cells : List (List ℕ)) → rows_from false at (x ∷ cells) ≡ row at x ++ rows_from false (at + length x) cells
+rows_step : (at : ℕ) (x : List ℕ) (cells : List (List ℕ)) → rows_from false at (x ∷ cells) ≡ cell_row at x ++ rows_from false (at + length x) cells
 unfolding rows_from
-rows_step at x cells = ap (λ (l : List ℕ). l ++ rows_from false (at + length x) cells) (append-nil (row at x))
+rows_step at x cells = ap (λ (l : List ℕ). l ++ rows_from false (at + length x) cells) (append-nil (cell_row at x))
 
 no_rows : (at : ℕ) → rows_from false at [] ≡ []
 unfolding rows_from
@@ -220,11 +220,11 @@ listings_read_back at other (x ∷ cells) (y ∷ others) fits fits2 e =
 
 -- ---- lines of the layout
 
-area_shape : (a : Area) (more : List ℕ) → area_row a ++ more ≡ line4 (printed_name (text_of a.name)) (hexadecimal a.offset) (decimal a.size) (hexadecimal a.flags) more
-unfolding area_row
+area_shape : (a : Area) (more : List ℕ) → area_line a ++ more ≡ line4 (printed_name (text_of a.name)) (hexadecimal a.offset) (decimal a.size) (hexadecimal a.flags) more
+unfolding area_line
 area_shape a more = simp append_assoc
 
-pub areas_read_back : (a b : Area) (more rest : List ℕ) → HasAreaNumbers a → HasAreaNumbers b → area_row a ++ more ≡ area_row b ++ rest → IsSameArea a b × (more ≡ rest)
+pub areas_read_back : (a b : Area) (more rest : List ℕ) → HasAreaNumbers a → HasAreaNumbers b → area_line a ++ more ≡ area_line b ++ rest → IsSameArea a b × (more ≡ rest)
 areas_read_back a b more rest fa fb e =
     let parts = split4 (printed_name (text_of a.name)) (hexadecimal a.offset) (decimal a.size) (hexadecimal a.flags) more
     (printed_name (text_of b.name)) (hexadecimal b.offset) (decimal b.size) (hexadecimal b.flags) rest
@@ -240,26 +240,26 @@ areas_read_back a b more rest fa fb e =
       parts.4,
     )
 
-some_line : (a : Area) (more : List ℕ) → [] ≢ area_row a ++ more
+some_line : (a : Area) (more : List ℕ) → [] ≢ area_line a ++ more
 some_line a more e = begun (printed_name (text_of a.name)) (hexadecimal a.offset ++ 9 ∷ (decimal a.size ++ 9 ∷ (hexadecimal a.flags ++ 10 ∷ more))) (e ∙ area_shape a more)
   where
     begun : (p s : List ℕ) → [] ≢ p ++ 9 ∷ s
     begun [] s e = absurd cc
     begun (b ∷ p) s e = absurd cc
 
-pub all_areas_read_back : (areas others : List Area) → HaveAreaNumbers areas → HaveAreaNumbers others → flat_map area_row areas ≡ flat_map area_row others → AreSameAreas areas others
+pub all_areas_read_back : (areas others : List Area) → HaveAreaNumbers areas → HaveAreaNumbers others → flat_map area_line areas ≡ flat_map area_line others → AreSameAreas areas others
 all_areas_read_back [] [] fits fits2 e = tt
-all_areas_read_back [] (b ∷ others) fits fits2 e = absurd (some_line b (flat_map area_row others) e)
-all_areas_read_back (a ∷ areas) [] fits fits2 e = absurd (some_line a (flat_map area_row areas) (sym e))
+all_areas_read_back [] (b ∷ others) fits fits2 e = absurd (some_line b (flat_map area_line others) e)
+all_areas_read_back (a ∷ areas) [] fits fits2 e = absurd (some_line a (flat_map area_line areas) (sym e))
 all_areas_read_back (a ∷ areas) (b ∷ others) fits fits2 e =
-    let one = areas_read_back a b (flat_map area_row areas) (flat_map area_row others) fits.0 fits2.0 e in
+    let one = areas_read_back a b (flat_map area_line areas) (flat_map area_line others) fits.0 fits2.0 e in
     (one.0, all_areas_read_back areas others fits.1 fits2.1 one.1)
 
-map_shape : (q : ℕ) (h : FmapHead) (more : List ℕ) → map_row q h ++ more ≡ line5 (codes "fmap") (hexadecimal q) (printed_name (text_of h.name)) (decimal h.size) (decimal h.nareas) more
-unfolding map_row
+map_shape : (q : ℕ) (h : FmapHead) (more : List ℕ) → map_line q h ++ more ≡ line5 (codes "fmap") (hexadecimal q) (printed_name (text_of h.name)) (decimal h.size) (decimal h.nareas) more
+unfolding map_line
 map_shape q h more = simp append_assoc
 
-pub maps_read_back : (q p : ℕ) (h k : FmapHead) (more rest : List ℕ) → HasMapNumbers q h → HasMapNumbers p k → map_row q h ++ more ≡ map_row p k ++ rest → IsSameMap q h p k × (more ≡ rest)
+pub maps_read_back : (q p : ℕ) (h k : FmapHead) (more rest : List ℕ) → HasMapNumbers q h → HasMapNumbers p k → map_line q h ++ more ≡ map_line p k ++ rest → IsSameMap q h p k × (more ≡ rest)
 maps_read_back q p h k more rest fh fk e =
     let parts = split5 (codes "fmap") (hexadecimal q) (printed_name (text_of h.name)) (decimal h.size) (decimal h.nareas) more
     (codes "fmap") (hexadecimal p) (printed_name (text_of k.name)) (decimal k.size) (decimal k.nareas) rest

@@ -20,7 +20,7 @@ use Rattle.cbfs_commands.specs.declared.refusal.Refusal.TheVariants as refusals
 use Rattle.cbfs_commands.specs.Outcomes.{print_cut, print_region}
 use Rattle.cbfs_commands.specs.Refusals.{by_device, walk_refusal}
 use Rattle.cbfs_commands.specs.Rows.{rows_from, shown_cell}
-use Rattle.cbfs_commands.specs.Printouts.{Answer, HasOutput, Printout, cell_of, shows, refuses}
+use Rattle.cbfs_commands.specs.Printouts.{CommandResult, HasOutput, Printout, cell_bytes, shows, refuses}
 use Rattle.cbfs_commands.proofs.Telling.{ToldSoFar, so_far-ends, so_far-more, text_then, printout-after, printout-none, printout-refusal, printout-stopped}
 use Rattle.flash_device.proofs.DeviceLemmas.{length-bytes_in}
 
@@ -39,7 +39,7 @@ unfolding rows_from
 law verbose at c k = refl
 
 -- by the walk's result
-abbrev print_by : Bool → List ℕ → walks.Answer → Printout
+abbrev print_by : Bool → List ℕ → walks.StepResult → Printout
 print_by verbose x a = by_answer (λ fault. refuses (walk_refusal fault)) (print_cut verbose) (each_row verbose) x a
 
 refused_by : (verbose : Bool) (x : List ℕ) (fault : WalkFault) → print_by verbose x (Err fault) ≡ refuses (walk_refusal fault)
@@ -81,10 +81,10 @@ pub record PrintedTo {F W : Type 0} (facts : F → Device) (contents : W → Opt
   pub printout : ToldSoFar facts contents sinks (region_reads verbose w.at) (λ image. print_region (bytes_in r image) verbose) (λ image. print_from verbose (bytes_in r image) w.at) old now before after
 
 module _ {F W : Type 0} {facts : F → Device} {contents : W → Option (List ℕ)} {sinks : W → ℕ} {verbose : Bool} {r : Range} {old now next : Pages F} {before after : W} {w : Walking}
-    (p : PrintedTo facts contents sinks verbose r old now before after w) (lies : LiesOn r (facts old.device)) (a : walks.Answer)
+    (p : PrintedTo facts contents sinks verbose r old now before after w) (lies : LiesOn r (facts old.device)) (a : walks.StepResult)
     (read : HasRead facts (reads_at w.region.size w.at a) (fault_count walks.by_device a) now next)
     (answer : OnHonestIn facts now.device w.region (λ x. w.ended ≡ None → IsErrOf a faults.Device ⊎ (a ≡ answer_at x w.at))) where
-  abbrev Printed : Pages F → W → Answer → Type 0
+  abbrev Printed : Pages F → W → CommandResult → Type 0
   Printed new out result = HasOutput facts contents sinks (region_reads verbose r.size + 2) old new before out result (λ image. print_region (bytes_in r image) verbose)
 
   size : w.region.size ≡ r.size
@@ -113,16 +113,16 @@ module _ {F W : Type 0} {facts : F → Device} {contents : W → Option (List �
     abbrev few : ℕ
     few = 2 + c.span / 3840 + (if verbose then 1 + c.span / 8 + c.span / 3840 else 0)
 
-    abbrev Shown : ℕ → Pages F → Pages F → W → Answer → Type 0
-    Shown n from new out result = HasOutput facts contents sinks n from new after out result (λ image. shows (shown_cell verbose c.at (cell_of r c image)))
+    abbrev Shown : ℕ → Pages F → Pages F → W → CommandResult → Type 0
+    Shown n from new out result = HasOutput facts contents sinks n from new after out result (λ image. shows (shown_cell verbose c.at (cell_bytes r c image)))
 
     given : IsCellIn w.region.size c × (c.at ≡ w.at)
     given = rw is at cell
 
-    others : OnHonest facts now.device (λ image. print_from verbose (bytes_in r image) w.at ≡ text_then (shown_cell verbose c.at (cell_of r c image)) (print_from verbose (bytes_in r image) (w.at + c.span)))
-    others h = let image : List ℕ = (facts now.device).content in rest-step (steps.Cell c) is h ∙ ap (λ q. text_then (shown_cell verbose c.at (cell_of r c image)) (print_from verbose (bytes_in r image) (q + c.span))) given.1
+    others : OnHonest facts now.device (λ image. print_from verbose (bytes_in r image) w.at ≡ text_then (shown_cell verbose c.at (cell_bytes r c image)) (print_from verbose (bytes_in r image) (w.at + c.span)))
+    others h = let image : List ℕ = (facts now.device).content in rest-step (steps.Cell c) is h ∙ ap (λ q. text_then (shown_cell verbose c.at (cell_bytes r c image)) (print_from verbose (bytes_in r image) (q + c.span))) given.1
 
-    lines : {new : Pages F} {out : W} {result : Answer} → Shown few next new out result → Shown (1 + c.span / 3840 + few) now new out result
+    lines : {new : Pages F} {out : W} {result : CommandResult} → Shown few next new out result → Shown (1 + c.span / 3840 + few) now new out result
     lines printout = printout-after printout _ (rw is at read) (omega arith)
 
     pub printed-more : {new : Pages F} {out : W} → Shown few next new out (Ok tt) → (v : Walking) → v ≡ walk_after w a → PrintedTo facts contents sinks verbose r old new before out v
@@ -134,7 +134,7 @@ module _ {F W : Type 0} {facts : F → Device} {contents : W → Option (List �
       printout = so_far-more p.printout _ _ (lines printout) others (reads_with verbose w.at c.span (w.at + c.span) p.aligned given.0.whole given.0.positive (omega arith));
     })
 
-    pub printed-stops : {new : Pages F} {out : W} {refusal : Refusal} {result : Answer} → Shown few next new out (Err refusal) → IsErrAnd result (λ x. x ≡ refusal) → Printed new out result
+    pub printed-stops : {new : Pages F} {out : W} {refusal : Refusal} {result : CommandResult} → Shown few next new out (Err refusal) → IsErrAnd result (λ x. x ≡ refusal) → Printed new out result
     printed-stops printout stopped =
         so_far-ends p.printout _ (printout-stopped (λ image. print_from verbose (bytes_in r image) (w.at + c.span)) (lines printout) stopped) others
         (omega (arith, reads_with verbose w.at c.span r.size p.aligned given.0.whole given.0.positive (omega (arith, given.0.inside, given.1, size))))
@@ -150,7 +150,7 @@ module _ {F W : Type 0} {facts : F → Device} {contents : W → Option (List �
   printed-done steps.End is not = ends steps.End is (λ x. refl) (rw is at read)
   printed-done (steps.Tail at) is not = ends (steps.Tail at) is (λ x. refl) (rw is at read)
 
-  pub printed-failed : (fault : WalkFault) → a ≡ Err fault → {result : Answer} → IsErrAnd result (λ x. x ≡ walk_refusal fault) → Printed next after result
+  pub printed-failed : (fault : WalkFault) → a ≡ Err fault → {result : CommandResult} → IsErrAnd result (λ x. x ≡ walk_refusal fault) → Printed next after result
   printed-failed fault is failed =
       let none = blames_no_other fault in
       so_far-ends p.printout _ (printout-refusal (λ image. print_from verbose (bytes_in r image) w.at) failed (rw (is, counted fault) at read) none.0 none.1 (λ h. elim (rw is at (rest h)) [

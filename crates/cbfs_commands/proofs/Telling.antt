@@ -16,7 +16,7 @@ use Rattle.cbfs_walk.specs.declared.cell.Cell.{Cell}
 use Rattle.cbfs_commands.specs.declared.refusal.Refusal.{Refusal}
 use Rattle.cbfs_commands.specs.declared.refusal.Refusal.TheVariants as refusals
 use Rattle.cbfs_commands.specs.Refusals.{by_device}
-use Rattle.cbfs_commands.specs.Printouts.{Answer, HasOutput, IsCellOf, Printout, refuses, shows, PrintsOut}
+use Rattle.cbfs_commands.specs.Printouts.{CommandResult, HasOutput, IsCellOf, Printout, refuses, shows, PrintsOut}
 
 -- a text, then the output
 abbrev pub text_then : List ℕ → Printout → Printout
@@ -27,7 +27,7 @@ first_of_both : (old mid new : Option (List ℕ)) (text rest : List ℕ) (n : �
     → Appends old new (take (length text + n) (text ++ rest))
 first_of_both old mid new text rest n wrote more = rw (take-append-add text rest n) (Appends-trans old mid new text (take n rest) wrote more)
 
-prints-then : (old mid new : Option (List ℕ)) (answer : Answer) (text : List ℕ) (t : Printout) → Appends old mid text → PrintsOut mid new answer t
+prints-then : (old mid new : Option (List ℕ)) (answer : CommandResult) (text : List ℕ) (t : Printout) → Appends old mid text → PrintsOut mid new answer t
     → PrintsOut old new answer (text_then text t)
 prints-then old mid new answer text t wrote (inl done) = inl (done.0, Appends-trans old mid new text t.written wrote done.1)
 prints-then old mid new answer text t wrote (inr (inl stopped)) =
@@ -45,7 +45,7 @@ first_of_longer old new text rest n short wrote = rw (take-append-le n text rest
 
 prints-stopped : (old new : Option (List ℕ)) (refusal : Refusal) (text : List ℕ) (t : Printout) → PrintsOut old new (Err refusal) (shows text)
     → PrintsOut old new (Err refusal) (text_then text t)
-prints-stopped old new refusal text t (inl done) = absurd (let bad : (let a : Answer = Err refusal in a) ≡ Ok tt = done.0 in cc)
+prints-stopped old new refusal text t (inl done) = absurd (let bad : (let a : CommandResult = Err refusal in a) ≡ Ok tt = done.0 in cc)
 prints-stopped old new refusal text t (inr (inl stopped)) =
     let some = first_of_longer old new text t.written stopped.1.0 (omega (arith, stopped.1.1)) stopped.1.2 in
     inr (inl (stopped.0, (stopped.1.0, omega (arith, length-append text t.written, stopped.1.1), some)))
@@ -53,14 +53,14 @@ prints-stopped old new refusal text t (inr (inr failed)) =
     let some = first_of_longer old new text t.written failed.1.0 failed.1.1 failed.1.2 in
     inr (inr (failed.0, (failed.1.0, omega (arith, length-append text t.written, failed.1.1), some)))
 
-pub handed : (answer : Answer) (refusal : Refusal) → IsErrAnd answer (λ r. r ≡ refusal) → (let a : Answer = Err refusal in a) ≡ answer
+pub handed : (answer : CommandResult) (refusal : Refusal) → IsErrAnd answer (λ r. r ≡ refusal) → (let a : CommandResult = Err refusal in a) ≡ answer
 handed (Ok done) refusal is = absurd is
-handed (Err other) refusal is = ap (λ (r : Refusal). (let a : Answer = Err r in a)) (sym is)
+handed (Err other) refusal is = ap (λ (r : Refusal). (let a : CommandResult = Err r in a)) (sym is)
 
 printout-text : (old new : Option (List ℕ)) (text : List ℕ) → PrintsOut old new (Ok tt) (shows text) → Appends old new text
 printout-text old new text (inl done) = done.1
-printout-text old new text (inr (inl stopped)) = absurd (let bad : (let a : Answer = Ok tt in a) ≡ Err refusals.Output = stopped.0 in cc)
-printout-text old new text (inr (inr failed)) = absurd (let bad : (let a : Answer = Ok tt in a) ≡ Err refusals.Device = failed.0 in cc)
+printout-text old new text (inr (inl stopped)) = absurd (let bad : (let a : CommandResult = Ok tt in a) ≡ Err refusals.Output = stopped.0 in cc)
+printout-text old new text (inr (inr failed)) = absurd (let bad : (let a : CommandResult = Ok tt in a) ≡ Err refusals.Device = failed.0 in cc)
 
 -- ---- the output so far
 
@@ -109,7 +109,7 @@ module _ {F W : Type 0} {facts : F → Device} {contents : W → Option (List �
       }
 
       -- the rest of the output
-      pub so_far-ends : {answer : Answer} {t : List ℕ → Printout} (m : ℕ) → HasOutput facts contents faults k mid new b c answer t
+      pub so_far-ends : {answer : CommandResult} {t : List ℕ → Printout} (m : ℕ) → HasOutput facts contents faults k mid new b c answer t
           → OnHonest facts mid.device (λ image. rest image ≡ t image) → n + k ≤ m → HasOutput facts contents faults m old new a c answer whole
       so_far-ends {answer} {t} m last is few = record {
         read = HasRead-within facts (n + k) m _ old new few (HasRead-then facts n k _ old mid new p.reads last.read);
@@ -124,7 +124,7 @@ module _ {F W : Type 0} {facts : F → Device} {contents : W → Option (List �
             (prints-then _ _ _ answer so_far.text _ so_far.written (subst (λ (l : List ℕ). PrintsOut (contents b) (contents c) answer (rest l)) (p.reads.device.unchanged h) here));
       }
 
-  module _ {k : ℕ} {old mid new : Pages F} {a b : W} {answer : Answer} {t : List ℕ → Printout} (printout : HasOutput facts contents faults k mid new a b answer t) where
+  module _ {k : ℕ} {old mid new : Pages F} {a b : W} {answer : CommandResult} {t : List ℕ → Printout} (printout : HasOutput facts contents faults k mid new a b answer t) where
     -- output after reads
     pub printout-after : {n : ℕ} (m : ℕ) → HasRead facts n 0 old mid → n + k ≤ m → HasOutput facts contents faults m old new a b answer t
     printout-after {n} m first few = record {
@@ -137,9 +137,9 @@ module _ {F W : Type 0} {facts : F → Device} {contents : W → Option (List �
 
   module _ {k : ℕ} {old new : Pages F} {a b : W} {text : List ℕ → List ℕ} where
     -- a partial text is a prefix of the output
-    pub printout-stopped : {refusal : Refusal} {answer : Answer} (t : List ℕ → Printout) → HasOutput facts contents faults k old new a b (Err refusal) (λ image. shows (text image)) → IsErrAnd answer (λ r. r ≡ refusal)
+    pub printout-stopped : {refusal : Refusal} {answer : CommandResult} (t : List ℕ → Printout) → HasOutput facts contents faults k old new a b (Err refusal) (λ image. shows (text image)) → IsErrAnd answer (λ r. r ≡ refusal)
         → HasOutput facts contents faults k old new a b answer (λ image. text_then (text image) (t image))
-    printout-stopped {refusal} {answer} t printout is = subst (λ (r : Answer). HasOutput facts contents faults k old new a b r (λ image. text_then (text image) (t image))) (handed answer refusal is) (record {
+    printout-stopped {refusal} {answer} t printout is = subst (λ (r : CommandResult). HasOutput facts contents faults k old new a b r (λ image. text_then (text image) (t image))) (handed answer refusal is) (record {
       read = printout.read;
       sink = printout.sink;
       output = printout.output;
@@ -153,12 +153,12 @@ module _ {F W : Type 0} {facts : F → Device} {contents : W → Option (List �
     so_far-of next printout = record { reads = printout.read; sink = printout.sink; printout = λ h. record { text = text (facts old.device).content; written = printout-text _ _ _ (printout.printout h); is = refl } }
 
   -- by more calls
-  pub printout-within : {k : ℕ} {old new : Pages F} {a b : W} {answer : Answer} {t : List ℕ → Printout} (m : ℕ) → k ≤ m → HasOutput facts contents faults k old new a b answer t
+  pub printout-within : {k : ℕ} {old new : Pages F} {a b : W} {answer : CommandResult} {t : List ℕ → Printout} (m : ℕ) → k ≤ m → HasOutput facts contents faults k old new a b answer t
       → HasOutput facts contents faults m old new a b answer t
   printout-within m few printout = printout-after printout m (HasRead-none facts _) (omega (arith, few))
 
   -- a row after reads
-  pub printout-row : {k : ℕ} {old new : Pages F} {a b : W} {answer : Answer} {text : List ℕ} → HasRead facts k 0 old new → faults a ≤ faults b → OnErr answer (faults a < faults b) → OnErr answer (answer ≡ Err refusals.Output)
+  pub printout-row : {k : ℕ} {old new : Pages F} {a b : W} {answer : CommandResult} {text : List ℕ} → HasRead facts k 0 old new → faults a ≤ faults b → OnErr answer (faults a < faults b) → OnErr answer (answer ≡ Err refusals.Output)
       → PrintsOut (contents a) (contents b) answer (shows text) → HasOutput facts contents faults k old new a b answer (λ image. shows text)
   printout-row {answer = Ok done} read sink output only printout = record { read = read; sink = sink; output = λ failed. absurd cc; no_source = λ failed. absurd cc; printout = λ h. printout }
   printout-row {answer = Err refusal} read sink output only printout =
@@ -175,9 +175,9 @@ module _ {F W : Type 0} {facts : F → Device} {contents : W → Option (List �
   }
 
   -- only an error: the device's, or the output's only content
-  pub printout-refusal : {k : ℕ} {old new : Pages F} {out : W} {refusal : Refusal} {answer : Answer} (t : List ℕ → Printout) → IsErrAnd answer (λ r. r ≡ refusal) → HasRead facts k (by_device refusal) old new
+  pub printout-refusal : {k : ℕ} {old new : Pages F} {out : W} {refusal : Refusal} {answer : CommandResult} (t : List ℕ → Printout) → IsErrAnd answer (λ r. r ≡ refusal) → HasRead facts k (by_device refusal) old new
       → (refusal ≡ refusals.Output → ⊥) → (refusal ≡ refusals.Source → ⊥) → OnHonest facts old.device (λ image. (refusal ≡ refusals.Device) ⊎ (t image ≡ refuses refusal)) → HasOutput facts contents faults k old new out out answer t
-  printout-refusal {k} {old} {new} {out} {refusal} {answer} t is read no_output no_source printout = subst (λ (r : Answer). HasOutput facts contents faults k old new out out r t) (handed answer refusal is) (record {
+  printout-refusal {k} {old} {new} {out} {refusal} {answer} t is read no_output no_source printout = subst (λ (r : CommandResult). HasOutput facts contents faults k old new out out r t) (handed answer refusal is) (record {
     read = read;
     sink = omega arith;
     output = λ failed. absurd (no_output cc);
@@ -200,7 +200,7 @@ still_cell {region = region} {cell = cell} read is = record {
 }
 
 -- a call that only reads the device, by its parts
-pub told_by_parts : {F W : Type 0} {facts : F → Device} {contents : W → Option (List ℕ)} {faults : W → ℕ} {n : ℕ} {old new : Pages F} {out_old out_new : W} {answer : Answer} {t : List ℕ → Printout}
+pub told_by_parts : {F W : Type 0} {facts : F → Device} {contents : W → Option (List ℕ)} {faults : W → ℕ} {n : ℕ} {old new : Pages F} {out_old out_new : W} {answer : CommandResult} {t : List ℕ → Printout}
     → OnHonest facts old.device (λ image. PrintsOut (contents out_old) (contents out_new) answer (t image))
     → HasRead facts n (fault_count by_device answer) old new
     → faults out_old ≤ faults out_new

@@ -9,7 +9,7 @@ use Rattle.flash_device.proofs.DeviceLemmas.{length-bytes_in}
 use Rattle.cbfs_commands.specs.declared.refusal.Refusal.{Refusal}
 use Rattle.cbfs_commands.specs.Effects.{replaces}
 use Rattle.cbfs_commands.specs.Refusals.{fault_or, store_refusal}
-use Rattle.cbfs_commands.specs.Printouts.{Answer, Printout, refuses, shows}
+use Rattle.cbfs_commands.specs.Printouts.{CommandResult, Printout, refuses, shows}
 use Rattle.cbfs_commands.specs.Laws.{WritingBackChangesNothing}
 use Rattle.cbfs_commands.proofs.RegionPlaces.{region_lies}
 
@@ -17,7 +17,7 @@ pub written_back : WritingBackChangesNothing
 written_back image name bytes printout = go (region_of image name) refl printout
   where
     go : (r : Result Range StoreFault) → region_of image name ≡ r → fault_or (λ fault. refuses (store_refusal fault)) r (λ region. shows (bytes_in region image)) ≡ shows bytes → (replaces name).made image bytes ≡ Ok image
-    go (Err fault) e is = absurd (let k : (let a : Answer = Err (store_refusal fault) in a) ≡ Ok tt = ap (λ (t : Printout). t.answer) is in cc)
+    go (Err fault) e is = absurd (let k : (let a : CommandResult = Err (store_refusal fault) in a) ≡ Ok tt = ap (λ (t : Printout). t.answer) is in cc)
     go (Ok region) e is =
         let u : bytes_in region image ≡ bytes = ap (λ (t : Printout). t.written) is in
         let lies = region_lies image name region e in

@@ -49,12 +49,12 @@ region_places n [] = Ok []
 region_places n (area ∷ areas) = fault_or Err (region_place n area) (λ place.
     fault_or Err (region_places n areas) (λ places. Ok (place ∷ places)))
 
-abbrev pub overlap : Range → Range → Bool
-overlap a b = nat_lt a.start (b.start + b.size) && nat_lt b.start (a.start + a.size)
+abbrev pub share_bytes : Range → Range → Bool
+share_bytes a b = nat_lt a.start (b.start + b.size) && nat_lt b.start (a.start + a.size)
 
 abbrev pub some_overlap : List Range → Bool
 some_overlap [] = false
-some_overlap (place ∷ places) = list_any (overlap place) places || some_overlap places
+some_overlap (place ∷ places) = list_any (share_bytes place) places || some_overlap places
 
 -- ---- the plan: first the map's area, then each region, then overlaps
 

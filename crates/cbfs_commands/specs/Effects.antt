@@ -24,7 +24,7 @@ use Rattle.cbfs_commands.specs.Refusals.{by_device, by_source, edit_refusal, fau
 use Rattle.cbfs_commands.specs.Refusals.{store_refusal}
 use Rattle.cbfs_commands.specs.Outcomes.{Outcome, StopsIn, AddStopsIn, LeavesOr, print_region}
 use Rattle.cbfs_commands.specs.Outcomes.{extract_region, printed_in}
-use Rattle.cbfs_commands.specs.Printouts.{Answer, Printout, PrintsOut, shows}
+use Rattle.cbfs_commands.specs.Printouts.{CommandResult, Printout, PrintsOut, shows}
 
 -- a request on a region
 pub data Task : Type 0 where
@@ -59,7 +59,7 @@ pub record Change : Type 1 where
   pub made : List ℕ → List ℕ → Result (List ℕ) Refusal
   pub target : List ℕ → Option Range
   pub source_calls : Option (ℕ → ℕ)
-  pub Stopped : List ℕ → List ℕ → Answer → List ℕ → Type 0
+  pub Stopped : List ℕ → List ℕ → CommandResult → List ℕ → Type 0
 
 -- a report on the image, or a change without output
 pub data Effect : Type 1 where
@@ -102,7 +102,7 @@ source_calls d n = option_map_or (λ calls. calls n) (change_of d).source_calls 
 -- The change of a named region: whether the command reads the source (once), the result and new
 -- bytes by region, bytes and source, and the effect of an interruption.
 abbrev pub edits : List ℕ → Bool → (Range → List ℕ → List ℕ → Result (List ℕ) Refusal)
-    → (Range → List ℕ → List ℕ → Answer → List ℕ → Type 0) → Change
+    → (Range → List ℕ → List ℕ → CommandResult → List ℕ → Type 0) → Change
 edits name reads make Stops = record {
   made = λ image source. fault_or (λ fault. Err (store_refusal fault)) (region_of image name)
       (λ region. fault_or Err (make region (bytes_in region image) source)
@@ -172,14 +172,14 @@ SparesOutside target image now =
 
 -- the answer, output and effect of the effect, or an interruption
 abbrev pub Meets : Effect → Option (List ℕ) → Option (List ℕ) → List ℕ → List ℕ → List ℕ
-    → Answer → Type 0
+    → CommandResult → Type 0
 Meets (prints printout) old new image source now answer =
     PrintsOut old new answer (printout image) × (now ≡ image)
 Meets (changes c) old new image source now answer =
     LeavesOr now answer (outcome (changes c) image source)
 
 -- any other answer implies no change
-abbrev pub MayHaveWritten : Answer → Type 0
+abbrev pub MayHaveWritten : CommandResult → Type 0
 MayHaveWritten answer =
     (answer ≡ Ok tt) ⊎ (answer ≡ Err refusals.Device) ⊎ (answer ≡ Err refusals.Source)
 
@@ -189,8 +189,8 @@ no_source = record { content = []; calls = 0; faults = 0; honest = true }
 -- A change by at most n device calls. A fault implies a failure of the device or source. An honest
 -- device keeps all bytes outside the allowed region, and all bytes after any other error. For an
 -- honest source, the result is the change or an interruption.
-pub record HasChanged {F : Type 0} (facts : F → Device) (n : ℕ) (change : Change)
-    (old new : Pages F) (source source_now : Device) (answer : Answer) : Type 0 where
+pub record HasApplied {F : Type 0} (facts : F → Device) (n : ℕ) (change : Change)
+    (old new : Pages F) (source source_now : Device) (answer : CommandResult) : Type 0 where
   pub calls : Calls n (fault_count by_device answer) (facts old.device) (facts new.device)
   pub source_calls : Calls (source_calls (changes change) (length source.content))
       (fault_count by_source answer) source source_now
@@ -208,7 +208,7 @@ pub record HasChanged {F : Type 0} (facts : F → Device) (n : ℕ) (change : Ch
 -- device. The other fields require an honest device.
 pub record HasRun {F S W : Type 0} (facts : F → Device) (sources : S → Device)
     (contents : W → Option (List ℕ)) (faults : W → ℕ) (n : ℕ) (d : Effect) (old new : Pages F)
-    (source_old source_new : S) (out_old out_new : W) (answer : Answer) : Type 0 where
+    (source_old source_new : S) (out_old out_new : W) (answer : CommandResult) : Type 0 where
   pub calls : Calls n (fault_count by_device answer) (facts old.device) (facts new.device)
   pub source_calls : Calls (source_calls d (length (sources source_old).content))
       (fault_count by_source answer) (sources source_old) (sources source_new)

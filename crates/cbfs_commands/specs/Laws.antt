@@ -20,7 +20,7 @@ use Rattle.cbfs_commands.specs.Creations.{FitsImage, created_image, plan_for}
 use Rattle.cbfs_commands.specs.Effects.{effect, outcome, replaces, Request, Task, on_region}
 use Rattle.cbfs_commands.specs.Outcomes.{extract_region, printed_in}
 use Rattle.cbfs_commands.specs.Refusals.{HasNoFault}
-use Rattle.cbfs_commands.specs.Rows.{area_row, map_row, row, rows_from}
+use Rattle.cbfs_commands.specs.Rows.{area_line, map_line, cell_row, rows_from}
 use Rattle.cbfs_commands.specs.Printouts.{shows}
 
 abbrev pub OutcomesHaveNoFault : Type 0
@@ -99,7 +99,7 @@ AreSameCells at cells other others = ⊥
 -- Different cells have different rows, for any later text, and different listings.
 pub record RowsAreReadBack : Type 0 where
   pub rows : (at other : ℕ) (x y more rest : List ℕ) → at < 2 ^ 64 → other < 2 ^ 64
-      → HasNumbers x → HasNumbers y → row at x ++ more ≡ row other y ++ rest
+      → HasNumbers x → HasNumbers y → cell_row at x ++ more ≡ cell_row other y ++ rest
       → IsSameCell at x other y × (more ≡ rest)
   pub listings : (at other : ℕ) (cells others : List (List ℕ))
       → HaveNumbers at cells → HaveNumbers other others
@@ -142,9 +142,9 @@ pub record IsSameMap (q : ℕ) (h : FmapHead) (p : ℕ) (k : FmapHead) : Type 0 
 -- Different maps and areas have different lines, for any later text, and different layouts.
 pub record LinesAreReadBack : Type 0 where
   pub maps : (q p : ℕ) (h k : FmapHead) (more rest : List ℕ) → HasMapNumbers q h
-      → HasMapNumbers p k → map_row q h ++ more ≡ map_row p k ++ rest
+      → HasMapNumbers p k → map_line q h ++ more ≡ map_line p k ++ rest
       → IsSameMap q h p k × (more ≡ rest)
   pub areas : (a b : Area) (more rest : List ℕ) → HasAreaNumbers a → HasAreaNumbers b
-      → area_row a ++ more ≡ area_row b ++ rest → IsSameArea a b × (more ≡ rest)
+      → area_line a ++ more ≡ area_line b ++ rest → IsSameArea a b × (more ≡ rest)
   pub all_areas : (areas others : List Area) → HaveAreaNumbers areas → HaveAreaNumbers others
-      → flat_map area_row areas ≡ flat_map area_row others → AreSameAreas areas others
+      → flat_map area_line areas ≡ flat_map area_line others → AreSameAreas areas others

@@ -15,7 +15,7 @@ use Rattle.cbfs_walk.specs.Shapes.{shape_fault, refused_or}
 use Rattle.cbfs_commands.specs.declared.refusal.Refusal.TheVariants as refusals
 use Rattle.cbfs_commands.specs.Refusals.{fault_or, store_refusal, walk_refusal}
 use Rattle.cbfs_commands.specs.Rows.{rows_from}
-use Rattle.cbfs_commands.specs.Printouts.{Answer, Printout, shows, refuses}
+use Rattle.cbfs_commands.specs.Printouts.{CommandResult, Printout, shows, refuses}
 
 pub record Outcome : Type 0 where
   pub printout : Printout
@@ -56,7 +56,7 @@ extract_region x name =
 
 -- A region after an interrupted write: a prefix of the source, after a device fault an arbitrary
 -- piece, then the old bytes. A source of another size changes nothing.
-pub record StopsIn (region : Range) (image source : List ℕ) (answer : Answer)
+pub record StopsIn (region : Range) (image source : List ℕ) (answer : CommandResult)
     (now : List ℕ) : Type 0 where
   pub of_other_size : length source ≢ region.size → now ≡ image
   pub by_source : answer ≡ Err refusals.Source → FirstWritten region.start source image now
@@ -65,13 +65,13 @@ pub record StopsIn (region : Range) (image source : List ℕ) (answer : Answer)
 -- A region after an interrupted addition: after a source fault, the same components; after a device
 -- fault, also with the complete addition.
 pub record AddStopsIn (region : Range) (image : List ℕ) (new : NewComponent) (spot : Spot)
-    (answer : Answer) (now : List ℕ) : Type 0 where
+    (answer : CommandResult) (now : List ℕ) : Type 0 where
   pub by_device : answer ≡ Err refusals.Device
       → AddLeavesWhole (bytes_in region image) new spot (bytes_in region now)
   pub by_source : answer ≡ Err refusals.Source
       → AddLeavesBefore (bytes_in region image) new spot (bytes_in region now)
 
 -- the answer and effect of the outcome, or a fault of the device or the source
-abbrev pub LeavesOr : List ℕ → Answer → Outcome → Type 0
+abbrev pub LeavesOr : List ℕ → CommandResult → Outcome → Type 0
 LeavesOr now answer o = ((answer ≡ o.printout.answer) × (now ≡ o.image))
     ⊎ (answer ≡ Err refusals.Device) ⊎ (answer ≡ Err refusals.Source)

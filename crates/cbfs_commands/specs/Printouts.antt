@@ -14,12 +14,12 @@ use Rattle.cbfs_commands.specs.Refusals.{by_device}
 use Rattle.cbfs_commands.specs.declared.refusal.Refusal.{Refusal}
 use Rattle.cbfs_commands.specs.declared.refusal.Refusal.TheVariants as refusals
 
-abbrev pub Answer : Type 0
-Answer = Result (Unit {0}) Refusal
+abbrev pub CommandResult : Type 0
+CommandResult = Result (Unit {0}) Refusal
 
 pub record Printout : Type 0 where
   pub written : List ℕ
-  pub answer : Answer
+  pub answer : CommandResult
 
 -- text and success
 abbrev pub shows : List ℕ → Printout
@@ -30,13 +30,13 @@ abbrev pub refuses : Refusal → Printout
 refuses refusal = record { written = []; answer = Err refusal }
 
 -- the writer failed after a proper prefix of the text, or the device after a prefix
-abbrev pub StopsWriting : Option (List ℕ) → Option (List ℕ) → Answer → List ℕ → Type 0
+abbrev pub StopsWriting : Option (List ℕ) → Option (List ℕ) → CommandResult → List ℕ → Type 0
 StopsWriting old new answer text =
     ((answer ≡ Err refusals.Output) × AppendsPart old new text) ⊎ ((answer ≡ Err refusals.Device)
     × ((n : ℕ) × (n ≤ length text) × Appends old new (take n text)))
 
 -- the output and answer, or an interruption
-abbrev pub PrintsOut : Option (List ℕ) → Option (List ℕ) → Answer → Printout → Type 0
+abbrev pub PrintsOut : Option (List ℕ) → Option (List ℕ) → CommandResult → Printout → Type 0
 PrintsOut old new answer t =
     ((answer ≡ t.answer) × Appends old new t.written) ⊎ StopsWriting old new answer t.written
 
@@ -54,13 +54,13 @@ pub record IsComponentOf {F : Type 0} (facts : F → Device) (r : Range) (c : Ce
   pub used : is_free c.head ≡ false
 
 -- a cell's bytes, by its region and the image
-abbrev pub cell_of : Range → Cell → List ℕ → List ℕ
-cell_of region cell image = cell_in (bytes_in region image) cell
+abbrev pub cell_bytes : Range → Cell → List ℕ → List ℕ
+cell_bytes region cell image = cell_in (bytes_in region image) cell
 
 -- A call that reads the device at most n times and writes to a sink. A fault implies a failure of
 -- its device. `printout` requires an honest device.
 pub record HasOutput {F W : Type 0} (facts : F → Device) (contents : W → Option (List ℕ))
-    (faults : W → ℕ) (n : ℕ) (old new : Pages F) (out_old out_new : W) (answer : Answer)
+    (faults : W → ℕ) (n : ℕ) (old new : Pages F) (out_old out_new : W) (answer : CommandResult)
     (t : List ℕ → Printout) : Type 0 where
   pub read : HasRead facts n (fault_count by_device answer) old new
   pub sink : faults out_old ≤ faults out_new

@@ -41,25 +41,25 @@ row_text at h name n = option_map_or printed_name name (codes "(empty)") ++ tab 
     ++ tab ++ printed_type h.kind ++ tab ++ decimal h.len ++ tab ++ printed_packing n ++ line_feed
 
 -- free space has no name and no compression
-abbrev pub row : ℕ → List ℕ → List ℕ
-row at x = if is_free (head_of x) then row_text at (head_of x) None 0
+abbrev pub cell_row : ℕ → List ℕ → List ℕ
+cell_row at x = if is_free (head_of x) then row_text at (head_of x) None 0
     else row_text at (head_of x) (Some (cell_name x)) (packing (cell_attributes x))
 
 -- ---- layout
 
 -- offset, name, size and number of areas
-unfoldable pub map_row : ℕ → FmapHead → List ℕ
-map_row q h = codes "fmap" ++ tab ++ hexadecimal q ++ tab ++ printed_name (text_of h.name) ++ tab
+unfoldable pub map_line : ℕ → FmapHead → List ℕ
+map_line q h = codes "fmap" ++ tab ++ hexadecimal q ++ tab ++ printed_name (text_of h.name) ++ tab
     ++ decimal h.size ++ tab ++ decimal h.nareas ++ line_feed
 
 -- name, offset, size and flags
-unfoldable pub area_row : Area → List ℕ
-area_row a = printed_name (text_of a.name) ++ tab ++ hexadecimal a.offset ++ tab ++ decimal a.size
+unfoldable pub area_line : Area → List ℕ
+area_line a = printed_name (text_of a.name) ++ tab ++ hexadecimal a.offset ++ tab ++ decimal a.size
     ++ tab ++ hexadecimal a.flags ++ line_feed
 
 unfoldable pub layout : List ℕ → Printout
 layout image = option_map_or
-    (λ q. shows (map_row q (fmap_head_of (drop q image)) ++ flat_map area_row (areas_at image q)))
+    (λ q. shows (map_line q (fmap_head_of (drop q image)) ++ flat_map area_line (areas_at image q)))
     (map_of image) (refuses refusals.NoFmap)
 
 -- the tag in eight digits, and the length including the header
@@ -89,7 +89,7 @@ details x = flat_map attribute_line (map head_of_attribute (cell_attributes x)) 
 -- the row, then its lines
 abbrev pub shown_cell : Bool → ℕ → List ℕ → List ℕ
 shown_cell verbose at x =
-    row at x ++ (if verbose && not (is_free (head_of x)) then details x else [])
+    cell_row at x ++ (if verbose && not (is_free (head_of x)) then details x else [])
 
 -- consecutive cells
 unfoldable pub rows_from : Bool → ℕ → List (List ℕ) → List ℕ

@@ -1,7 +1,7 @@
 //! The command `add`.
 
 ghost use Rattle.std.specs.Prelude.{◌+◌, ◌*◌, length};
-ghost use Rattle.cbfs_commands.specs.Effects.{HasChanged, adds};
+ghost use Rattle.cbfs_commands.specs.Effects.{HasApplied, adds};
 
 use crate::refusal::Refusal;
 use cbfs_edit::{HashChoice, Spot};
@@ -17,7 +17,7 @@ pub fn add<F: Flash, S: Source>(
     spot: Spot,
     source: &mut S,
 ) -> Result<(), Refusal>
-    ensures { HasChanged F.facts (2 * length (F.facts paged.old.device).content + 64)
+    ensures { HasApplied F.facts (2 * length (F.facts paged.old.device).content + 64)
         (adds region.now name.now kind hash spot) paged.old paged.new (S.facts source.old)
         (S.facts source.new) result }
 {

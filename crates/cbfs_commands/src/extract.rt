@@ -3,7 +3,7 @@
 ghost use Rattle.std.specs.Prelude.{◌≡◌, ◌+◌, ◌*◌, ◌/◌, ◌<◌, ◌≤◌, length};
 ghost use Rattle.flash_format.specs.Components.{component_at};
 ghost use Rattle.cbfs_commands.specs.Outcomes.{extract_region, printed_component, printed_in};
-ghost use Rattle.cbfs_commands.specs.Printouts.{HasOutput, IsComponentOf, cell_of};
+ghost use Rattle.cbfs_commands.specs.Printouts.{HasOutput, IsComponentOf, cell_bytes};
 
 use crate::read::copy_out;
 use crate::refusal::Refusal;
@@ -20,7 +20,7 @@ fn extract_component<F: Flash, W: Sink>(
 
     ensures { HasOutput F.facts W.contents W.faults (cell.now.span / 3840 + 2)
         paged.old paged.new out.old out.new result (λ image.
-        printed_component (component_at cell.now.at (cell_of region cell.now image))) }
+        printed_component (component_at cell.now.at (cell_bytes region cell.now image))) }
 {
     cells_stand_in_their_image();
     if packing(paged, region, cell)? != 0 {

@@ -4,7 +4,7 @@ ghost use Rattle.std.specs.Prelude.{◌≡◌, ◌+◌, ◌*◌, ◌/◌, ◌<�
 ghost use Rattle.std.specs.List.{flat_map};
 ghost use Rattle.flash_format.specs.Flashmap.{fmap_head_len, area_len, map_len, area_of};
 ghost use Rattle.flash_format.specs.Flashmap.{areas_from};
-ghost use Rattle.cbfs_commands.specs.Rows.{layout, map_row, area_row};
+ghost use Rattle.cbfs_commands.specs.Rows.{layout, map_line, area_line};
 ghost use Rattle.cbfs_commands.specs.Printouts.{HasOutput, shows};
 
 use crate::refusal::Refusal;
@@ -14,9 +14,9 @@ use flash_device::{Flash, Paged, Sink};
 use flash_format::{Area, push_hexadecimal, push_name, push_text};
 use flash_map::{FoundMap, area, find_fmap};
 
-#[tactic(auto, unfolding(crate::specs::Rows::map_row))]
+#[tactic(auto, unfolding(crate::specs::Rows::map_line))]
 fn set_map_row(row: &mut Row, map: &FoundMap)
-    ensures { row.new.items ≡ map_row map.now.at map.now.head }
+    ensures { row.new.items ≡ map_line map.now.at map.now.head }
 {
     row.clear();
     push_text(row, b"fmap");
@@ -31,9 +31,9 @@ fn set_map_row(row: &mut Row, map: &FoundMap)
     push_text(row, b"\n");
 }
 
-#[tactic(auto, unfolding(crate::specs::Rows::area_row))]
+#[tactic(auto, unfolding(crate::specs::Rows::area_line))]
 fn set_area_row(row: &mut Row, area: &Area)
-    ensures { row.new.items ≡ area_row area.now }
+    ensures { row.new.items ≡ area_line area.now }
 {
     row.clear();
     push_name(row, area.text());
@@ -59,7 +59,7 @@ fn list_area<F: Flash, W: Sink>(
 
     ensures { HasOutput F.facts W.contents W.faults 1
         paged.old paged.new out.old out.new result (λ image.
-        shows (area_row (area_of (drop (map.now.at + fmap_head_len + area_len * i) image)))) }
+        shows (area_line (area_of (drop (map.now.at + fmap_head_len + area_len * i) image)))) }
 {
     let listed = area(paged, map, i)?;
     set_area_row(row, &listed);
@@ -75,7 +75,7 @@ fn list_areas<F: Flash, W: Sink>(
     requires { map.now.at + map_len map.now.head ≤ length (F.facts paged.old.device).content }
 
     ensures { HasOutput F.facts W.contents W.faults map.now.head.nareas
-        paged.old paged.new out.old out.new result (λ image. shows (flat_map area_row
+        paged.old paged.new out.old out.new result (λ image. shows (flat_map area_line
         (areas_from map.now.head.nareas (drop (map.now.at + fmap_head_len) image)))) }
 {
     for i in 0..map.head.nareas {

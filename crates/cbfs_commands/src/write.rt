@@ -1,7 +1,7 @@
 //! The command `write`.
 
 ghost use Rattle.std.specs.Prelude.{◌+◌, ◌*◌, length};
-ghost use Rattle.cbfs_commands.specs.Effects.{HasChanged, replaces};
+ghost use Rattle.cbfs_commands.specs.Effects.{HasApplied, replaces};
 
 use crate::refusal::Refusal;
 use flash_device::{Flash, Paged, Source};
@@ -12,7 +12,7 @@ pub fn write<F: Flash, S: Source>(
     name: &[u8],
     source: &mut S,
 ) -> Result<(), Refusal>
-    ensures { HasChanged F.facts (2 * length (F.facts paged.old.device).content + 64)
+    ensures { HasApplied F.facts (2 * length (F.facts paged.old.device).content + 64)
         (replaces name.now) paged.old paged.new (S.facts source.old) (S.facts source.new) result }
 {
     let region = flash_map::region(paged, name)?;

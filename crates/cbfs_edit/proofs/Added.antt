@@ -20,8 +20,8 @@ use Rattle.cbfs_edit.specs.Removals.{IsCellRange, kept_at, space_end}
 use Rattle.cbfs_edit.specs.Runs.{runs}
 use Rattle.cbfs_edit.specs.Places.{is_bad_align, IsWanted, IsFirstPlace, IsPlaceAmong, placing_in}
 use Rattle.cbfs_edit.specs.Places.{Fits}
-use Rattle.cbfs_edit.specs.Changes.{AddLeavesWhole, AddLeavesBefore, IsOldOrEmptied, written_to, IsInsertStop, copy_fault}
-use Rattle.cbfs_edit.specs.Additions.{NewComponent, AddsOne, added, added_component, addition_in, empty_between, cell_end, metadata_len_of, is_bad_name, is_bad_type, kept_from, made_at, own_fault, wanted_for, added_to, algorithm_of, digest_of}
+use Rattle.cbfs_edit.specs.Changes.{AddLeavesWhole, AddLeavesBefore, IsOldOrEmptied, written_to, IsInsertStop, copy_edit_fault}
+use Rattle.cbfs_edit.specs.Additions.{NewComponent, AddsOne, added, added_component, addition_in, empty_between, cell_end, metadata_len_of, is_bad_name, is_bad_type, kept_from, made_at, argument_fault, wanted_for, added_to, algorithm_of, digest_of}
 use Rattle.cbfs_edit.specs.Laws.{AdditionsAddOneComponent, IsAdded}
 use Rattle.cbfs_edit.specs.declared.fault.EditFault.{EditFault}
 use Rattle.cbfs_edit.specs.declared.group.CellRange.{CellRange}
@@ -48,7 +48,7 @@ use Rattle.cbfs_edit.specs.declared.fault.EditFault.TheVariants as faults
 use Rattle.flash_device.specs.declared.paged.CopyInFault.TheVariants as copies
 
 -- after the caller's own checks
-pub own-is : (x : List ℕ) (new : NewComponent) (spot : Spot) (own : Option EditFault) → own ≡ own_fault new.name new.kind spot → option_map_or (λ fault. Err fault) own (placing_in x new.name (wanted_for new spot)) ≡ addition_in x new spot
+pub own-is : (x : List ℕ) (new : NewComponent) (spot : Spot) (own : Option EditFault) → own ≡ argument_fault new.name new.kind spot → option_map_or (λ fault. Err fault) own (placing_in x new.name (wanted_for new spot)) ≡ addition_in x new spot
 unfolding addition_in
 own-is x new spot own is = ap (λ (o : Option EditFault). option_map_or (λ fault. Err fault) o (placing_in x new.name (wanted_for new spot))) is
 
@@ -261,15 +261,15 @@ pub no_error : {A E X : Type 0} {value : A} {fault : E} → (let a : Result A E 
 no_error is = absurd cc
 
 -- a stopped copy
-pub copy_cause : {A Q : Type 0} (fault : CopyInFault) → (let a : Result A EditFault = Err (copy_fault fault) in IsErrOf a faults.Device ⊎ (IsErrOf a faults.Source ⊎ Q))
+pub copy_cause : {A Q : Type 0} (fault : CopyInFault) → (let a : Result A EditFault = Err (copy_edit_fault fault) in IsErrOf a faults.Device ⊎ (IsErrOf a faults.Source ⊎ Q))
 copy_cause copies.Device = inl refl
 copy_cause copies.Source = inr (inl refl)
 
-pub copy_only : {X : Type 0} (fault : CopyInFault) → (copy_fault fault ≡ faults.Device → ⊥) → (copy_fault fault ≡ faults.Source → ⊥) → X
+pub copy_only : {X : Type 0} (fault : CopyInFault) → (copy_edit_fault fault ≡ faults.Device → ⊥) → (copy_edit_fault fault ≡ faults.Source → ⊥) → X
 copy_only copies.Device other another = absurd (other refl)
 copy_only copies.Source other another = absurd (another refl)
 
-pub copy_source : {A B : Type 0} (fault : CopyInFault) → (let a : Result A EditFault = Err (copy_fault fault) in IsErrOf a faults.Source) → (let b : Result B CopyInFault = Err fault in IsErrOf b copies.Source)
+pub copy_source : {A B : Type 0} (fault : CopyInFault) → (let a : Result A EditFault = Err (copy_edit_fault fault) in IsErrOf a faults.Source) → (let b : Result B CopyInFault = Err fault in IsErrOf b copies.Source)
 copy_source copies.Device is = absurd cc
 copy_source copies.Source is = refl
 
@@ -291,7 +291,7 @@ sought_written facts r told old mid new read changed =
     }
 
 -- the search's result after the caller's own checks
-module _ (x : List ℕ) (new : NewComponent) (spot : Spot) (own : Option EditFault) (wanted : Wanted) (passed : (fault : EditFault) → own ≡ Some fault → ⊥) (own_is : own ≡ own_fault new.name new.kind spot) (wanted_is : wanted ≡ wanted_for new spot) where
+module _ (x : List ℕ) (new : NewComponent) (spot : Spot) (own : Option EditFault) (wanted : Wanted) (passed : (fault : EditFault) → own ≡ Some fault → ⊥) (own_is : own ≡ argument_fault new.name new.kind spot) (wanted_is : wanted ≡ wanted_for new spot) where
   same : placing_in x new.name wanted ≡ addition_in x new spot
   same = ap (λ (w : Wanted). placing_in x new.name w) wanted_is ∙ own-is x new spot None (no_fault own passed ∙ own_is)
 

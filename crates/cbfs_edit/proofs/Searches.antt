@@ -9,7 +9,7 @@ use Rattle.flash_device.proofs.WindowLemmas.{HasRead-none, HasRead-then, HasRead
 use Rattle.flash_device.specs.Regions.{Range, LiesOn, bytes_in}
 use Rattle.flash_device.proofs.DeviceLemmas.{honest_still, length-bytes_in}
 use Rattle.cbfs_walk.specs.Cells.{IsCellIn, cell_in}
-use Rattle.cbfs_walk.specs.Walks.{reads_over, Answer, Walking, walk_of, answer_at, reads_at, StandsIn}
+use Rattle.cbfs_walk.specs.Walks.{reads_over, StepResult, Walking, walk_of, answer_at, reads_at, StandsIn}
 use Rattle.cbfs_walk.specs.Shapes.{shape_fault, refused_or}
 use Rattle.cbfs_walk.specs.Shaped.{reading_of, ReadsCells, by_answer, place_after}
 use Rattle.cbfs_walk.specs.declared.cell.Cell.{Cell}
@@ -71,7 +71,7 @@ found_whole {A} x read = go (shape_fault x)
     go (Some fault) = refl
 
 -- by the walk's result
-abbrev found_by : {A : Type 0} → List ℕ → Reading A → Answer → Result A EditFault
+abbrev found_by : {A : Type 0} → List ℕ → Reading A → StepResult → Result A EditFault
 found_by x read answer = by_answer refused read_cut each_cell x answer read
 
 found_step : {A : Type 0} (x : List ℕ) (read : Reading A) (at : ℕ) → at ≤ length x → at % 64 ≡ 0 → found_from x read at ≡ found_by x read (answer_at x at)
@@ -107,7 +107,7 @@ surveying_start facts r sense want IsBefore s old before is = record {
   so_far = λ h. is ∙ found_whole (bytes_in r (facts old.device).content) (sense s 0);
 }
 
-told_step : (s : Step) (b : Answer) → (let a : Answer = Ok s in IsErrOf a walk.Device ⊎ (a ≡ b)) → Ok s ≡ b
+told_step : (s : Step) (b : StepResult) → (let a : StepResult = Ok s in IsErrOf a walk.Device ⊎ (a ≡ b)) → Ok s ≡ b
 told_step s b (inl e) = absurd cc
 told_step s b (inr e) = e
 
@@ -115,17 +115,17 @@ module _ {F S A : Type 0} (facts : F → Device) (r : Range) (sense : S → ℕ 
   abbrev x : List ℕ
   x = bytes_in r (facts old.device).content
 
-  answered : (a : Answer) → IsTrue (facts old.device).honest → a ≡ answer_at (bytes_in w.region (facts now.device).content) w.at
+  answered : (a : StepResult) → IsTrue (facts old.device).honest → a ≡ answer_at (bytes_in w.region (facts now.device).content) w.at
       → (a ≡ answer_at x w.at) × (want ≡ found_by x (sense s w.at) a)
   answered a h is =
       let len : length x ≡ r.size = length-bytes_in r (facts old.device).content lies.inside in
       let here : a ≡ answer_at x w.at = is ∙ ap (λ (k : Range). answer_at (bytes_in k (facts now.device).content) w.at) i.region ∙ ap (λ (l : List ℕ). answer_at (bytes_in r l) w.at) (i.read.device.unchanged h) in
-      (here, i.so_far h ∙ found_step x (sense s w.at) w.at (omega (arith, len, i.inside)) i.aligned ∙ ap (λ (b : Answer). found_by x (sense s w.at) b) (sym here))
+      (here, i.so_far h ∙ found_step x (sense s w.at) w.at (omega (arith, len, i.inside)) i.aligned ∙ ap (λ (b : StepResult). found_by x (sense s w.at) b) (sym here))
 
   -- a cell, and the search after it
   pub surveying_more : (c : Cell) (v : Walking) (t : S) (mid new : Pages F) (n : ℕ) → IsCellIn w.region.size c × (c.at ≡ w.at)
       → HasRead facts n 0 now mid → n ≡ reads_over c.span → HasRead facts 1 0 mid new
-      → (IsTrue (facts now.device).honest → w.ended ≡ None → (let a : Answer = Ok (steps.Cell c) in IsErrOf a walk.Device ⊎ (a ≡ answer_at (bytes_in w.region (facts now.device).content) w.at)))
+      → (IsTrue (facts now.device).honest → w.ended ≡ None → (let a : StepResult = Ok (steps.Cell c) in IsErrOf a walk.Device ⊎ (a ≡ answer_at (bytes_in w.region (facts now.device).content) w.at)))
       → v ≡ record w { at = w.at + c.span; steps = w.steps + 1 }
       → IsBefore (c.at + c.span) t
       → (IsTrue (facts mid.device).honest → StandsIn (bytes_in r (facts mid.device).content) c → (cells : List (List ℕ)) → sense s c.at (cell_in (bytes_in r (facts mid.device).content) c ∷ cells) ≡ sense t (c.at + c.span) cells)
@@ -167,15 +167,15 @@ module _ {F S A : Type 0} (facts : F → Device) (r : Range) (sense : S → ℕ 
         HasRead-within facts (w.at / 16 + reads_over (w.region.size - w.at)) (r.size / 16 + 1) 0 old mid (omega (arith, i.inside, i.aligned, ap (λ (k : Range). k.size) i.region))
         (HasRead-then facts (w.at / 16) (reads_over (w.region.size - w.at)) 0 old now mid i.read (rw (last_reads step w.region.size w.at last) at reading))
 
-    pub last_answer : (IsTrue (facts now.device).honest → w.ended ≡ None → (let a : Answer = Ok step in IsErrOf a walk.Device ⊎ (a ≡ answer_at (bytes_in w.region (facts now.device).content) w.at)))
+    pub last_answer : (IsTrue (facts now.device).honest → w.ended ≡ None → (let a : StepResult = Ok step in IsErrOf a walk.Device ⊎ (a ≡ answer_at (bytes_in w.region (facts now.device).content) w.at)))
         → IsTrue (facts old.device).honest → sense s w.at [] ≡ want
     last_answer answer h = sym ((answered (Ok step) h (told_step _ _ (answer (honest_still i.read.device.calls.same_honesty h) i.going))).1 ∙ last_found)
 
-  pub surveying_err : (fault : WalkFault) → (answer : IsTrue (facts now.device).honest → w.ended ≡ None → (let a : Answer = Err fault in IsErrOf a walk.Device ⊎ (a ≡ answer_at (bytes_in w.region (facts now.device).content) w.at)))
+  pub surveying_err : (fault : WalkFault) → (answer : IsTrue (facts now.device).honest → w.ended ≡ None → (let a : StepResult = Err fault in IsErrOf a walk.Device ⊎ (a ≡ answer_at (bytes_in w.region (facts now.device).content) w.at)))
       → IsTrue (facts old.device).honest → (let a : Result A EditFault = Err (edit_fault_of fault) in IsErrOf a faults.Device ⊎ (a ≡ want))
   surveying_err fault answer h = go (answer (honest_still i.read.device.calls.same_honesty h) i.going)
     where
-      go : (let a : Answer = Err fault in IsErrOf a walk.Device ⊎ (a ≡ answer_at (bytes_in w.region (facts now.device).content) w.at))
+      go : (let a : StepResult = Err fault in IsErrOf a walk.Device ⊎ (a ≡ answer_at (bytes_in w.region (facts now.device).content) w.at))
           → (let a : Result A EditFault = Err (edit_fault_of fault) in IsErrOf a faults.Device ⊎ (a ≡ want))
       go (inl device) = let is : fault ≡ walk.Device = cc in inl (ap (λ (f : WalkFault). let a : Result A EditFault = Err (edit_fault_of f) in a) is)
       go (inr is) = inr (sym ((answered (Err fault) h is).1 ∙ found_refusal x (sense s w.at) fault))

@@ -111,15 +111,15 @@ abbrev pub is_bad_type : ℕ → Bool
 is_bad_type kind = kind == 0 || kind == 0xffffffff
 
 -- the first error that depends on no device
-abbrev pub own_fault : List ℕ → ℕ → Spot → Option EditFault
-own_fault name kind spot =
+abbrev pub argument_fault : List ℕ → ℕ → Spot → Option EditFault
+argument_fault name kind spot =
     if is_bad_name name then Some BadName
     else (if is_bad_type kind then Some BadType
     else (if is_bad_align spot then Some BadAlign else None))
 
 -- the place, or the first error
 unfoldable pub addition_in : List ℕ → NewComponent → Spot → Result Place EditFault
-addition_in x new spot = option_map_or (λ fault. Err fault) (own_fault new.name new.kind spot)
+addition_in x new spot = option_map_or (λ fault. Err fault) (argument_fault new.name new.kind spot)
     (placing_in x new.name (wanted_for new spot))
 
 -- the result of `add`

@@ -31,13 +31,13 @@ by_device fault = by_fault fault 1 0 0
 abbrev pub by_source : EditFault → ℕ
 by_source fault = by_fault fault 0 1 0
 
-abbrev pub copy_fault : CopyInFault → EditFault
-copy_fault causes.Device = faults.Device
-copy_fault causes.Source = faults.Source
+abbrev pub copy_edit_fault : CopyInFault → EditFault
+copy_edit_fault causes.Device = faults.Device
+copy_edit_fault causes.Source = faults.Source
 
 -- the number of failed calls of a copy
 abbrev pub stop_count : {T : Type 0} → (EditFault → ℕ) → Result T CopyInFault → ℕ
-stop_count told result = fault_count (λ fault. told (copy_fault fault)) result
+stop_count told result = fault_count (λ fault. told (copy_edit_fault fault)) result
 
 -- P of a region before and after, on an honest device
 abbrev pub OnHonestChange : {F : Type 0} → (F → Device) → Range → Pages F → Pages F

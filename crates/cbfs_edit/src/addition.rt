@@ -14,14 +14,14 @@ ghost use Rattle.cbfs_edit.specs.Changes.{by_source, stop_count};
 ghost use Rattle.cbfs_edit.specs.Additions.{added, added_to, addition_in, algorithm_of, choice_of};
 ghost use Rattle.cbfs_edit.specs.Additions.{component_of_label, digest_of, is_bad_name};
 ghost use Rattle.cbfs_edit.specs.Additions.{is_bad_type, new_component};
-ghost use Rattle.cbfs_edit.specs.Additions.{own_fault, placed_of, wanted_for};
+ghost use Rattle.cbfs_edit.specs.Additions.{argument_fault, placed_of, wanted_for};
 ghost use Rattle.cbfs_edit.specs.Places.{Fits};
 
 use crate::fault::EditFault;
 use crate::hashing::Hashing;
 use crate::insertion::describe;
 use crate::place::{Place, Spot, Wanted, find_place};
-use crate::write::{copy_into, write_empty_entry};
+use crate::region_writes::{copy_into, write_empty_entry};
 use flash_device::{CopyInFault, Flash, Paged, Region, Source, Unwatched};
 use flash_format::{Algorithm, Digest, Meta, meta_len};
 use sha2::{Sha256, Sha512};
@@ -215,8 +215,8 @@ fn insert<F: Flash, S: Source>(
 }
 
 /// Returns the first error that depends on no device.
-fn own_fault(name: &[u8], kind: u32, spot: Spot) -> Option<EditFault>
-    ensures { result ≡ own_fault name.now kind spot }
+fn argument_fault(name: &[u8], kind: u32, spot: Spot) -> Option<EditFault>
+    ensures { result ≡ argument_fault name.now kind spot }
 {
     if is_bad_name(name) {
         return Some(EditFault::BadName);
@@ -283,7 +283,7 @@ pub fn add<F: Flash, S: Source>(
     ensures source { Reads (length (S.facts source.old).content / 4096 + 1)
         (fault_count by_source result) (S.facts source.old) (S.facts source.new) }
 
-    ensures words { IfSome (own_fault name.now kind spot) (λ fault.
+    ensures words { IfSome (argument_fault name.now kind spot) (λ fault.
         (result ≡ Err fault) × (paged.new ≡ paged.old) × (source.new ≡ source.old)) }
 
     // For any source.
@@ -309,7 +309,7 @@ pub fn add<F: Flash, S: Source>(
         IsTrue (S.facts source.old).honest → IsErrOf result EditFault.Device
         → AddLeavesWhole x (new_component name.now kind hash (S.facts source.old).content) spot y) }
 {
-    if let Some(fault) = own_fault(name, kind, spot) {
+    if let Some(fault) = argument_fault(name, kind, spot) {
         return Err(fault);
     }
     let label = Label { name, kind, hash };

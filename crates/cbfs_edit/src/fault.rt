@@ -1,6 +1,6 @@
 //! The errors of edits.
 ghost use Rattle.std.specs.Prelude.{◌≡◌};
-ghost use Rattle.cbfs_edit.specs.Changes.{copy_fault};
+ghost use Rattle.cbfs_edit.specs.Changes.{copy_edit_fault};
 ghost use Rattle.cbfs_edit.specs.Removals.{edit_fault_of};
 ghost use Rattle.cbfs_edit.specs.declared.fault.EditFault.TheVariants.{Device};
 
@@ -45,7 +45,7 @@ impl From<FlashFault> for EditFault {
 }
 
 impl From<CopyInFault> for EditFault {
-    ghost from_gives = { λ copy_in_fault fault. fault ≡ copy_fault copy_in_fault };
+    ghost from_gives = { λ copy_in_fault fault. fault ≡ copy_edit_fault copy_in_fault };
 
     fn from(fault: CopyInFault) -> EditFault {
         match fault {

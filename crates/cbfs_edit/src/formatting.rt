@@ -11,7 +11,7 @@ ghost use Rattle.cbfs_edit.specs.Removals.{last_four};
 
 use crate::fault::EditFault;
 use crate::group::CellRange;
-use crate::write::write_empty_entry;
+use crate::region_writes::write_empty_entry;
 use flash_device::{Flash, Paged, Region};
 
 /// Formats the region as a single empty entry, without reading, and keeps its last four bytes. A

@@ -10,7 +10,7 @@ ghost use Rattle.cbfs_edit.specs.Additions.{HasRoom, IsUnfinished, with_bound, w
 ghost use Rattle.cbfs_edit.specs.Additions.{with_metadata, held_back, shown_by};
 
 use crate::place::Place;
-use crate::write::{commit_in, write_in};
+use crate::region_writes::{commit_in, write_in};
 use flash_device::{Flash, FlashFault, Paged, Region};
 use flash_format::{HEADER_LENGTH, LONGEST_METADATA, Meta, empty_header, write_meta};
 

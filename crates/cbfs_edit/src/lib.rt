@@ -13,8 +13,8 @@ mod hashing;
 mod insertion;
 mod laws;
 mod place;
+mod region_writes;
 mod removal;
-mod write;
 
 pub use addition::{HashChoice, Placed, add};
 pub use edit::{Edit, Reply, apply_all};

@@ -15,7 +15,7 @@ ghost use Rattle.cbfs_edit.specs.Searches.{IsSurvey, place_by};
 
 use crate::fault::EditFault;
 use crate::group::CellRange;
-use crate::write::space_end;
+use crate::region_writes::space_end;
 use cbfs_walk::{Cell, Step, Walk, cells_stand_in_their_image, name_is};
 use flash_device::{Flash, FlashFault, Paged, Region};
 

@@ -8,7 +8,7 @@ ghost use Rattle.cbfs_edit.specs.Removals.{removed, removal_in};
 
 use crate::fault::EditFault;
 use crate::group::{Freed, find_group};
-use crate::write::write_empty_entry;
+use crate::region_writes::write_empty_entry;
 use flash_device::{Flash, Paged, Region};
 
 /// Replaces the first component with the name, and all adjacent free space, with a single empty

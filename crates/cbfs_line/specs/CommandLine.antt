@@ -81,11 +81,11 @@ addition region (Some name) (Some file) (Some kind) (Some hash) (Some spot) =
 addition region _ _ _ _ _ = Err refusals.Usage
 
 -- between commas
-abbrev pub names_in : List ℕ → List (List ℕ)
-names_in list = slice_split (λ b. b == 44) list
+abbrev pub split_names : List ℕ → List (List ℕ)
+split_names list = slice_split (λ b. b == 44) list
 
 abbrev pub names_of : Option (Bor (List ℕ)) → List (List ℕ)
-names_of rest = option_map_or (λ (list : Bor (List ℕ)). names_in list.now) rest []
+names_of rest = option_map_or (λ (list : Bor (List ℕ)). split_names list.now) rest []
 
 -- at most 16 names, none empty
 abbrev pub creation_of : List (List ℕ) → Result Request Refusal
@@ -117,7 +117,7 @@ command_of t =
     then unless_missing (option_text (codes "file") t)
     (Ok (requests.on_region (region_named t) requests.write))
     else (if bytes_eq t.subcommand (codes "create")
-    then unless_missing (option_text (codes "file") t) (creation_of (names_in (region_named t)))
+    then unless_missing (option_text (codes "file") t) (creation_of (split_names (region_named t)))
     else Err refusals.Usage)))))))
 
 abbrev pub request_answer : Result Command Refusal → Result Request Refusal

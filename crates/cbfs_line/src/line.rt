@@ -5,7 +5,7 @@ ghost use Rattle.std.specs.Prelude.{codes, drop, map, option_map, option_and_the
 ghost use Rattle.flash_format.specs.TypeNames.{type_of_text};
 ghost use Rattle.clap.specs.Words.{fault_of, has_subcommand, kind_of, subcommand_rows_of};
 ghost use Rattle.cbfs_line.specs.Subcommands.{command_line};
-ghost use Rattle.cbfs_line.specs.CommandLine.{addition, command_of, creation_of, hash_by, names_in};
+ghost use Rattle.cbfs_line.specs.CommandLine.{addition, command_of, creation_of, hash_by, split_names};
 ghost use Rattle.cbfs_line.specs.CommandLine.{names_of, refusal_by, request_answer, spot_by};
 ghost use Rattle.cbfs_line.specs.CommandLine.{option_text, texts_of, verbose_by, with_image};
 
@@ -164,7 +164,7 @@ impl<'a> Line<'a> {
 
 /// Returns the creation of an image. Refuses an empty name, or more than 16 names.
 fn creation<'a>(list: &'a str) -> Result<Command<'a>, Refusal>
-    ensures { request_answer result ≡ creation_of (names_in list.entry.now) }
+    ensures { request_answer result ≡ creation_of (split_names list.entry.now) }
 {
     let mut regions: ArrayVec<&[u8], MOST_REGIONS> = ArrayVec::new();
     let mut rest = Some(list);
@@ -181,7 +181,7 @@ fn creation<'a>(list: &'a str) -> Result<Command<'a>, Refusal>
 
 /// Splits a list at the first comma, if any.
 fn first_name<'a>(list: &'a str) -> (&'a str, Option<&'a str>)
-    ensures names { names_in list.entry.now ≡ result.0.now ∷ names_of result.1 }
+    ensures names { split_names list.entry.now ≡ result.0.now ∷ names_of result.1 }
     ensures shorter { IfSome result.1 (λ rest. length rest.now < length list.entry.now) }
 {
     match list.split_once(',') {

@@ -8,7 +8,7 @@ use Rattle.flash_format.specs.declared.head.Extent.{Extent}
 use Rattle.flash_format.specs.declared.head.DamageKind.{DamageKind}
 use Rattle.flash_format.specs.declared.head.DamageKind.TheVariants as kinds
 use Rattle.flash_format.specs.Head.{head_of, is_free, extent_of}
-use Rattle.flash_format.specs.Entry.{attributes, Entry, absent, damaged, cell, entry, front, present, component, has_name, name_field, attribute_field}
+use Rattle.flash_format.specs.Entry.{attributes, Entry, absent, damaged, cell, entry, front, present, component, is_terminated, name_field, attribute_field}
 use Rattle.flash_format.proofs.CutSteps.{front_some}
 use Rattle.flash_format.proofs.EntryLaws.{present_by}
 use Rattle.flash_device.specs.Device.{Device, fault_count}
@@ -17,7 +17,7 @@ use Rattle.flash_device.specs.Regions.{Range}
 use Rattle.flash_device.proofs.WindowLemmas.{HasRead-within}
 use Rattle.cbfs_walk.specs.declared.cell.Cell.{Cell}
 use Rattle.cbfs_walk.specs.Cells.{PassesChecks, content_start}
-use Rattle.cbfs_walk.specs.Walks.{Passes, reads_over, Answer, Walking, EndsWalk, by_device, GivesCell, walk_after, answer_by, answer_of, answer_at, reads_at}
+use Rattle.cbfs_walk.specs.Walks.{Passes, reads_over, StepResult, Walking, EndsWalk, by_device, GivesCell, walk_after, answer_by, answer_of, answer_at, reads_at}
 use Rattle.cbfs_walk.proofs.Checks.{checks_give, entry_present}
 use Rattle.cbfs_walk.proofs.Reading.{Passes-then}
 use Rattle.cbfs_walk.specs.Shapes.{has_bad_size, is_absent}
@@ -78,7 +78,7 @@ pub answer_whole : (x : List ℕ) (c : Cell) → c.head ≡ head_of x → false 
 answer_whole x c head used told = cell_given x c head ∙ ap (answer_by x c.at) (told c.span ∙ sym (present_by false c.head x (record { content = c.head.offset; span = c.span }) (sym used)))
 
 present_some : (h : Head) (x : List ℕ) (e : Extent) → is_absent (present h x (Ok e)) ≡ false
-present_some h x e = go (is_free h) (has_name (name_field h x)) (is_some (attributes (attribute_field h x)))
+present_some h x e = go (is_free h) (is_terminated (name_field h x)) (is_some (attributes (attribute_field h x)))
   where
     go : (free named formed : Bool) → is_absent (cond free (cell e.span) (cond (not named) (damaged kinds.Name) (cond (not formed) (damaged kinds.AttrLength) (cell e.span)))) ≡ false
     go true named formed = refl
@@ -86,7 +86,7 @@ present_some h x e = go (is_free h) (has_name (name_field h x)) (is_some (attrib
     go false true false = refl
     go false false formed = refl
 
-pub answer_cell : (x : List ℕ) (at size : ℕ) (h : Head) (e : Extent) (a : Answer) → length x ≡ size → false ≡ has_bad_size size → at < size → Some h ≡ front (drop at x) → Ok e ≡ extent_of h (size - at)
+pub answer_cell : (x : List ℕ) (at size : ℕ) (h : Head) (e : Extent) (a : StepResult) → length x ≡ size → false ≡ has_bad_size size → at < size → Some h ≡ front (drop at x) → Ok e ≡ extent_of h (size - at)
     → (h ≡ head_of (drop at x) → IsErrOf a faults.Device ⊎ (a ≡ answer_of (drop at x) (record { at = at; head = h; span = e.span }))) → IsErrOf a faults.Device ⊎ (a ≡ answer_at x at)
 answer_cell x at size h e a len good inside head checks told = go (told (front_some (drop at x) h (sym head)).2)
   where
@@ -97,7 +97,7 @@ answer_cell x at size h e a len good inside head checks told = go (told (front_s
     go (inl device) = inl device
     go (inr is) = inr (is ∙ answer_entry x at size (present h (drop at x) (Ok e)) len good inside there (and_right (eqb at 0) (is_absent (present h (drop at x) (Ok e))) (present_some h (drop at x) e)))
 
-pub cell_reads : {F : Type 0} (facts : F → Device) (r : Range) (c : Cell) (old mid new : Pages F) (a : Answer) → PassesChecks r.size c → IfOk a (λ step. step ≡ steps.Cell c)
+pub cell_reads : {F : Type 0} (facts : F → Device) (r : Range) (c : Cell) (old mid new : Pages F) (a : StepResult) → PassesChecks r.size c → IfOk a (λ step. step ≡ steps.Cell c)
     → Passes facts r c.at c.at 0 old mid → Passes facts r c.at (content_start c) (fault_count by_device a) mid new → HasRead facts (reads_at r.size c.at a) (fault_count by_device a) old new
 cell_reads facts r c old mid new (Ok step) is told first second =
     let k = checks_give (r.size - c.at) c.head c.span is in
@@ -106,7 +106,7 @@ cell_reads facts r c old mid new (Err fault) is told first second =
     let k = checks_give (r.size - c.at) c.head c.span is in
     HasRead-within facts _ (reads_over (r.size - c.at)) (by_device fault) old new (omega (arith, k.inside)) (Passes-then first second (le_refl c.at) (le_refl c.at) (le_refl (content_start c))).read
 
-pub cell_gives : (size : ℕ) (c : Cell) (a : Answer) → PassesChecks size c → false ≡ has_bad_size size → c.at % 64 ≡ 0 → c.at ≤ size → IfOk a (λ step. step ≡ steps.Cell c) → GivesCell size c.at a
+pub cell_gives : (size : ℕ) (c : Cell) (a : StepResult) → PassesChecks size c → false ≡ has_bad_size size → c.at % 64 ≡ 0 → c.at ≤ size → IfOk a (λ step. step ≡ steps.Cell c) → GivesCell size c.at a
 cell_gives size c (Err fault) is good aligned inside told = tt
 cell_gives size c (Ok step) is good aligned inside told =
     let k = checks_give (size - c.at) c.head c.span is in
@@ -116,16 +116,16 @@ cell_gives size c (Ok step) is good aligned inside told =
 
 -- ---- an ended walk
 
-pub ends_faultless : (a : Answer) → EndsWalk a → fault_count by_device a ≡ 0
+pub ends_faultless : (a : StepResult) → EndsWalk a → fault_count by_device a ≡ 0
 ends_faultless (Ok (steps.Cell c)) e = absurd e
 ends_faultless (Err faults.Device) e = absurd e
 ends_faultless _ e = refl
 
-pub ends_cell : (size at : ℕ) (a : Answer) → EndsWalk a → GivesCell size at a
+pub ends_cell : (size at : ℕ) (a : StepResult) → EndsWalk a → GivesCell size at a
 ends_cell size at (Ok (steps.Cell c)) e = absurd e
 ends_cell size at _ e = tt
 
-pub ends_moved : (w : Walking) (a : Answer) → EndsWalk a → w.ended ≡ Some a → w ≡ walk_after w a
+pub ends_moved : (w : Walking) (a : StepResult) → EndsWalk a → w.ended ≡ Some a → w ≡ walk_after w a
 ends_moved w (Ok (steps.Cell c)) e is = absurd e
 ends_moved w (Err faults.Device) e is = absurd e
 ends_moved w _ e is = ap (λ o. record w { ended = o }) is

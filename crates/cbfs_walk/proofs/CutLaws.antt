@@ -9,7 +9,7 @@ use Rattle.flash_format.specs.declared.head.Extent.{Extent}
 use Rattle.flash_format.specs.declared.head.DamageKind.{DamageKind}
 use Rattle.flash_format.specs.declared.head.DamageKind.TheVariants as kinds
 use Rattle.flash_format.specs.Head.{head_of, is_free}
-use Rattle.flash_format.specs.Entry.{Entry, absent, damaged, cell, entry, present, component, name_field, has_name, attribute_field, attributes}
+use Rattle.flash_format.specs.Entry.{Entry, absent, damaged, cell, entry, present, component, name_field, is_terminated, attribute_field, attributes}
 use Rattle.flash_format.specs.Cut.{after, cut}
 use Rattle.flash_format.proofs.CutSteps.{cell_is, cut_empty, cut_step, cut_cell}
 use Rattle.flash_format.proofs.EntryLaws.{from_head, present_by}
@@ -17,7 +17,7 @@ use Rattle.flash_format.proofs.Fronts.{head_of-take, range-take}
 use Rattle.flash_device.specs.Regions.{bytes_in}
 use Rattle.cbfs_walk.specs.Cells.{IsCellIn, cell_in}
 use Rattle.cbfs_walk.specs.Shapes.{has_bad_size, is_absent, refused_or}
-use Rattle.cbfs_walk.specs.Walks.{Answer, answer_at, answer_by, StandsIn}
+use Rattle.cbfs_walk.specs.Walks.{StepResult, answer_at, answer_by, StandsIn}
 use Rattle.cbfs_walk.specs.Laws.{GoesOn, WalksFollowTheCut, CellsStandInTheirImage}
 use Rattle.cbfs_walk.specs.declared.cell.Cell.{Cell}
 use Rattle.cbfs_walk.specs.declared.walk.Step.TheVariants as steps
@@ -73,7 +73,7 @@ standing x c e = go (has_bad_size (length x)) (eqb c.at 0 && is_absent (entry x)
     by_entry _ is some p = absurd cc
 
     go : (b m n : Bool) → eqb (length (drop c.at x)) 0 ≡ n
-        → (let a : Answer = refused_or (λ fault. Err fault) (cond b (Some walk.RegionShape) (cond m (Some walk.NotCbfs) None)) (cond n (Ok steps.End) (answer_by (drop c.at x) c.at (entry (drop c.at x)))) in a ≡ Ok (steps.Cell c)) → Standing x c
+        → (let a : StepResult = refused_or (λ fault. Err fault) (cond b (Some walk.RegionShape) (cond m (Some walk.NotCbfs) None)) (cond n (Ok steps.End) (answer_by (drop c.at x) c.at (entry (drop c.at x)))) in a ≡ Ok (steps.Cell c)) → Standing x c
     go false false false f p = by_entry (entry (drop c.at x)) refl (grind (arith, common_steps)) p
     go _ _ _ f p = absurd cc
 
@@ -109,7 +109,7 @@ cells_stand region image c lies is stands =
 
 -- the checks of more than the head
 pub record IsWhole (x : List ℕ) : Type 0 where
-  pub named : has_name (name_field (head_of x) x) ≡ true
+  pub named : is_terminated (name_field (head_of x) x) ≡ true
   pub formed : is_some (attributes (attribute_field (head_of x) x)) ≡ true
 
 pub component_whole : (x : List ℕ) (span : ℕ) → entry x ≡ cell span → is_free (head_of x) ≡ false → IsWhole x
@@ -117,7 +117,7 @@ component_whole x span e used =
     let c = cell_is x span e in
     let tests : component (head_of x) x c.extent.span ≡ cell span =
     sym (present_by false (head_of x) x c.extent used) ∙ ap (λ (r : Result Extent DamageKind). present (head_of x) x r) (sym c.checks) ∙ sym (from_head x (head_of x) c.long c.head) ∙ e in
-    let parts = go c.extent.span (has_name (name_field (head_of x) x)) (is_some (attributes (attribute_field (head_of x) x))) tests in
+    let parts = go c.extent.span (is_terminated (name_field (head_of x) x)) (is_some (attributes (attribute_field (head_of x) x))) tests in
     record { named = parts.0; formed = parts.1 }
   where
     go : (n : ℕ) (a b : Bool) → (let k : Entry = cond (not a) (damaged kinds.Name) (cond (not b) (damaged kinds.AttrLength) (cell n)) in k) ≡ cell span → (a ≡ true) × (b ≡ true)

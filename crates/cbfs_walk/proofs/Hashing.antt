@@ -20,7 +20,7 @@ use Rattle.flash_device.specs.Regions.{Range, LiesIn, bytes_in}
 use Rattle.cbfs_walk.specs.Walks.{Passes, StandsIn}
 use Rattle.cbfs_walk.specs.Cells.{IsComponentIn, cell_in, attributes_start, content_start, content_end}
 use Rattle.cbfs_walk.specs.AttrWalks.{IsAttrOf, Placed, searched_to}
-use Rattle.cbfs_walk.specs.Hashes.{hashed_by, digest_by, stored_digest, comparison, state_of, hash_state, content_at, hash_state_in, IsUncompared}
+use Rattle.cbfs_walk.specs.Hashes.{hashed_by, digest_by, stored_digest, comparison, state_by, hash_state, content_at, hash_state_in, IsUncompared}
 use Rattle.cbfs_walk.specs.declared.cell.Cell.{Cell}
 use Rattle.cbfs_walk.specs.declared.hashes.HashState.{HashState}
 use Rattle.cbfs_walk.specs.declared.hashes.HashState.TheVariants.{Valid, Invalid}
@@ -117,8 +117,8 @@ state_found r image c state lies is stands told =
     let head = cell_head x c (standing x c stands) k.positive in
     let content : cell_content (cell_in x c) ≡ content_at x c =
     ap (λ (h : Head). slice_range (cell_in x c) h.offset (h.offset + h.len)) head ∙ cell_part x c c.head.offset (c.head.offset + c.head.len) k.fits in
-    told ∙ ap (λ d. state_of d (content_at x c)) (data_found HASH x c inside stands is.used)
-    ∙ ap (state_of (data_of HASH (cell_attributes (cell_in x c)))) (sym content)
+    told ∙ ap (λ d. state_by d (content_at x c)) (data_found HASH x c inside stands is.used)
+    ∙ ap (state_by (data_of HASH (cell_attributes (cell_in x c)))) (sym content)
 
 -- reads of attributes and digest end before the content
 pub read_to_content : {F : Type 0} {facts : F → Device} {r : Range} {refused : ℕ} {old mid new : Pages F} (c : Cell) (tag : ℕ) (o : Option Placed) (found : Placed) → o ≡ Some found → IfSome o (IsAttrOf c tag)

@@ -9,7 +9,7 @@ use Rattle.std.proofs.lemmas.Slice.{between_is}
 use Rattle.std.proofs.lemmas.Bool.{le-ltb, cases_lt}
 use Rattle.flash_format.specs.declared.head.Head.{Head}
 use Rattle.flash_format.specs.Head.{head_at}
-use Rattle.flash_format.specs.Entry.{front, is_nul, has_name}
+use Rattle.flash_format.specs.Entry.{front, is_nul, is_terminated}
 use Rattle.flash_format.proofs.Fronts.{head_at-take}
 use Rattle.flash_device.specs.Regions.{Range, bytes_in, LiesIn}
 
@@ -65,7 +65,7 @@ front_read x at h bytes e read fits =
     rw (le-ltb (length (drop at x)) 24 (omega (arith, length-drop at x)))
     (e ∙ ap head_at (read ∙ range_is x at 24) ∙ head_at-take (drop at x) 24 (omega arith))
 
-pub name_read : (x : List ℕ) (at end n : ℕ) (b : Bool) → b ≡ list_any is_nul (slice_range x (at + 24) (at + 24 + n)) → 24 ≤ end → n ≡ min (end - 24) 256 → b ≡ has_name (slice_range (drop at x) 24 end)
+pub name_read : (x : List ℕ) (at end n : ℕ) (b : Bool) → b ≡ list_any is_nul (slice_range x (at + 24) (at + 24 + n)) → 24 ≤ end → n ≡ min (end - 24) 256 → b ≡ is_terminated (slice_range (drop at x) 24 end)
 name_read x at end n b e le is = e ∙ ap (list_any is_nul) (sym (go (cases_lt 256 (end - 24))))
   where
     there : slice_range (drop at x) 24 end ≡ slice_range x (at + 24) (at + end)

@@ -13,7 +13,7 @@ use Rattle.flash_device.specs.Pages.{Pages}
 use Rattle.flash_device.specs.Regions.{Range, LiesIn, LiesOn, bytes_in}
 use Rattle.cbfs_walk.specs.Walks.{Passes, StandsIn}
 use Rattle.cbfs_walk.specs.Cells.{attributes_start, content_start, IsComponentIn, cell_in}
-use Rattle.cbfs_walk.specs.AttrWalks.{IsAttrIn, after_first, IsAttrOf, listed_in, Placed, by_tag, first_after, first_in, first_of, value_in}
+use Rattle.cbfs_walk.specs.AttrWalks.{IsAttrIn, after_first, IsAttrOf, listed_in, Placed, by_tag, first_after, first_in, first_attribute, value_in}
 use Rattle.cbfs_walk.specs.Hashes.{data_at}
 use Rattle.cbfs_walk.specs.declared.cell.Cell.{Cell}
 use Rattle.cbfs_walk.specs.declared.attribute_walk.Listed as declared
@@ -134,7 +134,7 @@ first_none tag at (listed.Attribute h) y other told = absurd (other h refl)
 first_none tag at listed.End y other told = sym (first_by tag at listed.End y told)
 first_none tag at listed.Malformed y other told = sym (first_by tag at listed.Malformed y told)
 
-pub first_is : (x : List ℕ) (tag : ℕ) (c : Cell) (from end : ℕ) (found : Option Placed) → from ≡ attributes_start c → end ≡ content_start c → found ≡ first_in tag from (slice_range x from end) → found ≡ first_of x c tag
+pub first_is : (x : List ℕ) (tag : ℕ) (c : Cell) (from end : ℕ) (found : Option Placed) → from ≡ attributes_start c → end ≡ content_start c → found ≡ first_in tag from (slice_range x from end) → found ≡ first_attribute x c tag
 first_is x tag c from end found begins ends is = rw (← begins, ← ends) is
 
 -- ---- the data of the first attribute with a tag
@@ -178,7 +178,7 @@ first_data tag (suc n) x at end all inside few formed = ap (option_map (data_at 
         (ap (λ z. option_map (data_at x) (first_in tag (at + h.len) z)) there ∙ more) refl
         ∙ sym (ap (λ (l : List Attribute). data_of tag l) on.first)
 
-pub data_found : (tag : ℕ) (x : List ℕ) (c : Cell) → c.at + c.head.offset ≤ length x → StandsIn x c → is_free c.head ≡ false → option_map (data_at x) (first_of x c tag) ≡ data_of tag (cell_attributes (cell_in x c))
+pub data_found : (tag : ℕ) (x : List ℕ) (c : Cell) → c.at + c.head.offset ≤ length x → StandsIn x c → is_free c.head ≡ false → option_map (data_at x) (first_attribute x c tag) ≡ data_of tag (cell_attributes (cell_in x c))
 data_found tag x c inside stands used =
     first_data tag (suc (length (slice_range x (c.at + name_end c.head) (c.at + c.head.offset)))) x (c.at + name_end c.head) (c.at + c.head.offset) (cell_attributes (cell_in x c)) inside (omega arith) (listed_all x c stands used)
 
@@ -198,7 +198,7 @@ value_is x c (Some found) is =
 
 -- in a component of the region
 pub packing_found : (r : Range) (image : List ℕ) (c : Cell) (found : Option Placed) → LiesIn r image → IsComponentIn r.size c → StandsIn (bytes_in r image) c → IfSome found (IsAttrOf c COMPRESSION)
-    → found ≡ first_of (bytes_in r image) c COMPRESSION → value_in (bytes_in r image) found ≡ packing (cell_attributes (cell_in (bytes_in r image) c))
+    → found ≡ first_attribute (bytes_in r image) c COMPRESSION → value_in (bytes_in r image) found ≡ packing (cell_attributes (cell_in (bytes_in r image) c))
 packing_found r image c found lies is stands attribute first =
     let x = bytes_in r image in
     let inside : c.at + c.head.offset ≤ length x = omega (arith, length-region r image lies, content_inside r.size c is.checks) in

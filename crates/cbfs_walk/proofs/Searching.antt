@@ -9,7 +9,7 @@ use Rattle.flash_format.specs.Components.{Component, cell_name, component_at, co
 use Rattle.flash_device.specs.Device.{Device, fault_count}
 use Rattle.flash_device.specs.Pages.{Pages, HasRead}
 use Rattle.flash_device.specs.Regions.{Range, LiesOn, bytes_in}
-use Rattle.cbfs_walk.specs.Walks.{reads_over, Answer, Walking, walk_of, answer_at, StandsIn, GivesCell, reads_at, by_device, walk_after}
+use Rattle.cbfs_walk.specs.Walks.{reads_over, StepResult, Walking, walk_of, answer_at, StandsIn, GivesCell, reads_at, by_device, walk_after}
 use Rattle.cbfs_walk.specs.Cells.{IsCellIn, cell_in}
 use Rattle.cbfs_walk.specs.Shaped.{reading_of, ReadsCells, by_answer, place_after}
 use Rattle.cbfs_walk.specs.Finding.{Found, first_named, not_found, found_or, component_in, found_cell}
@@ -62,7 +62,7 @@ unfolding component_in found_from refused find_cut reading_of
 found_whole x name = refl
 
 -- by the walk's result
-found_by : List ℕ → List ℕ → Answer → Found
+found_by : List ℕ → List ℕ → StepResult → Found
 found_by x name answer = by_answer refused (find_cut name) (each_cell name) x answer
 
 found_step : (x name : List ℕ) (at : ℕ) → at ≤ length x → at % 64 ≡ 0 → found_from x name at ≡ found_by x name (answer_at x at)
@@ -90,7 +90,7 @@ searching_start facts r name old = record {
   so_far = λ h. found_whole (bytes_in r (facts old.device).content) name;
 }
 
-told_step : (s : Step) (b : Answer) → (let a : Answer = Ok s in IsErrOf a faults.Device ⊎ (a ≡ b)) → Ok s ≡ b
+told_step : (s : Step) (b : StepResult) → (let a : StepResult = Ok s in IsErrOf a faults.Device ⊎ (a ≡ b)) → Ok s ≡ b
 told_step s b (inl e) = absurd cc
 told_step s b (inr e) = e
 
@@ -98,7 +98,7 @@ cell_is : (at span : ℕ) (h k : Head) (n : ℕ) → h ≡ k → n ≡ span → 
 cell_is at span h k n e f = ap (λ (j : Head). let a : Cell = record { at = at; head = j; span = n } in a) e ∙ ap (λ m. let a : Cell = record { at = at; head = k; span = m } in a) f
 
 module _ {F : Type 0} (facts : F → Device) (r : Range) (name : List ℕ) (w : Walking) (old now : Pages F) (lies : LiesOn r (facts old.device)) (s : Searching facts r name w old now) where
-  answered : (a : Answer) → IsTrue (facts old.device).honest → a ≡ answer_at (bytes_in w.region (facts now.device).content) w.at
+  answered : (a : StepResult) → IsTrue (facts old.device).honest → a ≡ answer_at (bytes_in w.region (facts now.device).content) w.at
       → (a ≡ answer_at (bytes_in r (facts old.device).content) w.at) × (component_in (bytes_in r (facts old.device).content) name ≡ found_by (bytes_in r (facts old.device).content) name a)
   answered a h is =
       let x = bytes_in r (facts old.device).content in
@@ -109,7 +109,7 @@ module _ {F : Type 0} (facts : F → Device) (r : Range) (name : List ℕ) (w : 
   -- a cell, and the result of its test
   module _ (step : Step) (c : Cell) (mid : Pages F) (is_it : Bool) (is : step ≡ steps.Cell c) (gives : GivesCell w.region.size w.at (Ok step))
       (reading : HasRead facts (reads_at w.region.size w.at (Ok step)) (fault_count by_device (Ok step)) now mid)
-      (answers : IsTrue (facts now.device).honest → w.ended ≡ None → (let a : Answer = Ok step in IsErrOf a faults.Device ⊎ (a ≡ answer_at (bytes_in w.region (facts now.device).content) w.at)))
+      (answers : IsTrue (facts now.device).honest → w.ended ≡ None → (let a : StepResult = Ok step in IsErrOf a faults.Device ⊎ (a ≡ answer_at (bytes_in w.region (facts now.device).content) w.at)))
       (test : IsTrue (facts mid.device).honest → StandsIn (bytes_in r (facts mid.device).content) c → is_it ≡ (not (is_free c.head) && bytes_eq (cell_name (cell_in (bytes_in r (facts mid.device).content) c)) name)) where
     given : IsCellIn w.region.size c × (c.at ≡ w.at)
     given = rw is at gives
@@ -117,7 +117,7 @@ module _ {F : Type 0} (facts : F → Device) (r : Range) (name : List ℕ) (w : 
     reads : HasRead facts (reads_over c.span) 0 now mid
     reads = rw is at reading
 
-    answer : IsTrue (facts old.device).honest → (let a : Answer = Ok (steps.Cell c) in a ≡ answer_at (bytes_in w.region (facts now.device).content) w.at)
+    answer : IsTrue (facts old.device).honest → (let a : StepResult = Ok (steps.Cell c) in a ≡ answer_at (bytes_in w.region (facts now.device).content) w.at)
     answer h = rw is at (told_step _ _ (answers (honest_still s.read.device.calls.same_honesty h) s.going))
 
     cell_of_region : IsCellIn r.size c
@@ -177,7 +177,7 @@ module _ {F : Type 0} (facts : F → Device) (r : Range) (name : List ℕ) (w : 
         HasRead-within facts (w.at / 16 + reads_over (w.region.size - w.at)) (r.size / 16 + 2) 0 old mid (omega (arith, s.inside, ap (λ (k : Range). k.size) s.region))
         (HasRead-then facts (w.at / 16) (reads_over (w.region.size - w.at)) 0 old now mid s.read (rw (last_reads step w.region.size w.at last) at reading))
 
-    pub last_answer : (IsTrue (facts now.device).honest → w.ended ≡ None → (let a : Answer = Ok step in IsErrOf a faults.Device ⊎ (a ≡ answer_at (bytes_in w.region (facts now.device).content) w.at)))
+    pub last_answer : (IsTrue (facts now.device).honest → w.ended ≡ None → (let a : StepResult = Ok step in IsErrOf a faults.Device ⊎ (a ≡ answer_at (bytes_in w.region (facts now.device).content) w.at)))
         → IsTrue (facts old.device).honest → Ok None ≡ found_cell (component_in (bytes_in r (facts old.device).content) name)
     last_answer answer h = sym (ap found_cell (answered (Ok step) h (told_step _ _ (answer (honest_still s.read.device.calls.same_honesty h) s.going))).1 ∙ last_found)
 
@@ -186,11 +186,11 @@ module _ {F : Type 0} (facts : F → Device) (r : Range) (name : List ℕ) (w : 
   refusal (faults.Damaged at kind) = refl
   refusal _ = refl
 
-  pub searching_err : (fault : WalkFault) → (answer : IsTrue (facts now.device).honest → w.ended ≡ None → (let a : Answer = Err fault in IsErrOf a faults.Device ⊎ (a ≡ answer_at (bytes_in w.region (facts now.device).content) w.at)))
+  pub searching_err : (fault : WalkFault) → (answer : IsTrue (facts now.device).honest → w.ended ≡ None → (let a : StepResult = Err fault in IsErrOf a faults.Device ⊎ (a ≡ answer_at (bytes_in w.region (facts now.device).content) w.at)))
       → IsTrue (facts old.device).honest → (let a : Result (Option Cell) WalkFault = Err fault in IsErrOf a faults.Device ⊎ (a ≡ found_cell (component_in (bytes_in r (facts old.device).content) name)))
   searching_err fault answer h = go (answer (honest_still s.read.device.calls.same_honesty h) s.going)
     where
-      go : (let a : Answer = Err fault in IsErrOf a faults.Device ⊎ (a ≡ answer_at (bytes_in w.region (facts now.device).content) w.at))
+      go : (let a : StepResult = Err fault in IsErrOf a faults.Device ⊎ (a ≡ answer_at (bytes_in w.region (facts now.device).content) w.at))
           → (let a : Result (Option Cell) WalkFault = Err fault in IsErrOf a faults.Device ⊎ (a ≡ found_cell (component_in (bytes_in r (facts old.device).content) name)))
       go (inl device) = let is : fault ≡ faults.Device = cc in inl (ap (λ (f : WalkFault). Err f) is)
       go (inr is) = inr (sym (ap found_cell (answered (Err fault) h is).1 ∙ refusal fault))

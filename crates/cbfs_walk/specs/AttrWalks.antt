@@ -57,9 +57,9 @@ listed_in x =
     if ends_list x then listed.End
     else (if is_malformed x then listed.Malformed else listed.Attribute (attr_head_of x))
 
-abbrev pub IsListedIn : ℕ → ℕ → Listed → Type 0
-IsListedIn at end (listed.Attribute h) = IsAttrIn at end h
-IsListedIn at end _ = ⊤
+abbrev pub IsListedAttribute : ℕ → ℕ → Listed → Type 0
+IsListedAttribute at end (listed.Attribute h) = IsAttrIn at end h
+IsListedAttribute at end _ = ⊤
 
 -- ---- the first attribute with a tag
 
@@ -82,8 +82,8 @@ first_after zero tag at (b ∷ rest) =
 abbrev pub first_in : ℕ → ℕ → List ℕ → Option Placed
 first_in tag at x = first_after 0 tag at x
 
-abbrev pub first_of : List ℕ → Cell → ℕ → Option Placed
-first_of x c tag =
+abbrev pub first_attribute : List ℕ → Cell → ℕ → Option Placed
+first_attribute x c tag =
     first_in tag (attributes_start c) (slice_range x (attributes_start c) (content_start c))
 
 pub record IsAttrOf (c : Cell) (tag : ℕ) (found : Placed) : Type 0 where

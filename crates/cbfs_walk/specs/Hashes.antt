@@ -18,7 +18,7 @@ use Rattle.cbfs_walk.specs.declared.cell.Cell.{Cell}
 use Rattle.cbfs_walk.specs.declared.hashes.HashState.{HashState}
 use Rattle.cbfs_walk.specs.declared.hashes.HashState.TheVariants.{Absent, Valid, Invalid, Unsupported}
 use Rattle.cbfs_walk.specs.Cells.{content_start, content_end}
-use Rattle.cbfs_walk.specs.AttrWalks.{Placed, first_of}
+use Rattle.cbfs_walk.specs.AttrWalks.{Placed, first_attribute}
 
 -- ---- digests
 
@@ -48,15 +48,15 @@ comparison stored computed =
     if bytes_eq (digest_bytes stored) (digest_bytes computed) then Valid stored else Invalid stored
 
 -- by the data of a hash attribute, if any
-abbrev pub state_of : Option (List ℕ) → List ℕ → HashState
-state_of None content = Absent
-state_of (Some contents) content =
+abbrev pub state_by : Option (List ℕ) → List ℕ → HashState
+state_by None content = Absent
+state_by (Some contents) content =
     option_map_or (λ stored. comparison stored (digest_like stored content))
     (stored_digest contents) Unsupported
 
 -- by the first hash attribute
 abbrev pub hash_state : List Attribute → List ℕ → HashState
-hash_state all content = state_of (data_of HASH all) content
+hash_state all content = state_by (data_of HASH all) content
 
 -- ---- in a region
 
@@ -67,7 +67,7 @@ abbrev pub content_at : List ℕ → Cell → List ℕ
 content_at x c = slice_range x (content_start c) (content_end c)
 
 abbrev pub hash_state_in : List ℕ → Cell → HashState
-hash_state_in x c = state_of (option_map (data_at x) (first_of x c HASH)) (content_at x c)
+hash_state_in x c = state_by (option_map (data_at x) (first_attribute x c HASH)) (content_at x c)
 
 -- a state without a comparison
 abbrev pub IsUncompared : HashState → Type 0

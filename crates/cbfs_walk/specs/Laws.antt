@@ -8,7 +8,7 @@ use Rattle.flash_device.specs.Regions.{Range, LiesIn, bytes_in}
 use Rattle.cbfs_walk.specs.Cells.{IsCellIn, cell_in}
 use Rattle.cbfs_walk.specs.Finding.{IsFirstOf, component_in}
 use Rattle.cbfs_walk.specs.Shapes.{has_bad_size, shape_fault}
-use Rattle.cbfs_walk.specs.Walks.{Answer, answer_at, StandsIn}
+use Rattle.cbfs_walk.specs.Walks.{StepResult, answer_at, StandsIn}
 use Rattle.cbfs_walk.specs.Shaped.{reading_of, ReadsCells, by_answer}
 use Rattle.cbfs_walk.specs.declared.cell.Cell.{Cell}
 use Rattle.cbfs_walk.specs.declared.walk.Step.TheVariants as steps
@@ -16,7 +16,7 @@ use Rattle.cbfs_walk.specs.declared.walk.WalkFault.{WalkFault}
 use Rattle.cbfs_walk.specs.declared.walk.WalkFault.TheVariants as faults
 
 -- a walk's result is the next part of the cut
-abbrev pub GoesOn : List ℕ → ℕ → Answer → Type 0
+abbrev pub GoesOn : List ℕ → ℕ → StepResult → Type 0
 GoesOn x at (Ok (steps.Cell c)) =
     (c.at ≡ at) × (cut (drop at x) ≡ after (cell_in x c ∷ []) (cut (drop (at + c.span) x)))
 GoesOn x at (Ok steps.End) = (at ≡ length x) × (cut (drop at x) ≡ ends complete)

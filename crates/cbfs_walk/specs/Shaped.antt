@@ -4,7 +4,7 @@ use Rattle.flash_format.specs.Head.{head_of}
 use Rattle.flash_format.specs.Cut.{Cut, complete, tail, damage, ends, after, cut}
 use Rattle.cbfs_walk.specs.Cells.{cell_in}
 use Rattle.cbfs_walk.specs.Shapes.{shape_fault_at, refused_or}
-use Rattle.cbfs_walk.specs.Walks.{Answer}
+use Rattle.cbfs_walk.specs.Walks.{StepResult}
 use Rattle.cbfs_walk.specs.declared.cell.Cell.{Cell}
 use Rattle.cbfs_walk.specs.declared.walk.Step.TheVariants as steps
 use Rattle.cbfs_walk.specs.declared.walk.WalkFault.{WalkFault}
@@ -27,7 +27,7 @@ ReadsCells read each =
     ≡ each c (record { at = at; head = head_of c; span = length c }) (read (at + length c) k)
 
 abbrev pub by_answer : {A : Type 0} → (WalkFault → A) → (ℕ → Cut → A) → (List ℕ → Cell → A → A)
-    → List ℕ → Answer → A
+    → List ℕ → StepResult → A
 by_answer refuse read each x (Ok (steps.Cell c)) =
     each (cell_in x c) c (reading_of refuse read x (c.at + c.span))
 by_answer refuse read each x (Ok steps.End) = read (length x) (ends complete)

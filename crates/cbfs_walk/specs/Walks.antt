@@ -38,34 +38,34 @@ abbrev pub ReadsAs : {F T E : Type 0} → (F → Device) → Pages F → Range �
 ReadsAs facts old region result answer =
     OnHonestIn facts old.device region (λ x. IfOk result (λ read. read ≡ answer x))
 
-abbrev pub Answer : Type 0
-Answer = Result Step WalkFault
+abbrev pub StepResult : Type 0
+StepResult = Result Step WalkFault
 
 -- `steps` counts the cells; `ended` is the last result after the end
 pub record Walking : Type 0 where
   pub region : Range
   pub at : ℕ
   pub steps : ℕ
-  pub ended : Option Answer
+  pub ended : Option StepResult
 
 abbrev pub walk_of : Range → Walking
 walk_of region = record { region = region; at = 0; steps = 0; ended = None }
 
 -- ---- results
 
-abbrev pub answer_by : List ℕ → ℕ → Entry → Answer
+abbrev pub answer_by : List ℕ → ℕ → Entry → StepResult
 answer_by rest at absent = Ok (steps.Tail at)
 answer_by rest at (damaged kind) = Err (faults.Damaged at kind)
 answer_by rest at (cell span) =
     Ok (steps.Cell (record { at = at; head = head_of rest; span = span }))
 
 -- the result after the checks of the head, given the bytes from the cell on
-abbrev pub answer_of : List ℕ → Cell → Answer
+abbrev pub answer_of : List ℕ → Cell → StepResult
 answer_of rest c =
     answer_by rest c.at
     (present c.head rest (Ok (record { content = c.head.offset; span = c.span })))
 
-unfoldable pub answer_at : List ℕ → ℕ → Answer
+unfoldable pub answer_at : List ℕ → ℕ → StepResult
 answer_at x at =
     let rest = drop at x in
     refused_or (λ fault. Err fault) (shape_fault_at x at)
@@ -89,24 +89,24 @@ by_device _ = 0
 -- ---- the state after a result
 
 -- a cell moves the walk, a device fault doesn't, any other result ends the walk
-abbrev pub walk_after : Walking → Answer → Walking
+abbrev pub walk_after : Walking → StepResult → Walking
 walk_after w (Ok (steps.Cell c)) = record w { at = w.at + c.span; steps = w.steps + 1 }
 walk_after w (Err faults.Device) = w
 walk_after w answer = record w { ended = Some answer }
 
 -- a resulting cell lies in the region, at the given position
-abbrev pub GivesCell : ℕ → ℕ → Answer → Type 0
+abbrev pub GivesCell : ℕ → ℕ → StepResult → Type 0
 GivesCell size at (Ok (steps.Cell c)) = IsCellIn size c × (c.at ≡ at)
 GivesCell size at _ = ⊤
 
-abbrev pub EndsWalk : Answer → Type 0
+abbrev pub EndsWalk : StepResult → Type 0
 EndsWalk (Ok (steps.Cell c)) = ⊥
 EndsWalk (Err faults.Device) = ⊥
 EndsWalk _ = ⊤
 
 -- ---- the maximum number of device calls
 
-abbrev pub reads_at : ℕ → ℕ → Answer → ℕ
+abbrev pub reads_at : ℕ → ℕ → StepResult → ℕ
 reads_at size at (Ok (steps.Cell c)) = reads_over c.span
 reads_at size at _ = reads_over (size - at)
 

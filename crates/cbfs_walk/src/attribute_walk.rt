@@ -7,11 +7,11 @@ ghost use Rattle.flash_device.specs.Pages.{HasAnswered, OnHonestIn};
 ghost use Rattle.flash_device.specs.Regions.{LiesOn};
 ghost use Rattle.cbfs_walk.specs.Walks.{HasPassed, ReadsAs, reads_over, StandsIn, ReadsCellAs};
 ghost use Rattle.cbfs_walk.specs.Cells.{IsComponentIn, attributes_start, cell_in};
-ghost use Rattle.cbfs_walk.specs.AttrWalks.{place_in_region, attr_walk_of, attr_moved, attr_reads, IsAttrIn, attributes_left, first_head, after_first, IsListedIn, listed_in, IsAttrOf, first_of, searched_to, value_in};
+ghost use Rattle.cbfs_walk.specs.AttrWalks.{place_in_region, attr_walk_of, attr_moved, attr_reads, IsAttrIn, attributes_left, first_head, after_first, IsListedAttribute, listed_in, IsAttrOf, first_attribute, searched_to, value_in};
 
 use crate::cell::{Cell, content_fits};
 use crate::names::name_end;
-use crate::read::read_in;
+use crate::region_reads::read_in;
 use byteorder::{BigEndian, ByteOrder};
 use flash_device::{Flash, FlashFault, Paged, Region};
 use flash_format::AttrHead;
@@ -101,7 +101,7 @@ pub fn packing<F: Flash>(
         paged.new result }
 
     ensures value { ReadsAs F.facts paged.old region result
-        (λ x. value_in x (first_of x cell.now COMPRESSION)) }
+        (λ x. value_in x (first_attribute x cell.now COMPRESSION)) }
     ensures packing { ReadsCellAs F.facts paged.old region cell.now result
         (λ x. packing (cell_attributes x)) }
 {
@@ -126,7 +126,7 @@ pub fn first_attribute<F: Flash>(
     ensures passes { HasPassed F.facts region (attributes_start cell.now)
         (searched_to cell.now result) paged.old paged.new result }
     ensures attribute { IfOk result (λ found. IfSome found (IsAttrOf cell.now tag)) }
-    ensures first { ReadsAs F.facts paged.old region result (λ x. first_of x cell.now tag) }
+    ensures first { ReadsAs F.facts paged.old region result (λ x. first_attribute x cell.now tag) }
 {
     content_fits(cell, region);
     let end = cell.at + u64::from(cell.head.offset);
@@ -190,7 +190,7 @@ fn listed_at<F: Flash>(
     ensures passes { HasPassed F.facts region at at paged.old paged.new result }
     ensures no_call { at ≡ end → paged.new ≡ paged.old }
     ensures none { at ≡ end → result ≡ Ok Listed.End }
-    ensures attribute { IfOk result (λ listed. IsListedIn at end listed) }
+    ensures attribute { IfOk result (λ listed. IsListedAttribute at end listed) }
     ensures listed { ReadsAs F.facts paged.old region result
         (λ x. listed_in (slice_range x at end)) }
 {

@@ -8,7 +8,7 @@ mod cell;
 mod hashes;
 mod laws;
 mod names;
-mod read;
+mod region_reads;
 mod search;
 mod walk;
 

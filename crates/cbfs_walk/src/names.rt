@@ -2,7 +2,7 @@
 ghost use Rattle.std.specs.Prelude.{◌≡◌, ◌+◌, ◌≤◌, false, length, take, drop, IfOk};
 ghost use Rattle.std.specs.List.{before_first, list_any};
 ghost use Rattle.std.specs.Str.{bytes_eq};
-ghost use Rattle.flash_format.specs.Entry.{name_field, name_end, has_name, is_nul};
+ghost use Rattle.flash_format.specs.Entry.{name_field, name_end, is_terminated, is_nul};
 ghost use Rattle.flash_format.specs.Components.{cell_name};
 ghost use Rattle.flash_device.specs.Pages.{HasAnswered, OnHonestIn};
 ghost use Rattle.flash_device.specs.Regions.{LiesOn};
@@ -10,7 +10,7 @@ ghost use Rattle.cbfs_walk.specs.Walks.{HasPassed, ReadsAs, StandsIn, ReadsCellA
 ghost use Rattle.cbfs_walk.specs.Cells.{IsComponentIn, cell_in};
 
 use crate::cell::{Cell, content_fits};
-use crate::read::piece_in;
+use crate::region_reads::piece_in;
 use flash_device::{Flash, FlashFault, Paged, Region};
 use flash_format::Head;
 
@@ -78,7 +78,7 @@ pub fn has_name_end<F: Flash>(
 
     ensures passes { HasPassed F.facts region (at + 24) (at + 24) paged.old paged.new result }
     ensures ends { ReadsAs F.facts paged.old region result
-        (λ x. has_name (name_field head.now (drop at x))) }
+        (λ x. is_terminated (name_field head.now (drop at x))) }
 {
     let n = name_room(head).min(256);
     let bytes = piece_in(paged, region, at + 24, n)?;

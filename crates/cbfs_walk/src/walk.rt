@@ -12,7 +12,7 @@ ghost use Rattle.cbfs_walk.specs.Shapes.{has_bad_size};
 use crate::attribute_walk::are_well_formed;
 use crate::cell::Cell;
 use crate::names::{has_name_end, name_end};
-use crate::read::read_in;
+use crate::region_reads::read_in;
 use flash_device::{Flash, FlashFault, Paged, Region};
 use flash_format::{DamageKind, Head};
 use std::marker::Model;

@@ -20,7 +20,7 @@ use Rattle.flash_format.specs.declared.digest.Algorithm.TheVariants.{Sha256, Sha
 use Rattle.flash_format.specs.declared.attribute.AttrHead.{AttrHead}
 use Rattle.flash_format.specs.Head.{head_of, head_at, head_bytes, is_free, round64, be32}
 use Rattle.flash_format.specs.Made.{name_padding, padding, IsDigest, IsMade, KeepsFour, name_room, meta_length, algorithm_row, algorithm, digest_bytes, hash_attribute, hash_bytes, hash_len, made_head, padded_name, made_metadata, made, made_attributes}
-use Rattle.flash_format.specs.Entry.{Attribute, attr_head_of, attributes, attributes_after, attribute, ends_list, is_malformed, is_unused, has_bad_len, HASH, damaged, cell, present, component, is_nul, name_end, name_field, has_name, attribute_field}
+use Rattle.flash_format.specs.Entry.{Attribute, attr_head_of, attributes, attributes_after, attribute, ends_list, is_malformed, is_unused, has_bad_len, HASH, damaged, cell, present, component, is_nul, name_end, name_field, is_terminated, attribute_field}
 use Rattle.flash_format.specs.Components.{component_at}
 use Rattle.flash_format.specs.Placings.{IsReadAs, made_component}
 use Rattle.flash_format.proofs.AttributeSteps.{attributes_end, attributes_more}
@@ -55,9 +55,9 @@ front_of : (name z : List ℕ) (m : ℕ) → length name < m → take m (name ++
 front_of name z m room =
     ap (λ (k : ℕ). take k (name ++ (0 ∷ z))) {x = m} {y = length name + suc (m - length name - 1)} (omega arith) ∙ take-append-add name (0 ∷ z) (suc (m - length name - 1))
 
-some_nul : (name z : List ℕ) (m : ℕ) → length name ≤ 127 → length name < m → has_name (take m (name ++ (0 ∷ z))) ≡ true
+some_nul : (name z : List ℕ) (m : ℕ) → length name ≤ 127 → length name < m → is_terminated (take m (name ++ (0 ∷ z))) ≡ true
 some_nul name z m short room =
-    ap (λ (l : List ℕ). has_name l) (front_of name z m room)
+    ap (λ (l : List ℕ). is_terminated l) (front_of name z m room)
     ∙ ap (λ (l : List ℕ). list_any is_nul l) (front_of name (take (m - length name - 1) z) 256 (omega arith))
     ∙ list_any-append is_nul name (0 ∷ take (256 - length name - 1) (take (m - length name - 1) z))
     ∙ or_right (list_any is_nul name) true refl
@@ -151,7 +151,7 @@ attributes_read name kind (Some d) gap n more is =
 
 -- ---- the cell
 
-component_whole : (h : Head) (x : List ℕ) (span : ℕ) (list : List Attribute) → has_name (name_field h x) ≡ true → attributes (attribute_field h x) ≡ Some list → component h x span ≡ cell span
+component_whole : (h : Head) (x : List ℕ) (span : ℕ) (list : List Attribute) → is_terminated (name_field h x) ≡ true → attributes (attribute_field h x) ≡ Some list → component h x span ≡ cell span
 component_whole h x span list name read =
     ap (λ (b : Bool). cond (not b) (damaged kinds.Name) (cond (not (is_some (attributes (attribute_field h x)))) (damaged kinds.AttrLength) (cell span))) name
     ∙ ap (λ (o : Option (List Attribute)). cond (not (is_some o)) (damaged kinds.AttrLength) (cell span)) read
@@ -190,7 +190,7 @@ metadata_is_read name kind digest gap content more is =
     let field : name_field h x ≡ take (name_end h - 24) later =
     ap (λ (l : List ℕ). take (name_end h - 24) (drop 24 l)) shape ∙ ap (λ (l : List ℕ). take (name_end h - 24) l) (drop_at (head_bytes h) later 24 (length-head_bytes h)) in
     let room : length name < name_end h - 24 = grind (arith, nat_tests) in
-    let named : has_name (name_field h x) ≡ true = ap (λ (l : List ℕ). has_name l) field ∙ some_nul name rest (name_end h - 24) is.name_short room in
+    let named : is_terminated (name_field h x) ≡ true = ap (λ (l : List ℕ). is_terminated l) field ∙ some_nul name rest (name_end h - 24) is.name_short room in
     let list : attributes (attribute_field h x) ≡ Some (made_attributes digest) =
     ap (λ (l : List ℕ). attributes (attribute_field h l)) (append_assoc metadata content more) ∙ attributes_read name kind digest gap n (content ++ more) is.digest_long in
     let e : Extent = record { content = h.offset; span = round64 (h.offset + h.len) } in

@@ -8,7 +8,7 @@ use Rattle.std.proofs.lemmas.List.Elements.{All-head, All-tail}
 use Rattle.byteorder.specs.Endian.{little_bytes}
 use Rattle.flash_format.specs.declared.flashmap.Area.{Area}
 use Rattle.flash_format.specs.declared.flashmap.FmapHead.{FmapHead}
-use Rattle.flash_format.specs.Flashmap.{area_bytes, area_of, areas_from, fmap_head_bytes, fmap_head_of, has_signature, is_map, is_named, is_valid_head, map_len, map_of}
+use Rattle.flash_format.specs.Flashmap.{area_bytes, area_of, areas_from, fmap_head_bytes, fmap_head_of, has_signature, is_map, is_map_name, is_valid_head, map_len, map_of}
 use Rattle.flash_format.specs.Laws.{IsAreaInBytes, IsMapOf, MapsAreReadBack, NoMapBelow, map_bytes}
 use Rattle.flash_format.proofs.Fronts.{area_of-take, fmap_head_of-take, has_signature-take}
 use Rattle.flash_format.proofs.MapLaws.{map_lowest}
@@ -62,7 +62,7 @@ areas_read (a ∷ areas) more each =
     let first : area_of x ≡ a = sym (area_of-take x 42 (omega arith)) ∙ ap area_of front ∙ area_is_read_back (area_bytes a) a refl (omega (arith, is.offset)) (omega (arith, is.size)) (omega (arith, is.flags)) is.name in
     ap (λ (b : Area). b ∷ areas_from (length areas) (drop 42 x)) first ∙ ap (λ (l : List ℕ). a ∷ areas_from (length areas) l) behind ∙ ap (λ (l : List Area). a ∷ l) (areas_read areas more (All-tail IsAreaInBytes a areas each))
 
-valid : (h : FmapHead) (left : ℕ) → h.major ≡ 1 → is_named h.name ≡ true → map_len h ≤ left → is_valid_head h left ≡ true
+valid : (h : FmapHead) (left : ℕ) → h.major ≡ 1 → is_map_name h.name ≡ true → map_len h ≤ left → is_valid_head h left ≡ true
 unfolding is_valid_head
 valid h left major named fits = rw (eq-eqb h.major 1 major, named, le-leb (map_len h) left fits) refl
 

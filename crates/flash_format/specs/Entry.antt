@@ -77,8 +77,8 @@ abbrev pub is_nul : ℕ → Bool
 is_nul b = b == 0
 
 -- a NUL in the first 256 bytes
-abbrev pub has_name : List ℕ → Bool
-has_name field = list_any is_nul (take 256 field)
+abbrev pub is_terminated : List ℕ → Bool
+is_terminated field = list_any is_nul (take 256 field)
 
 -- up to the content
 abbrev pub attribute_field : Head → List ℕ → List ℕ
@@ -94,7 +94,7 @@ pub data Entry : Type 0 where
 -- the checks after the head
 abbrev pub component : Head → List ℕ → ℕ → Entry
 component h x span =
-    if not (has_name (name_field h x)) then damaged kinds.Name
+    if not (is_terminated (name_field h x)) then damaged kinds.Name
     else (if not (is_some (attributes (attribute_field h x))) then damaged kinds.AttrLength
     else cell span)
 

@@ -55,15 +55,15 @@ text_of name = before_first is_nul name
 abbrev pub is_printing : ℕ → Bool
 is_printing b = nat_le 0x21 b && nat_le b 0x7e
 
-abbrev pub is_named : List ℕ → Bool
-is_named name = list_any is_nul name && list_all is_printing (text_of name)
+abbrev pub is_map_name : List ℕ → Bool
+is_map_name name = list_any is_nul name && list_all is_printing (text_of name)
 
 abbrev pub map_len : FmapHead → ℕ
 map_len h = fmap_head_len + area_len * h.nareas
 
 -- besides the signature, with `left` bytes up to the image's end
 unfoldable pub is_valid_head : FmapHead → ℕ → Bool
-is_valid_head h left = h.major == 1 && (is_named h.name && nat_le (map_len h) left)
+is_valid_head h left = h.major == 1 && (is_map_name h.name && nat_le (map_len h) left)
 
 unfoldable pub is_map : List ℕ → Bool
 is_map x =

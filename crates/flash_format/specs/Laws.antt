@@ -9,7 +9,7 @@ use Rattle.flash_format.specs.Cut.{cut, after, IsSpan, IsCell, IsCut}
 use Rattle.flash_format.specs.Components.{components, components_from, shifted_by}
 use Rattle.flash_format.specs.Splices.{AllFree, CellsBetween, splice}
 use Rattle.flash_format.specs.Placings.{IsPlacing, IsReadAs, HasOneMore, space_cells, made_component}
-use Rattle.flash_format.specs.Flashmap.{area_bytes, areas_from, fmap_head_bytes, fmap_head_len, fmap_head_of, is_map, is_named}
+use Rattle.flash_format.specs.Flashmap.{area_bytes, areas_from, fmap_head_bytes, fmap_head_len, fmap_head_of, is_map, is_map_name}
 use Rattle.flash_format.specs.declared.flashmap.Area.{Area}
 use Rattle.flash_format.specs.declared.flashmap.FmapHead.{FmapHead}
 use Rattle.flash_format.specs.Printed.{hexadecimal, is_field, printed_name}
@@ -114,7 +114,7 @@ pub record IsMapInBytes (h : FmapHead) (areas : List Area) : Type 0 where
   pub base : h.base < 2 ^ 64
   pub size : h.size < 2 ^ 32
   pub name : length h.name ≡ 32
-  pub named : is_named h.name ≡ true
+  pub named : is_map_name h.name ≡ true
   pub counted : h.nareas ≡ length areas
   pub few : length areas < 2 ^ 16
   pub each : All IsAreaInBytes areas

@@ -1,14 +1,22 @@
 -- Names and numbers as printed: this project's own texts.
-use Rattle.std.specs.Prelude.{◌≡◌, ℕ, ◌+◌, ◌≤◌, ◌/◌, ◌%◌, Bool, false, not, nat_le, ◌&&◌, List, [], ◌∷◌, ◌++◌, ◌==◌, if◌then◌else◌}
+use Rattle.std.specs.Prelude.{◌≡◌, ℕ, ◌+◌, ◌≤◌, ◌/◌, ◌%◌, Bool, false, not, nat_le, ◌&&◌, List, [], ◌∷◌, ◌++◌, ◌==◌, if◌then◌else◌, unwrap_or}
 use Rattle.std.specs.List.{flat_map, list_all}
 use Rattle.std.specs.Fmt.{digits, digit_glyph}
 use lib.Chars.{codes}
 use Rattle.arrayvec.specs.ArrayVec.{ArrayVec, array_vec_len}
 use Rattle.flash_format.specs.Flashmap.{is_printing}
+use Rattle.flash_format.specs.TypeNames.{name_of_compression, name_of_type}
 
 -- lower-case, without leading zeros
 unfoldable pub hexadecimal : ℕ → List ℕ
 hexadecimal n = codes "0x" ++ digits 16 false n
+
+-- by name, or else by number
+unfoldable pub printed_type : ℕ → List ℕ
+printed_type kind = unwrap_or (name_of_type kind) (hexadecimal kind)
+
+unfoldable pub printed_compression : ℕ → List ℕ
+printed_compression n = unwrap_or (name_of_compression n) (hexadecimal n)
 
 -- the byte, or `\x` and two digits for the backslash and non-printing bytes
 unfoldable pub printed_byte : ℕ → List ℕ

@@ -3,7 +3,7 @@
 ghost use Rattle.std.specs.Prelude.{◌≡◌, ◌≤◌, length, true, Some, None, if◌then◌else◌};
 ghost use Rattle.std.specs.List.{list_any, list_all, position};
 ghost use Rattle.flash_format.specs.Entry.{is_nul};
-ghost use Rattle.flash_format.specs.Flashmap.{fmap_head_of, fmap_head_bytes, has_signature, is_named, map_len, is_valid_head, area_of, area_bytes, is_area, text_of, is_printing};
+ghost use Rattle.flash_format.specs.Flashmap.{fmap_head_of, fmap_head_bytes, has_signature, is_map_name, map_len, is_valid_head, area_of, area_bytes, is_area, text_of, is_printing};
 
 use byteorder::{ByteOrder, LittleEndian};
 
@@ -95,7 +95,7 @@ impl FmapHead {
     pub fn is_valid(&self, left: u64) -> bool
         ensures { result ≡ is_valid_head self.now left }
     {
-        self.major == 1 && is_named(&self.name) && self.map_len() <= left
+        self.major == 1 && is_map_name(&self.name) && self.map_len() <= left
     }
 }
 
@@ -201,8 +201,8 @@ fn is_printing(text: &[u8]) -> bool
     text.iter().all(|b| matches!(*b, 0x21..=0x7e))
 }
 
-fn is_named(name: &[u8]) -> bool
-    ensures { result ≡ is_named name.now }
+fn is_map_name(name: &[u8]) -> bool
+    ensures { result ≡ is_map_name name.now }
 {
     has_nul(name) && is_printing(text_of(name))
 }

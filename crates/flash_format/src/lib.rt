@@ -31,4 +31,4 @@ pub use meta::{LONGEST_METADATA, Meta, attr_len, meta_len, write_meta};
 pub use number::{digits_value, read_number};
 pub use printed_name::{printed_byte, push_name};
 pub use printed_number::{hexadecimal, push_hexadecimal};
-pub use type_names::{type_name, type_number};
+pub use type_names::{compression_name, type_name, type_number};

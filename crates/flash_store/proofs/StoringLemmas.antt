@@ -6,7 +6,7 @@ use Rattle.std.proofs.Math.Seq.{take-append-add, take-length}
 use borrow.Rule.Slice.PartMut.{put_mid}
 use Rattle.flash_format.specs.Made.{header_length}
 use Rattle.flash_device.specs.Device.{overwritten, SameOutside}
-use Rattle.flash_store.specs.Storing.{Stored, SameFile, SameBytes, HasRoom, HasReadSome, HasWrittenSome, IsErased}
+use Rattle.flash_store.specs.Storing.{Stored, SameFile, SameBytes, IsReserved, HasReadSome, HasWrittenSome, IsErased}
 use Rattle.std.specs.Prelude.{slice_range, Result, Ok, Err}
 use Rattle.flash_device.proofs.BytesLemmas.{nearer, further, slice_range_is, part_of_window, overwritten_is, length-overwritten, overwritten-range, overwritten-same, SameOutside-overwritten}
 
@@ -133,7 +133,7 @@ there-again old mid out at n inside read same =
 -- a partial write to a faithful file, after a call without effect
 pub written_some : {E : Type 0} (old new : Stored) (mid : List ℕ) (at : ℕ) (bytes : List ℕ) (k : ℕ)
     → at + length bytes ≤ length old.content → k ≤ length bytes
-    → (length bytes ≤ header_length → HasRoom at (length bytes) old → k ≡ length bytes)
+    → (length bytes ≤ header_length → IsReserved at (length bytes) old → k ≡ length bytes)
     → mid ≡ old.content → new.content ≡ overwritten mid at (take k bytes) → new.faithful ≡ old.faithful
     → new.written_at ≡ at → new.written_len ≡ length (take k bytes)
     → HasWrittenSome {E = E} at bytes old new (Ok k)

@@ -11,7 +11,7 @@ pub record Stored : Type 0 where
   pub written_len : ℕ
 
 -- Reserved space: the last write was complete, so no limit, full disk or hole refuses the next.
-pub record HasRoom (at n : ℕ) (file : Stored) : Type 0 where
+pub record IsReserved (at n : ℕ) (file : Stored) : Type 0 where
   pub place : file.written_at ≡ at
   pub count : file.written_len ≡ n
 
@@ -44,10 +44,10 @@ pub record HasWrittenSome {E : Type 0} (at : ℕ) (bytes : List ℕ) (old new : 
   pub same : IsTrue old.faithful → overwritten old.content at bytes ≡ old.content
       → new.content ≡ old.content
   pub whole : IsTrue old.faithful → length bytes ≤ header_length
-      → HasRoom at (length bytes) old
+      → IsReserved at (length bytes) old
       → (new.content ≡ old.content) ⊎ (new.content ≡ overwritten old.content at bytes)
   pub room : IsTrue old.faithful → length bytes ≤ header_length
-      → IfOk result (λ k. k ≡ length bytes → HasRoom at (length bytes) new)
+      → IfOk result (λ k. k ≡ length bytes → IsReserved at (length bytes) new)
 
 -- A write in one call, which fails if short.
 pub record HasWrittenOnce {E : Type 0} (at : ℕ) (bytes : List ℕ) (old new : Stored)
@@ -56,9 +56,9 @@ pub record HasWrittenOnce {E : Type 0} (at : ℕ) (bytes : List ℕ) (old new : 
   pub written : IsTrue old.faithful → OnOk result (new.content ≡ overwritten old.content at bytes)
   pub same : IsTrue old.faithful → overwritten old.content at bytes ≡ old.content
       → new.content ≡ old.content
-  pub whole : IsTrue old.faithful → HasRoom at (length bytes) old
+  pub whole : IsTrue old.faithful → IsReserved at (length bytes) old
       → (new.content ≡ old.content) ⊎ (new.content ≡ overwritten old.content at bytes)
-  pub room : IsTrue old.faithful → OnOk result (HasRoom at (length bytes) new)
+  pub room : IsTrue old.faithful → OnOk result (IsReserved at (length bytes) new)
 
 -- a device or a source over a file
 abbrev pub stored_device : Stored → ℕ → ℕ → Device

@@ -1,7 +1,7 @@
 //! A test file with short, interrupted and failed calls.
 ghost use Rattle.std.specs.Prelude.{◌≡◌, ◌+◌, ◌-◌, ◌^◌, ◌<◌, ◌≤◌, Err, length, true, IsOk};
 ghost use Rattle.flash_device.specs.Device.{overwritten};
-ghost use Rattle.flash_store.specs.Storing.{HasRoom, stored};
+ghost use Rattle.flash_store.specs.Storing.{IsReserved, stored};
 
 use crate::storage::{Storage, StorageFault};
 use flash_format::HEADER_LENGTH;
@@ -118,7 +118,7 @@ impl FlakyFile {
     fn moved(&self, at: u64, bytes: &[u8]) -> usize
         ensures some { result ≤ length bytes.now }
         ensures all { length bytes.now ≤ HEADER_LENGTH
-            → HasRoom at (length bytes.now) (stored self.now) → result ≡ length bytes.now }
+            → IsReserved at (length bytes.now) (stored self.now) → result ≡ length bytes.now }
     {
         let n = bytes.len();
         let has_room = self.written_at == at && self.written_len == n;

@@ -1,21 +1,20 @@
 //! Devices and sources in files, and all names of flash_device and flash_map.
 #![tactic(auto)]
 
-mod ahead;
-mod erased;
+mod erase_filter;
 mod file_source;
 mod flaky_file;
 mod open_fault;
 mod os_file;
 mod output;
+mod read_ahead;
 mod standard_descriptors;
 mod storage;
 mod stored_flash;
 mod stored_source;
 mod transfer;
 
-pub use ahead::Ahead;
-pub use erased::Erased;
+pub use erase_filter::EraseFilter;
 pub use file_source::FileSource;
 pub use flaky_file::FlakyFile;
 pub use flash_device::{
@@ -31,6 +30,7 @@ pub use flash_map::{
 pub use open_fault::OpenFault;
 pub use os_file::{Lock, OsFile};
 pub use output::Output;
+pub use read_ahead::ReadAhead;
 pub use standard_descriptors::open_beside_standard;
 pub use storage::{Storage, StorageFault};
 pub use stored_flash::{FileFlash, StoredFlash};

@@ -2,10 +2,10 @@
 ghost use Rattle.std.specs.Prelude.{◌≡◌, ◌+◌, IsOk, IsErr, IsTrue, OnOk, OnErr, IfOk, length, replicate};
 ghost use Rattle.flash_store.specs.Storing.{stored_device};
 
-use crate::ahead::Ahead;
-use crate::erased::Erased;
+use crate::erase_filter::EraseFilter;
 use crate::open_fault::OpenFault;
 use crate::os_file::{Lock, OsFile};
+use crate::read_ahead::ReadAhead;
 use crate::storage::{Storage, StorageFault};
 use crate::transfer::{read_whole, write_once, write_whole};
 use flash_device::{Counter, Flash, FlashFault};
@@ -95,9 +95,9 @@ impl<S: Storage> Flash for StoredFlash<S> {
 /// A device in a locked file. Dropping the device releases the lock.
 ///
 /// The contract clauses for an honest device assume faithful system calls.
-pub type FileFlash = StoredFlash<Ahead<Erased<OsFile>>>;
+pub type FileFlash = StoredFlash<ReadAhead<EraseFilter<OsFile>>>;
 
-impl StoredFlash<Ahead<Erased<OsFile>>> {
+impl StoredFlash<ReadAhead<EraseFilter<OsFile>>> {
     /// Opens a file for reading and writing, with an exclusive lock. Errors: `Failed` for a missing
     /// or inaccessible file, a directory, or a file without a length; `TooLarge` from 2^32 bytes
     /// on.
@@ -115,14 +115,14 @@ impl StoredFlash<Ahead<Erased<OsFile>>> {
     ) -> Result<FileFlash, OpenFault>
         ensures { IfOk result (λ device. (device.calls ≡ 0) × (device.faults ≡ 0)) }
     {
-        Ok(device_in(Erased::new(OsFile::open(rt, path, lock)?)))
+        Ok(device_in(EraseFilter::new(OsFile::open(rt, path, lock)?)))
     }
 
     /// Opens a file only for reading, with a shared lock. Writes fail. Errors are as in `open`.
     pub fn open_to_read<R: Files<File = File>>(rt: &R, path: &str) -> Result<FileFlash, OpenFault>
         ensures { IfOk result (λ device. (device.calls ≡ 0) × (device.faults ≡ 0)) }
     {
-        Ok(device_in(Erased::new(OsFile::open_shared(rt, path)?)))
+        Ok(device_in(EraseFilter::new(OsFile::open_shared(rt, path)?)))
     }
 
     /// Creates or truncates a file, waiting for its lock, and fills `size` bytes with 0xff. Errors:
@@ -137,7 +137,7 @@ impl StoredFlash<Ahead<Erased<OsFile>>> {
         ensures erased { IfOk result (λ device. IsTrue device.honest
             → device.content ≡ replicate size 0xff) }
     {
-        let file = Erased::erase(OsFile::create(rt, path, size)?)?;
+        let file = EraseFilter::erase(OsFile::create(rt, path, size)?)?;
         Ok(device_in(file))
     }
 
@@ -147,8 +147,8 @@ impl StoredFlash<Ahead<Erased<OsFile>>> {
     }
 }
 
-fn device_in(file: Erased<OsFile>) -> FileFlash
+fn device_in(file: EraseFilter<OsFile>) -> FileFlash
     ensures { result ≡ stored_device file 0 0 }
 {
-    StoredFlash::new(Ahead::new(file))
+    StoredFlash::new(ReadAhead::new(file))
 }

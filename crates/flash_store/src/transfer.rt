@@ -4,7 +4,7 @@ ghost use Rattle.flash_device.specs.Device.{OneRead, OneWrite, OneCommit, refusa
 ghost use Rattle.flash_store.specs.Storing.{
   stored_device,
   SameFile,
-  HasRoom,
+  IsReserved,
   HasReadSome,
   HasWrittenSome,
   HasWrittenOnce,
@@ -120,7 +120,7 @@ fn make_room<S: Storage>(storage: &mut S, at: u64) -> Result<(), StorageFault>
     ensures same { IsTrue (S.facts storage.old).faithful
         → (S.facts storage.new).content ≡ (S.facts storage.old).content }
     ensures room { IsTrue (S.facts storage.old).faithful
-        → OnOk result (HasRoom at HEADER_LENGTH (S.facts storage.new)) }
+        → OnOk result (IsReserved at HEADER_LENGTH (S.facts storage.new)) }
 {
     let mut header = [0; HEADER_LENGTH];
     read_whole(storage, at, &mut header)?;

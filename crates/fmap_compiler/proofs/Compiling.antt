@@ -12,7 +12,7 @@ use Rattle.fmap_compiler.specs.Outcome.{reading_limit, Compiles, HasTable, IsPre
 
 -- a table within the limit has no fault
 pub Refuses-encoded : (text : List ℕ) (areas : ℕ) (r : Result (Vec ℕ Global) FmdFault) → areas ≤ area_limit →
-    fmd.Refuses (count_fault areas) r → IfErr r (λ fault. (fault ≡ faults.Memory) ⊎ Refuses text fault)
+    fmd.FailsWith (count_fault areas) r → IfErr r (λ fault. (fault ≡ faults.Memory) ⊎ Refuses text fault)
 Refuses-encoded text areas (Ok b) few h = tt
 Refuses-encoded text areas (Err fault) few (inl memory) = inl memory
 Refuses-encoded text areas (Err fault) few (inr many) =

@@ -7,11 +7,11 @@ use Rattle.std.proofs.lemmas.Bool.Decides.{nat_tests}
 use Rattle.std.proofs.lemmas.List.{append-nil}
 use Rattle.std.proofs.lemmas.List.Elements.{All-head, All-tail}
 use Rattle.fmd_lang.specs.Words.{Word, words, kind_of, without_comments}
-use Rattle.fmd_lang.specs.Numbers.{number_at, number_value}
+use Rattle.fmd_lang.specs.Numbers.{number_at, literal_value}
 use Rattle.fmd_lang.specs.Tree.{Tree, section, Forest, none, some}
 use Rattle.fmd_lang.specs.Parsing.{IsBody}
 use Rattle.fmd_lang.specs.Grammar.{Then, One, IsA, IsName, IsSection, AreSections, AreAnnotations, HaveFlags, IsOffset, IsSize, HasValue, Until, annotation_flag, flags_with}
-use Rattle.fmd_lang.specs.Faults.{Stage, start, in_annotations, at_sign, past, Standing, own_fault, fault_from, first_fault, next_standing, wanted_at}
+use Rattle.fmd_lang.specs.Faults.{Stage, start, in_annotations, at_sign, past, Standing, token_fault, fault_from, first_fault, next_standing, wanted_at}
 use Rattle.fmd_lang.specs.declared.word.Kind.{Kind}
 use Rattle.fmd_lang.specs.declared.word.Kind.TheVariants.{Name, Number, OpenParen, CloseParen, At, OpenBrace, CloseBrace, End}
 use Rattle.fmd_lang.specs.declared.fault.FmdFault.TheVariants as faults
@@ -87,8 +87,8 @@ has-value : (at : ℕ) (value : Option ℕ) → result_err (number_at at value) 
 has-value at None h = cc
 has-value at (Some n) h = (n, refl)
 
-number-is : (depth : ℕ) (w : Word) → IsA Number w → own_fault (kind_of w.bytes) depth w ≡ None → (n : ℕ) × HasValue n w
-number-is depth w is own = let (n, value) = has-value w.place (number_value w.bytes) (rw is at own) in (n, (is, value))
+number-is : (depth : ℕ) (w : Word) → IsA Number w → token_fault (kind_of w.bytes) depth w ≡ None → (n : ℕ) × HasValue n w
+number-is depth w is own = let (n, value) = has-value w.place (literal_value w.bytes) (rw is at own) in (n, (is, value))
 
 -- the rest after an expected token
 abbrev Rest : Option Standing → List Word → Type 0
@@ -103,7 +103,7 @@ room n m t depth ws small =
 
 -- an expected token before the rest
 step : (s : Stage) (k : Kind) (flag : Option ℕ) (depth : ℕ) (w : Word) (ws : List Word) → IsA k w → k ≢ End →
-    annotation_flag w.bytes ≡ flag → own_fault (kind_of w.bytes) depth w ≡ None → Rest (next_standing s depth k flag) ws →
+    annotation_flag w.bytes ≡ flag → token_fault (kind_of w.bytes) depth w ≡ None → Rest (next_standing s depth k flag) ws →
     Left s depth (w ∷ ws)
 step start Name flag depth w ws is there known own (front, behind, split, ahead, closed) =
     let (t, one) = section-is w front (is, refl, name-short depth w (rw is at own)) ahead in
@@ -169,7 +169,7 @@ left [] s depth end whole h = ends s depth end h
 left (w ∷ ws) s depth end whole h =
     let k = kind_of w.bytes in
     let flag = annotation_flag w.bytes in
-    let (own, others) = or-none (own_fault k depth w) _ h in
+    let (own, others) = or-none (token_fault k depth w) _ h in
     let ((t, inner), stands, fine) = map_or-none (λ t. fault_from t end ws) (next_standing s depth k flag)
     (faults.Expected w.place (wanted_at s depth k)) others in
     let behind = left ws t inner end (All-tail IsWhole w ws whole) fine in

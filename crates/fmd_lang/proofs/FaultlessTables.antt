@@ -8,7 +8,7 @@ use Rattle.flash_format.specs.declared.flashmap.Area.{Area}
 use Rattle.fmd_lang.specs.Words.{Word, kind_of, words}
 use Rattle.fmd_lang.specs.Tree.{Tree, names}
 use Rattle.fmd_lang.specs.Grammar.{HasValue, IsOffset, IsSize, annotation_flag}
-use Rattle.fmd_lang.specs.Faults.{Stage, start, first_fault, fault_from, next_standing, own_fault, text_limit, wanted_at}
+use Rattle.fmd_lang.specs.Faults.{Stage, start, first_fault, fault_from, next_standing, token_fault, text_limit, wanted_at}
 use Rattle.fmd_lang.specs.LayoutFaults.{layout_fault, names_fault}
 use Rattle.fmd_lang.proofs.LayoutLemmas.{few-sections}
 use Rattle.fmd_lang.proofs.PlaceLemmas.{areas-filled}
@@ -21,7 +21,7 @@ use Rattle.fmd_lang.proofs.OptionLemmas.{cond-none, map_or-none, or-none}
 abbrev pub Fits : Word → Type 0
 Fits w = (n : ℕ) → HasValue n w → n < 2 ^ 32
 
-number_fits : (depth : ℕ) (w : Word) → own_fault (kind_of w.bytes) depth w ≡ None → Fits w
+number_fits : (depth : ℕ) (w : Word) → token_fault (kind_of w.bytes) depth w ≡ None → Fits w
 number_fits depth w fine n (is, value) =
     let small : result_err (number_at w.place (Some n)) ≡ None = ap (λ o. result_err (number_at w.place o)) (sym value) ∙ rw is at fine in
     grind arith
@@ -30,7 +30,7 @@ all_fit : (ws : List Word) (s : Stage) (depth end : ℕ) → fault_from (s, dept
 all_fit [] s depth end fine = All-nil Fits
 all_fit (w ∷ ws) s depth end fine =
     let k = kind_of w.bytes in
-    let (own, others) = or-none (own_fault k depth w) _ fine in
+    let (own, others) = or-none (token_fault k depth w) _ fine in
     let ((t, inner), stands, further) = map_or-none (λ t. fault_from t end ws) (next_standing s depth k (annotation_flag w.bytes))
     (faults.Expected w.place (wanted_at s depth k)) others in
     All-cons Fits w ws (number_fits depth w own) (all_fit ws t inner end further)

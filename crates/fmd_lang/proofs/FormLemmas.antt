@@ -5,7 +5,7 @@ use Rattle.std.proofs.lemmas.List.Elements.{All-contains}
 use Rattle.std.proofs.lemmas.List.Sums.{AllPass-from_list_all}
 use Rattle.std.proofs.lemmas.Map.Views.{Contains-from_lookup}
 use Rattle.std.proofs.lemmas.Slice.Eq.{bytes_eq-Decides}
-use Rattle.fmd_lang.specs.Faults.{own_fault}
+use Rattle.fmd_lang.specs.Faults.{token_fault}
 use Rattle.fmd_lang.proofs.OptionLemmas.{and-then-some}
 use Rattle.std.specs.Int.Bits.{bit_or}
 use Rattle.std.specs.List.{list_all}
@@ -71,5 +71,5 @@ pub sections-snoc : (parts : List Section) (part : Section) (v : List Word) →
 sections-snoc parts part v (front, back, split, all, one) =
     rw (map-append view parts (part ∷ []), split) (sections-push (map view parts) (view part) front back all one)
 
-pub name-short : (depth : ℕ) (w : Word) → own_fault Name depth w ≡ None → length w.bytes < 32
+pub name-short : (depth : ℕ) (w : Word) → token_fault Name depth w ≡ None → length w.bytes < 32
 name-short depth w own = grind arith

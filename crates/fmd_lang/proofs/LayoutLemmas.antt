@@ -10,7 +10,7 @@ use Rattle.std.proofs.lemmas.List.Sums.{AllPass-from_list_all}
 use Rattle.fmd_lang.specs.Tree.{Tree, section, Forest, none, some, section_count, names, names_of, size_of, view, views}
 use Rattle.fmd_lang.specs.declared.section.Section.TheFolds.{fold_out-Section}
 use Rattle.fmd_lang.specs.Table.{field_of, area_limit, section_area, areas_below, areas_of, AreasBelow, AreasOf, IsTable}
-use Rattle.fmd_lang.specs.Layout.{ambiguous_sibling, sibling, siblings, place_of, places_of, end_of, row_fault, misfit_of, first_misfit}
+use Rattle.fmd_lang.specs.Layout.{ambiguous_sibling, sibling, siblings, place_of, places_of, place_end, row_fault, misfit_of, first_misfit}
 use Rattle.fmd_lang.specs.LayoutFaults.{count_fault, parent_fault, parts_fault, layout_fault, names_fault, size_fault, table_fault, duplicate}
 use Rattle.fmd_lang.specs.declared.fault.FmdFault.TheVariants as faults
 use Rattle.std.specs.List.{list_all, list_any}
@@ -107,12 +107,12 @@ all-pushed {areas = areas} ss shown k pushed same over =
     let last = rw (drop_all k ss (rw same at over)) at pushed in
     (sym (append-nil areas) ∙ last.items, omega (arith, last.count), last.faults)
 
-pub place-inside : (size : ℕ) (qs : List Place) (k : ℕ) (q : Place) → IsTrue (list_all (λ p. nat_le (end_of p) size) qs) →
-    k < length qs → q ≡ get_or qs k q → end_of q ≤ size
+pub place-inside : (size : ℕ) (qs : List Place) (k : ℕ) (q : Place) → IsTrue (list_all (λ p. nat_le (place_end p) size) qs) →
+    k < length qs → q ≡ get_or qs k q → place_end q ≤ size
 place-inside size qs k q inside there is =
-    let all : list_all (λ p. nat_le (end_of p) size) qs ≡ true = search (rules, inside) in
-    let here = All-get_or (λ p. nat_le (end_of p) size ≡ true) qs k q there (AllPass-from_list_all (λ p. nat_le (end_of p) size) qs all) in
-    let fits : nat_le (end_of q) size ≡ true = rw (← is) at here in
+    let all : list_all (λ p. nat_le (place_end p) size) qs ≡ true = search (rules, inside) in
+    let here = All-get_or (λ p. nat_le (place_end p) size ≡ true) qs k q there (AllPass-from_list_all (λ p. nat_le (place_end p) size) qs all) in
+    let fits : nat_le (place_end q) size ≡ true = rw (← is) at here in
     grind arith
 
 pub part-pushed : {old before areas : List Area} {at size : ℕ} {whole t : Tree} {q : Place} {qs : List Place}
@@ -169,12 +169,12 @@ mutual
       let m = n + section_count t in
       let p = sibling n t in
       let q = place_of size from p (siblings m ts) in
-      let qs = places_of size (end_of q) (siblings m ts) in
-      let (fine, behind) = or-none (misfit_of size from p q) (first_misfit size (end_of q) (siblings m ts) qs) fitting in
+      let qs = places_of size (place_end q) (siblings m ts) in
+      let (fine, behind) = or-none (misfit_of size from p q) (first_misfit size (place_end q) (siblings m ts) qs) fitting in
       let (inner, others) = or-none (parent_fault n q.size t) (parts_fault m ts qs) h in
       let placed = placed_one size from p.number p.offset p.size (siblings m ts) fine in
       let below = areas-laid t n (at + q.start) q.size inner in
-      (q, areas_below n (at + q.start) q.size t, areas_of m at ts qs, refl, placed, below, parts-laid ts m at size (end_of q) behind others)
+      (q, areas_below n (at + q.start) q.size t, areas_of m at ts qs, refl, placed, below, parts-laid ts m at size (place_end q) behind others)
 
 pub table-is : (s : Section) (table : Table) → table.base ≡ unwrap_or (out-Section s).offset 0 →
     (out-Section s).size ≡ Some table.size → table.name ≡ field_of (out-Section s).name.items →

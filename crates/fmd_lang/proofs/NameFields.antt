@@ -9,7 +9,7 @@ use Rattle.std.proofs.lemmas.List.{take_all, take_at, length-replicate}
 use Rattle.std.proofs.lemmas.List.Sums.{take_while-cons}
 use Rattle.std.proofs.lemmas.List.Elements.{All-nil, All-cons, All-head, All-tail}
 use Rattle.flash_format.specs.Entry.{is_nul}
-use Rattle.flash_format.specs.Flashmap.{is_named, is_printing, text_of}
+use Rattle.flash_format.specs.Flashmap.{is_map_name, is_printing, text_of}
 use Rattle.fmd_lang.specs.Words.{Word, word, kind_of, is_blank, is_plain, words, words_from, without_comments}
 use Rattle.fmd_lang.specs.Table.{field_of}
 use Rattle.fmd_lang.specs.Grammar.{IsA}
@@ -91,7 +91,7 @@ all_printing (b ∷ name) plain =
     both_true (first_so _ _ (first_so (is_plain b) (list_all is_plain name) plain))
     (all_printing name (second_so (is_plain b) (list_all is_plain name) plain))
 
-pub field_named : (name : List ℕ) → length name < 32 → list_all is_plain name ≡ true → is_named (field_of name) ≡ true
+pub field_named : (name : List ℕ) → length name < 32 → list_all is_plain name ≡ true → is_map_name (field_of name) ≡ true
 field_named name short plain =
     let k : ℕ = 31 - length name in
     let left : 32 - length name ≡ suc k = omega arith in
@@ -101,7 +101,7 @@ field_named name short plain =
     let text : text_of (name ++ replicate (suc k) 0) ≡ name =
     ap (λ n. take n (name ++ replicate (suc k) 0)) (before_nul name k plain)
     ∙ take_at name (replicate (suc k) 0) (length name) refl in
-    ap is_named shape
+    ap is_map_name shape
     ∙ both_true (some_nul name k) (ap (λ (l : List ℕ). list_all is_printing l) text ∙ all_printing name plain)
 
 pub field_long : (name : List ℕ) → length name < 32 → length (field_of name) ≡ 32

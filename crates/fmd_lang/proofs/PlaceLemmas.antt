@@ -1,7 +1,7 @@
 -- A valid layout has the computed places, and no fault.
 use Rattle.std.proofs.Common.{◌≡◌, ℕ, suc, ◌+◌, List, [], ◌∷◌, ◌++◌, length, length-append, None, refl, sym, ◌∙◌, ap, arith}
 use Rattle.fmd_lang.specs.Tree.{Tree, section, Forest, none, some, section_count, names, names_of}
-use Rattle.fmd_lang.specs.Layout.{places_of, end_of, sibling, siblings, first_misfit}
+use Rattle.fmd_lang.specs.Layout.{places_of, place_end, sibling, siblings, first_misfit}
 use Rattle.fmd_lang.specs.Table.{section_area, areas_below, areas_of, AreasBelow, AreasOf, IsTable, table_head}
 use Rattle.fmd_lang.specs.LayoutFaults.{parent_fault, parts_fault}
 use Rattle.fmd_lang.specs.declared.row.Place.{Place}
@@ -27,9 +27,9 @@ mutual
       let ps = siblings (n + section_count t) ts in
       let here = place-is size from p.number p.offset p.size q ps placed in
       let (inner, count, clear) = areas-filled t n (at + q.start) q.size below first in
-      let (qs, same, outer, rest, fitting, fine) = parts-filled ts (n + section_count t) at size (end_of q) after others in
+      let (qs, same, outer, rest, fitting, fine) = parts-filled ts (n + section_count t) at size (place_end q) after others in
       let a = section_area at q t in
-      let filled = ap (λ rs. q ∷ rs) same ∙ ap (λ r. r ∷ places_of size (end_of r) ps) here in
+      let filled = ap (λ rs. q ∷ rs) same ∙ ap (λ r. r ∷ places_of size (place_end r) ps) here in
       let are = shape ∙ ap (λ xs. a ∷ xs ++ after) inner ∙ ap (λ xs. a ∷ areas_below n (at + q.start) q.size t ++ xs) outer in
       let all : length areas ≡ length (names t ++ names_of ts) = omega (arith, ap length shape, length-append below after, length-append (names t) (names_of ts), count, rest) in
       (q ∷ qs, filled, are, all, rw (placed.fits) fitting, rw clear fine)

@@ -4,8 +4,8 @@ use Rattle.std.specs.List.{list_all}
 use Rattle.std.proofs.lemmas.Bool.{le-leb}
 use Rattle.std.proofs.lemmas.List.{take_rest}
 use Rattle.std.proofs.Math.Seq.{drop-cons}
-use Rattle.fmd_lang.specs.Faults.{Refuses}
-use Rattle.fmd_lang.specs.Layout.{ambiguous_sibling, place_of, places_of, end_of, IsPlaced, first_misfit, misfit_of, row_fault}
+use Rattle.fmd_lang.specs.Faults.{FailsWith}
+use Rattle.fmd_lang.specs.Layout.{ambiguous_sibling, place_of, places_of, place_end, IsPlaced, first_misfit, misfit_of, row_fault}
 use Rattle.fmd_lang.proofs.OptionLemmas.{or-none}
 use Rattle.fmd_lang.specs.declared.fault.FmdFault.{FmdFault}
 use Rattle.fmd_lang.specs.declared.fault.FmdFault.TheVariants as faults
@@ -15,7 +15,7 @@ use Rattle.fmd_lang.specs.declared.row.Place.{Place}
 abbrev pub make : ℕ → Option ℕ → Option ℕ → Sibling
 make n o z = record { number = n; offset = o; size = z }
 
-pub fits : (parent from : ℕ) (p : Sibling) (q : Place) → misfit_of parent from p q ≡ None → (0 < q.size) × (end_of q ≤ parent)
+pub fits : (parent from : ℕ) (p : Sibling) (q : Place) → misfit_of parent from p q ≡ None → (0 < q.size) × (place_end q ≤ parent)
 fits parent from p q h = (grind arith, grind arith)
 
 pub placed_one : (parent from n : ℕ) (o z : Option ℕ) (ps : List Sibling) →
@@ -40,17 +40,17 @@ place-is parent from n o (Some s) q ps placed =
     same_place q (place_of parent from (make n o (Some s)) ps) placed.offset placed.size
 
 pub filled-inside : (ps : List Sibling) (parent from : ℕ) → first_misfit parent from ps (places_of parent from ps) ≡ None →
-    list_all (λ q. nat_le (end_of q) parent) (places_of parent from ps) ≡ true
+    list_all (λ q. nat_le (place_end q) parent) (places_of parent from ps) ≡ true
 filled-inside [] parent from h = refl
 filled-inside (p ∷ ps) parent from h =
     let q = place_of parent from p ps in
-    let (fine, others) = or-none (misfit_of parent from p q) (first_misfit parent (end_of q) ps (places_of parent (end_of q) ps)) h in
-    let here : nat_le (end_of q) parent ≡ true = le-leb _ _ (fits parent from p q fine).1 in
-    rw here (filled-inside ps parent (end_of q) others)
+    let (fine, others) = or-none (misfit_of parent from p q) (first_misfit parent (place_end q) ps (places_of parent (place_end q) ps)) h in
+    let here : nat_le (place_end q) parent ≡ true = le-leb _ _ (fits parent from p q fine).1 in
+    rw here (filled-inside ps parent (place_end q) others)
 
 pub laid-inside : (parent : ℕ) (row : List Sibling) (r : Result (Vec Place Global) FmdFault) →
-    IfOk r (λ v. v.items ≡ places_of parent 0 row) → Refuses (row_fault parent row) r →
-    IfOk r (λ v. IsTrue (list_all (λ q. nat_le (end_of q) parent) v.items))
+    IfOk r (λ v. v.items ≡ places_of parent 0 row) → FailsWith (row_fault parent row) r →
+    IfOk r (λ v. IsTrue (list_all (λ q. nat_le (place_end q) parent) v.items))
 laid-inside parent row (Ok v) filled none =
     let fitting = (or-none (option_map faults.Ambiguous (ambiguous_sibling false row)) _ none).1 in
     let all = filled-inside row parent 0 fitting in

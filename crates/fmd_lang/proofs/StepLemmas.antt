@@ -3,9 +3,9 @@ use Rattle.std.proofs.Common.{◌≡◌, ◌≢◌, ℕ, ◌<◌, ◌≤◌, Lis
 use Rattle.std.proofs.lemmas.List.{append-nil}
 use Rattle.fmd_lang.specs.Words.{Word, words_after, kind_of}
 use Rattle.fmd_lang.specs.Grammar.{One, Then, IsA, HasValue, annotation_flag}
-use Rattle.fmd_lang.specs.Faults.{Stage, Standing, own_fault, next_standing, fault_after, fault_from, wanted_at}
-use Rattle.fmd_lang.specs.Lexing.{word_of, end_of}
-use Rattle.fmd_lang.specs.Parsing.{Reads, Parses, IsNext}
+use Rattle.fmd_lang.specs.Faults.{Stage, Standing, token_fault, next_standing, fault_after, fault_from, wanted_at}
+use Rattle.fmd_lang.specs.Lexing.{word_of, piece_end}
+use Rattle.fmd_lang.specs.Parsing.{ParsesFront, Parses, IsNext}
 use Rattle.fmd_lang.specs.declared.parser.Token.{Token}
 use Rattle.fmd_lang.specs.declared.word.Kind.{Kind}
 use Rattle.fmd_lang.specs.declared.word.Kind.TheVariants.{End, Number}
@@ -16,13 +16,13 @@ use Rattle.fmd_lang.specs.declared.fault.FmdFault.TheVariants as faults
 
 -- an expected token
 pub reads-word : (F : Word → Type 0) (s : Stage) (after : Standing) (depth end : ℕ) (w : Word) (ws : List Word) (k : Kind) →
-    IsA k w → own_fault (kind_of w.bytes) depth w ≡ None → next_standing s depth k (annotation_flag w.bytes) ≡ Some after →
-    F w → Reads (One F) (s, depth) after end (w ∷ ws) ws
+    IsA k w → token_fault (kind_of w.bytes) depth w ≡ None → next_standing s depth k (annotation_flag w.bytes) ≡ Some after →
+    F w → ParsesFront (One F) (s, depth) after end (w ∷ ws) ws
 reads-word F s after depth end w ws k is own stands form =
     record { front = w ∷ []; split = refl; form = (w, refl, form); same = rw (own, is, stands) refl }
 
 pub reads-then : {P Q : List Word → Type 0} {before middle after : Standing} {end : ℕ} {ws between behind : List Word} →
-    Reads P before middle end ws between → Reads Q middle after end between behind → Reads (Then P Q) before after end ws behind
+    ParsesFront P before middle end ws between → ParsesFront Q middle after end between behind → ParsesFront (Then P Q) before after end ws behind
 reads-then {behind = behind} p q = record {
   front = p.front ++ q.front;
   split = p.split ∙ ap (λ v. p.front ++ v) q.split ∙ sym (append_assoc p.front q.front behind);
@@ -32,11 +32,11 @@ reads-then {behind = behind} p q = record {
 
 pub reads-as : {P Q : List Word → Type 0} {before after : Standing} {end : ℕ} {ws behind : List Word} →
     ((v : List Word) → P v → Q v) →
-    Reads P before after end ws behind → Reads Q before after end ws behind
+    ParsesFront P before after end ws behind → ParsesFront Q before after end ws behind
 reads-as wider p = record { front = p.front; split = p.split; form = wider p.front p.form; same = p.same }
 
 pub reads-all : {P : List Word → Type 0} {before after : Standing} {end : ℕ} {ws behind : List Word} →
-    Reads P before after end ws behind → behind ≡ [] → P ws
+    ParsesFront P before after end ws behind → behind ≡ [] → P ws
 reads-all {P = P} p none = subst P (sym (p.split ∙ ap (λ v. p.front ++ v) none ∙ append-nil p.front)) p.form
 
 -- ---- tokens
@@ -45,15 +45,15 @@ reads-all {P = P} p none = subst P (sym (p.split ∙ ap (λ v. p.front ++ v) non
 pub record Takes (F : Word → Type 0) (before after : Standing) (text : List ℕ) (from to : ℕ) : Type 0 where
   pub ahead : from < to
   pub inside : to ≤ length text
-  pub reads : Reads (One F) before after (length text) (words_after text from) (words_after text to)
+  pub reads : ParsesFront (One F) before after (length text) (words_after text from) (words_after text to)
 
 pub token-takes : {text : List ℕ} {from depth to : ℕ} {token : Token} (F : Word → Type 0) (s : Stage) (after : Standing)
-    (k : Kind) → IsNext text from depth token → to ≡ end_of token.word → token.kind ≡ k → k ≢ End →
+    (k : Kind) → IsNext text from depth token → to ≡ piece_end token.word → token.kind ≡ k → k ≢ End →
     next_standing s depth k (annotation_flag token.word.bytes.now) ≡ Some after → F (word_of token.word) →
     Takes F (s, depth) after text from to
 token-takes {text = text} {depth = depth} {token = token} F s after k next end kind some stands form =
     let w = word_of token.word in
-    let rest = words_after text (end_of token.word) in
+    let rest = words_after text (piece_end token.word) in
     let is : IsA k w = next.kind ∙ kind in
     elim next.first [
       | inl (none, over) ↦ absurd (some (sym is ∙ ap (λ v. kind_of v.bytes) over))
@@ -65,12 +65,12 @@ token-takes {text = text} {depth = depth} {token = token} F s after k next end k
     ]
 
 pub token-mark : {text : List ℕ} {from depth to : ℕ} {token : Token} (s : Stage) (after : Standing) (k : Kind) →
-    IsNext text from depth token → to ≡ end_of token.word → token.kind ≡ k → k ≢ End →
+    IsNext text from depth token → to ≡ piece_end token.word → token.kind ≡ k → k ≢ End →
     next_standing s depth k (annotation_flag token.word.bytes.now) ≡ Some after → Takes (IsA k) (s, depth) after text from to
 token-mark s after k next end kind some stands = token-takes (IsA k) s after k next end kind some stands (next.kind ∙ kind)
 
 pub token-number : {text : List ℕ} {from depth to : ℕ} {token : Token} {n : ℕ} (s : Stage) (after : Standing) →
-    IsNext text from depth token → to ≡ end_of token.word → token.value ≡ Some n →
+    IsNext text from depth token → to ≡ piece_end token.word → token.value ≡ Some n →
     next_standing s depth Number (annotation_flag token.word.bytes.now) ≡ Some after →
     Takes (HasValue n) (s, depth) after text from to
 token-number {token = token} {n = n} s after next end number stands =

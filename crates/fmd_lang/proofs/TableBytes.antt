@@ -6,7 +6,7 @@ use Rattle.std.proofs.lemmas.Nat.{or_lt}
 use Rattle.std.proofs.lemmas.Bool.{ltb-true}
 use Rattle.std.proofs.lemmas.List.Elements.{All-nil, All-cons, All-append}
 use Rattle.flash_format.specs.declared.flashmap.Area.{Area}
-use Rattle.flash_format.specs.Flashmap.{is_named}
+use Rattle.flash_format.specs.Flashmap.{is_map_name}
 use Rattle.flash_format.specs.Laws.{IsAreaInBytes, IsReadAsMap}
 use Rattle.flash_format.proofs.MapBytes.{maps_read_back}
 use Rattle.fmd_lang.specs.Words.{Word, words}
@@ -14,7 +14,7 @@ use Rattle.fmd_lang.specs.Faults.{first_fault}
 use Rattle.fmd_lang.specs.LayoutFaults.{layout_fault}
 use Rattle.fmd_lang.specs.Tree.{Tree, section, Forest, none, some, section_count}
 use Rattle.fmd_lang.specs.Grammar.{AreAnnotations, AreSections, IsSection, annotation_flag, flags_with}
-use Rattle.fmd_lang.specs.Layout.{end_of, sibling}
+use Rattle.fmd_lang.specs.Layout.{place_end, sibling}
 use Rattle.fmd_lang.specs.Table.{field_of, AreasBelow, AreasOf, IsTable, section_area, table_bytes, table_head}
 use Rattle.fmd_lang.specs.declared.row.Place.{Place}
 use Rattle.fmd_lang.specs.declared.table.Table.{Table}
@@ -40,7 +40,7 @@ small_flags flags ws (inl nothing) = omega (arith, nothing.1)
 small_flags flags ws (inr (front, back, shape, opens, (listed, last, inner, (some_there, flagged), closes))) =
     joined_flags listed 0 flags (omega arith) flagged
 
-area_fits : (t : Tree) (ws : List Word) (at : ℕ) (q : Place) → IsSection t ws → at + end_of q < 2 ^ 32 →
+area_fits : (t : Tree) (ws : List Word) (at : ℕ) (q : Place) → IsSection t ws → at + place_end q < 2 ^ 32 →
     IsAreaInBytes (section_area at q t)
 area_fits (section name flags offset given parts) ws at q (a, b, split, (w, one, is), (marks, c, more, annotated, others)) small =
     record {
@@ -72,12 +72,12 @@ mutual
   parts_fit none ws n at size from areas sections small are =
       subst (λ (l : List Area). All IsAreaInBytes l) (sym are) (All-nil IsAreaInBytes)
   parts_fit (some t ts) ws n at size from areas (front, rest, shape, one, others) small (q, below, after, is, here, inner, outer) =
-      let inside : end_of q ≤ size = (fits size from (sibling n t) q here.fits).1 in
+      let inside : place_end q ≤ size = (fits size from (sibling n t) q here.fits).1 in
       subst (λ (l : List Area). All IsAreaInBytes l) (sym is)
       (All-cons IsAreaInBytes (section_area at q t) (below ++ after)
       (area_fits t front at q one (omega (arith, inside, small))) (All-append IsAreaInBytes below after
       (areas_fit t front n (at + q.start) q.size below one (omega (arith, inside, small)) inner)
-      (parts_fit ts rest (n + section_count t) at size (end_of q) after others small outer)))
+      (parts_fit ts rest (n + section_count t) at size (place_end q) after others small outer)))
 
 -- ---- the table
 
@@ -91,7 +91,7 @@ table_read (section name flags offset given parts) text more table fine is laid 
     let (first, rest, split, (w, one, (kind, named, short)), (marks, others, marked, annotated, placed)) = is in
     let (place, last, last_shape, at, (number, body, body_shape, size_is, inside)) = placed in
     let begins : words text ≡ w ∷ rest = split ∙ ap (λ v. v ++ rest) one in
-    let good : is_named (field_of name) ≡ true = field_named name short (rw named at (first_name text w rest begins kind)) in
+    let good : is_map_name (field_of name) ≡ true = field_named name short (rw named at (first_name text w rest begins kind)) in
     let after = fits-behind (words text) first rest split (numbers_fit text fine) in
     let each : All Fits others = fits-behind rest marks others marked after in
     let behind : All Fits (number ++ body) = subst (All Fits) body_shape (fits-behind others place last last_shape each) in
@@ -102,7 +102,7 @@ table_read (section name flags offset given parts) text more table fine is laid 
       base = omega (arith, base, based);
       size = size;
       name = ap length called ∙ field_long name short;
-      named = ap is_named called ∙ good;
+      named = ap is_map_name called ∙ good;
       counted = refl;
       few = few_areas t table.size table.areas.items laid areas;
       each = areas_fit t (words text) 0 0 table.size table.areas.items is (omega (arith, size)) areas;

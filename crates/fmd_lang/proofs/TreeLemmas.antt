@@ -4,11 +4,11 @@ use Rattle.std.proofs.lemmas.Bool.{cond_both, lt-ltb}
 use Rattle.std.proofs.lemmas.List.{append-nil}
 use Rattle.std.specs.Int.Bits.{bit_or}
 use Rattle.fmd_lang.specs.Words.{Word, words, kind_of}
-use Rattle.fmd_lang.specs.Numbers.{number_value}
+use Rattle.fmd_lang.specs.Numbers.{literal_value}
 use Rattle.fmd_lang.specs.Tree.{Tree, section, Forest, none, some}
 use Rattle.fmd_lang.specs.Parsing.{IsBody}
 use Rattle.fmd_lang.specs.Grammar.{Then, IsA, IsSection, AreSections, AreAnnotations, IsOffset, IsSize, annotation_flag, flags_with}
-use Rattle.fmd_lang.specs.Faults.{Stage, Standing, start, in_annotations, at_sign, past, own_fault, next_standing, text_limit, fault_from, first_fault}
+use Rattle.fmd_lang.specs.Faults.{Stage, Standing, start, in_annotations, at_sign, past, token_fault, next_standing, text_limit, fault_from, first_fault}
 use Rattle.fmd_lang.specs.declared.fault.FmdFault.TheVariants as faults
 use Rattle.fmd_lang.specs.declared.fault.Expected.{Expected}
 use Rattle.fmd_lang.specs.declared.word.Kind.{Kind}
@@ -47,7 +47,7 @@ other_levels (l ∷ ls) = ls
 abbrev put_word : Kind → Word → Built → Built
 put_word CloseParen w b = record b { inside = true }
 put_word OpenParen w b = record b { inside = false; marks = []; flags = unwrap_or (flags_with 0 b.marks) 0 }
-put_word Number w b = record b { size = number_value w.bytes; number = b.size }
+put_word Number w b = record b { size = literal_value w.bytes; number = b.size }
 put_word At w b = record b { offset = b.size; size = b.number; number = None }
 put_word CloseBrace w b = nothing (none ∷ b.levels)
 put_word OpenBrace w b = record b { parts = first_level b.levels; levels = other_levels b.levels }
@@ -79,7 +79,7 @@ adds-then p q ws r (front, back, split, first, second) more k few =
     rw (split, append_assoc front back r) (p front (back ++ r) first (q back r second more) k few)
 
 -- A token's own fault is never an unexpected token.
-own-placed : (k : Kind) (depth : ℕ) (w : Word) (at : ℕ) (what : Expected) → own_fault k depth w ≢ Some (faults.Expected at what)
+own-placed : (k : Kind) (depth : ℕ) (w : Word) (at : ℕ) (what : Expected) → token_fault k depth w ≢ Some (faults.Expected at what)
 own-placed Number depth w at what h = grind arith
 own-placed Name depth w at what h = grind arith
 own-placed OpenBrace depth w at what h = grind arith
@@ -90,7 +90,7 @@ makes : {s : Stage} {after : Standing} {depth end : ℕ} {w : Word} {ws : List W
     next_standing s depth k (annotation_flag w.bytes) ≡ Some after → Makes after end ws b → put_word k w b ≡ c →
     Makes (s, depth) end (w ∷ ws) c
 makes {after = after} {depth = depth} {end = end} {w = w} {ws = ws} k is stands more same = record {
-  placed = λ at what. rw (is, stands) (or-other (own_fault k depth w) (fault_from after end ws) (own-placed k depth w at what) (more.placed at what));
+  placed = λ at what. rw (is, stands) (or-other (token_fault k depth w) (fault_from after end ws) (own-placed k depth w at what) (more.placed at what));
   made = rw is (ap (put_word k w) more.made) ∙ same;
 }
 

@@ -5,7 +5,7 @@ use Rattle.std.specs.Prelude.{if◌then◌else◌, List, [], ◌∷◌, length, 
 use Rattle.std.specs.Option.{option_map_or, option_or}
 use Rattle.std.specs.Result.{result_err}
 use Rattle.fmd_lang.specs.Words.{Word, word, words, kind_of}
-use Rattle.fmd_lang.specs.Numbers.{number_at, number_value}
+use Rattle.fmd_lang.specs.Numbers.{number_at, literal_value}
 use Rattle.fmd_lang.specs.Grammar.{annotation_flag}
 use Rattle.fmd_lang.specs.declared.word.Kind.{Kind}
 use Rattle.fmd_lang.specs.declared.word.Kind.TheVariants.{Name, Number, OpenParen, CloseParen, At}
@@ -58,17 +58,17 @@ abbrev pub depth_limit : ℕ
 depth_limit = 32
 
 -- the fault of a token, regardless of the grammar
-abbrev pub own_fault : Kind → ℕ → Word → Option FmdFault
-own_fault Bad depth w = Some (faults.BadByte w.place)
-own_fault Number depth w = result_err (number_at w.place (number_value w.bytes))
-own_fault Name depth w =
+abbrev pub token_fault : Kind → ℕ → Word → Option FmdFault
+token_fault Bad depth w = Some (faults.BadByte w.place)
+token_fault Number depth w = result_err (number_at w.place (literal_value w.bytes))
+token_fault Name depth w =
     if nat_lt (length w.bytes) 32 then None else Some (faults.NameTooLong w.place)
-own_fault OpenBrace depth w = if nat_lt depth depth_limit then None else Some faults.TooDeep
-own_fault k depth w = None
+token_fault OpenBrace depth w = if nat_lt depth depth_limit then None else Some faults.TooDeep
+token_fault k depth w = None
 
 -- the fault of a token, or else of the following tokens
 abbrev pub fault_after : Standing → Word → (Standing → Option FmdFault) → Option FmdFault
-fault_after (s, depth) w further = option_or (own_fault (kind_of w.bytes) depth w)
+fault_after (s, depth) w further = option_or (token_fault (kind_of w.bytes) depth w)
     (option_map_or further (next_standing s depth (kind_of w.bytes) (annotation_flag w.bytes))
     (Some (faults.Expected w.place (wanted_at s depth (kind_of w.bytes)))))
 
@@ -86,6 +86,6 @@ first_fault text = if nat_lt text_limit (length text) then Some faults.TextTooLo
     else fault_from (start, 0) (length text) (words text)
 
 -- success implies no fault; an error is the given fault, or an allocation failure
-abbrev pub Refuses : {X : Type 0} → Option FmdFault → Result X FmdFault → Type 0
-Refuses refusal (Ok x) = refusal ≡ None
-Refuses refusal (Err fault) = (fault ≡ faults.Memory) ⊎ (refusal ≡ Some fault)
+abbrev pub FailsWith : {X : Type 0} → Option FmdFault → Result X FmdFault → Type 0
+FailsWith refusal (Ok x) = refusal ≡ None
+FailsWith refusal (Err fault) = (fault ≡ faults.Memory) ⊎ (refusal ≡ Some fault)

@@ -9,7 +9,7 @@ use Rattle.std.specs.Map.{lookup}
 use Rattle.std.specs.Option.{option_and_then}
 use Rattle.std.specs.Str.{bytes_eq}
 use Rattle.fmd_lang.specs.Words.{Word, kind_of}
-use Rattle.fmd_lang.specs.Numbers.{number_value}
+use Rattle.fmd_lang.specs.Numbers.{literal_value}
 use Rattle.fmd_lang.specs.Tree.{Tree, section, Forest, none, some}
 use Rattle.fmd_lang.specs.declared.word.Kind.{Kind}
 use Rattle.fmd_lang.specs.declared.word.Kind.TheVariants.{Name, Number, OpenParen, CloseParen, At}
@@ -57,7 +57,7 @@ AreAnnotations flags = Enclosed OpenParen CloseParen (HaveFlags flags) (flags �
 
 -- a number with the value `n`
 abbrev pub HasValue : ℕ → Word → Type 0
-HasValue n w = IsA Number w × (number_value w.bytes ≡ Some n)
+HasValue n w = IsA Number w × (literal_value w.bytes ≡ Some n)
 
 -- `@` and a number; or no token
 abbrev pub IsOffset : Option ℕ → List Word → Type 0

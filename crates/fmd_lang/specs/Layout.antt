@@ -10,8 +10,8 @@ use Rattle.fmd_lang.specs.declared.row.Place.{Place}
 use Rattle.fmd_lang.specs.declared.fault.FmdFault.{FmdFault}
 use Rattle.fmd_lang.specs.declared.fault.FmdFault.TheVariants as faults
 
-abbrev pub end_of : Place → ℕ
-end_of q = q.start + q.size
+abbrev pub place_end : Place → ℕ
+place_end q = q.start + q.size
 
 -- A run begins at the first sibling, or at a sibling with an offset. The bound is the start of the
 -- next run, or the parent's size.
@@ -29,13 +29,13 @@ abbrev pub misfit_of : ℕ → ℕ → Sibling → Place → Option FmdFault
 misfit_of parent from p q =
     if nat_eq q.size 0 then Some (faults.EmptySection p.number)
     else (if nat_lt q.start from then Some (faults.Overlap p.number)
-    else (if nat_lt parent (end_of q) then Some (faults.Outside p.number) else None))
+    else (if nat_lt parent (place_end q) then Some (faults.Outside p.number) else None))
 
 -- The place of a sibling after `from` and before `ps`. An omitted size extends the run to the
 -- bound.
 pub record IsPlaced (parent from : ℕ) (p : Sibling) (ps : List Sibling) (q : Place) : Type 0 where
   pub offset : q.start ≡ unwrap_or p.offset from
-  pub size : MatchOption p.size (end_of q + sizes_ahead ps ≡ bound parent ps) (λ n. q.size ≡ n)
+  pub size : MatchOption p.size (place_end q + sizes_ahead ps ≡ bound parent ps) (λ n. q.size ≡ n)
   pub fits : misfit_of parent from p q ≡ None
 
 -- the first sibling with the second omitted size of a run; the flag records an omitted size
@@ -55,11 +55,11 @@ place_of parent from p ps =
 abbrev pub places_of : ℕ → ℕ → List Sibling → List Place
 places_of parent from [] = []
 places_of parent from (p ∷ ps) =
-    place_of parent from p ps ∷ places_of parent (end_of (place_of parent from p ps)) ps
+    place_of parent from p ps ∷ places_of parent (place_end (place_of parent from p ps)) ps
 
 abbrev pub first_misfit : ℕ → ℕ → List Sibling → List Place → Option FmdFault
 first_misfit parent from (p ∷ ps) (q ∷ qs) =
-    option_or (misfit_of parent from p q) (first_misfit parent (end_of q) ps qs)
+    option_or (misfit_of parent from p q) (first_misfit parent (place_end q) ps qs)
 first_misfit parent from ps qs = None
 
 -- the first fault of a row: omitted sizes precede places

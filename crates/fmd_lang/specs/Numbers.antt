@@ -27,8 +27,8 @@ front_of bytes =
     if nat_eq (unit_value (last_byte bytes)) 1 then bytes else take (length bytes - 1) bytes
 
 -- the value of a number with at most a single unit
-unfoldable pub number_value : List ℕ → Option ℕ
-number_value bytes =
+unfoldable pub literal_value : List ℕ → Option ℕ
+literal_value bytes =
     option_map (λ n. n * unit_value (last_byte bytes)) (plain_value (front_of bytes))
 
 -- the value below 2^32, or the fault

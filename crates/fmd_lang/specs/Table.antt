@@ -5,7 +5,7 @@ use Rattle.std.specs.List.{find, flat_map}
 use Rattle.std.specs.Option.{option_map_or}
 use Rattle.flash_format.specs.Flashmap.{fmap_head_bytes, area_bytes, is_area}
 use Rattle.fmd_lang.specs.Tree.{Tree, section, Forest, none, some, section_count}
-use Rattle.fmd_lang.specs.Layout.{IsPlaced, ambiguous_sibling, end_of, sibling, siblings, places_of}
+use Rattle.fmd_lang.specs.Layout.{IsPlaced, ambiguous_sibling, place_end, sibling, siblings, places_of}
 use Rattle.fmd_lang.specs.declared.row.Place.{Place}
 use Rattle.flash_format.specs.declared.flashmap.Area.{Area}
 use Rattle.flash_format.specs.declared.flashmap.FmapHead.{FmapHead}
@@ -38,7 +38,7 @@ abbrev mutual
       (q : Place) × (below after : List Area) × (areas ≡ section_area at q t ∷ below ++ after)
       × IsPlaced size from (sibling n t) (siblings (n + section_count t) ts) q
       × AreasBelow n (at + q.start) q.size t below
-      × AreasOf (n + section_count t) at size (end_of q) ts after
+      × AreasOf (n + section_count t) at size (place_end q) ts after
 
 -- The same areas by `places_of`, also without a valid layout.
 abbrev mutual

@@ -5,8 +5,8 @@ ghost use Rattle.std.specs.Prelude.{vec_len, Some, None, suc, codes, OnOk, IfOk,
 ghost use Rattle.std.specs.Prelude.{nat_le};
 ghost use Rattle.std.specs.List.{list_all, list_any};
 ghost use Rattle.std.specs.Result.{result_err};
-ghost use Rattle.fmd_lang.specs.Faults.{Refuses};
-ghost use Rattle.fmd_lang.specs.Layout.{end_of, row_fault};
+ghost use Rattle.fmd_lang.specs.Faults.{FailsWith};
+ghost use Rattle.fmd_lang.specs.Layout.{place_end, row_fault};
 ghost use Rattle.fmd_lang.specs.declared.section.Section.{out-Section};
 ghost use Rattle.fmd_lang.specs.Tree.{section_count, size_of, names, names_of, view, views};
 ghost use Rattle.fmd_lang.specs.Layout as spec;
@@ -29,7 +29,7 @@ use std::alloc::Global;
 pub fn lay_out(alloc: Global, root: &Section) -> Result<Table, FmdFault>
     ensures table { IfOk result (λ table. IsTable (view root.now) table) }
     ensures few { IfOk result (λ table. length table.areas.items ≤ area_limit) }
-    ensures refused { Refuses (layout_fault (view root.now)) result }
+    ensures refused { FailsWith (layout_fault (view root.now)) result }
 {
     check_names_of(alloc, root)?;
     let size = root_size(root)?;
@@ -69,7 +69,7 @@ fn push_areas(
         ++ areas_below (length areas.old.items) at size (view section.now)) }
     ensures count { OnOk result
         (length areas.new.items + 1 ≡ length areas.old.items + section_count (view section.now)) }
-    ensures refused { Refuses
+    ensures refused { FailsWith
         (faults.parent_fault (length areas.old.items) size (view section.now)) result }
 {
     let places = places(alloc, section, areas.len(), size)?;
@@ -100,8 +100,8 @@ fn places(
     ensures len { IfOk result (λ row.
         length row.items ≡ length (out-Section section.now).parts.items) }
     ensures inside { IfOk result (λ row.
-        IsTrue (list_all (λ q. nat_le (end_of q) size) row.items)) }
-    ensures refused { Refuses (row_fault size
+        IsTrue (list_all (λ q. nat_le (place_end q) size) row.items)) }
+    ensures refused { FailsWith (row_fault size
         (spec.siblings (suc number) (views (out-Section section.now).parts.items))) result }
 {
     let row = siblings(alloc, number + 1, &section.parts)?;

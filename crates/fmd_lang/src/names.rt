@@ -6,7 +6,7 @@ ghost use Rattle.std.specs.Result.{result_err};
 ghost use Rattle.fmd_lang.specs.Tree.{names, view};
 ghost use Rattle.fmd_lang.specs.LayoutFaults.{areas_fault, names_fault, duplicate};
 ghost use Rattle.fmd_lang.specs.Table.{field_of};
-ghost use Rattle.fmd_lang.specs.Faults.{Refuses};
+ghost use Rattle.fmd_lang.specs.Faults.{FailsWith};
 
 use crate::fault::FmdFault;
 use crate::section::Section;
@@ -16,7 +16,7 @@ use std::collections::BTreeSet;
 
 /// Refuses a duplicate name, a missing FMAP, or too many names.
 pub fn check_names_of(alloc: Global, root: &Section) -> Result<(), FmdFault>
-    ensures { Refuses (names_fault (names (view root.now))) result }
+    ensures { FailsWith (names_fault (names (view root.now))) result }
 {
     let mut all = Vec::new(alloc);
     push_names(root, &mut all)?;
@@ -37,7 +37,7 @@ fn push_names<'s>(section: &'s Section, all: &mut Vec<&'s [u8]>) -> Result<(), F
 }
 
 fn check_names(alloc: Global, names: &[&[u8]]) -> Result<(), FmdFault>
-    ensures { Refuses (names_fault (map (λ r. r.now) names.now)) result }
+    ensures { FailsWith (names_fault (map (λ r. r.now) names.now)) result }
 {
     if let Some(section) = first_duplicate(alloc, names)? {
         return Err(FmdFault::Duplicate { section });

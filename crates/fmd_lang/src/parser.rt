@@ -4,8 +4,8 @@ ghost use Rattle.std.specs.Prelude.{◌≡◌, ◌≢◌, ◌≤◌, ◌<◌, �
 ghost use Rattle.std.specs.Prelude.{Some, None, Err, IfOk, IfErr, MatchOption, MatchResult};
 ghost use Rattle.std.specs.Result.{result_err};
 ghost use Rattle.fmd_lang.specs.Words.{words, words_after, kind_of};
-ghost use Rattle.fmd_lang.specs.Lexing.{word_of, end_of};
-ghost use Rattle.fmd_lang.specs.Faults.{Stage, depth_limit, fault_from, own_fault, Refuses, start};
+ghost use Rattle.fmd_lang.specs.Lexing.{word_of, piece_end};
+ghost use Rattle.fmd_lang.specs.Faults.{Stage, depth_limit, fault_from, token_fault, FailsWith, start};
 ghost use Rattle.fmd_lang.specs.Faults.{past, at_sign, in_annotations, wanted_at, first_fault};
 ghost use Rattle.fmd_lang.specs.Grammar.{One, HasValue, HaveFlags, IsA, IsOffset, IsSize};
 ghost use Rattle.fmd_lang.specs.Grammar.{AreAnnotations, AreSections, IsSection, Until, flags_with};
@@ -42,7 +42,7 @@ struct Token<'t> {
 #[tactic(auto, unfolding(crate::specs::Faults::first_fault, crate::specs::Words::words, crate::specs::Words::words_after))]
 pub fn parse(alloc: Global, text: &[u8]) -> Result<Section, FmdFault>
     ensures tree { IfOk result (λ t. IsSection (view t) (words text.now)) }
-    ensures refused { Refuses (first_fault text.now) result }
+    ensures refused { FailsWith (first_fault text.now) result }
 {
     if text.len() > TEXT_LIMIT {
         return Err(FmdFault::TextTooLong);
@@ -52,7 +52,7 @@ pub fn parse(alloc: Global, text: &[u8]) -> Result<Section, FmdFault>
 
 fn tree(alloc: Global, text: &[u8]) -> Result<Section, FmdFault>
     ensures tree { IfOk result (λ t. IsSection (view t) (words_after text.now 0)) }
-    ensures refused { Refuses
+    ensures refused { FailsWith
         (fault_from (start, 0) (length text.now) (words_after text.now 0)) result }
 {
     let (tree, to) = root(alloc, text)?;
@@ -81,11 +81,12 @@ fn section(
     name: &Word<'_>,
     depth: u32,
 ) -> Result<(Section, usize), FmdFault>
-    requires inside { end_of name.now ≤ length text.now }
-    requires name { IsA Name (word_of name.now) × (own_fault Name depth (word_of name.now) ≡ None) }
+    requires inside { piece_end name.now ≤ length text.now }
+    requires name { IsA Name (word_of name.now)
+        × (token_fault Name depth (word_of name.now) ≡ None) }
     requires depth { depth ≤ depth_limit }
     ensures { Parses (λ t ws. IsSection (view t) (word_of name.now ∷ ws)) (past 0, depth)
-        (past 4, depth) text.now (end_of name.now) result }
+        (past 4, depth) text.now (piece_end name.now) result }
 {
     let (flags, at) = annotations(text, name.end(), depth)?;
     let (offset, at) = offset(text, at, depth)?;
@@ -269,7 +270,7 @@ fn value_of(word: &Word<'_>, kind: Kind, depth: u32) -> Result<Option<u32>, FmdF
     requires { IsA kind (word_of word.now) }
     ensures value { IfOk result (λ value.
         MatchOption value (kind ≢ Number) (λ n. HasValue n (word_of word.now))) }
-    ensures fault { own_fault kind depth (word_of word.now) ≡ result_err result }
+    ensures fault { token_fault kind depth (word_of word.now) ≡ result_err result }
 {
     let at = word.place;
     match kind {

@@ -1,5 +1,5 @@
 ghost use Rattle.std.specs.Prelude.{◌≡◌, ◌≤◌, ◌<◌, ◌⊎◌, length, OnOk, IfOk, IfErr};
-ghost use Rattle.fmd_lang.specs.Faults.{Refuses};
+ghost use Rattle.fmd_lang.specs.Faults.{FailsWith};
 ghost use Rattle.fmd_lang.specs.LayoutFaults.{count_fault};
 ghost use Rattle.fmd_lang.specs.Table.{table_bytes};
 
@@ -28,7 +28,7 @@ pub struct Table {
 /// Encodes the header of FMAP 1.1, and the areas. Refuses more than 65,535 areas.
 pub fn encode(alloc: Global, table: &Table) -> Result<Vec<u8>, FmdFault>
     ensures bytes { IfOk result (λ bytes. bytes.items ≡ table_bytes table.now) }
-    ensures refused { Refuses (count_fault (length table.now.areas.items)) result }
+    ensures refused { FailsWith (count_fault (length table.now.areas.items)) result }
 {
     let Ok(nareas) = u16::try_from(table.areas.len()) else {
         return Err(FmdFault::TooManyAreas);

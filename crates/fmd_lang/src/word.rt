@@ -5,7 +5,7 @@ ghost use Rattle.std.specs.Prelude.{slice_index, slice_range, IsTrue};
 ghost use Rattle.std.specs.List.{position_or_len, prefix_len};
 ghost use Rattle.fmd_lang.specs.Words.{words_after, word};
 ghost use Rattle.fmd_lang.specs.Words as spec;
-ghost use Rattle.fmd_lang.specs.Lexing.{begins_word, IsFirst, end_of};
+ghost use Rattle.fmd_lang.specs.Lexing.{begins_word, IsFirst, piece_end};
 
 /// The kind of a token, by the first byte.
 #[derive(Clone, Copy)]
@@ -133,8 +133,8 @@ impl Word<'_> {
 
     /// Returns the offset after the token.
     pub fn end(&self) -> usize
-        requires { end_of self.now < 2 ^ 64 }
-        ensures { result ≡ end_of self.now }
+        requires { piece_end self.now < 2 ^ 64 }
+        ensures { result ≡ piece_end self.now }
     {
         self.place + self.bytes.len()
     }

@@ -8,7 +8,7 @@ ghost use Rattle.flash_device.specs.Pages.{OnHonest};
 ghost use Rattle.cbfs_edit.specs.Formats.{formatted};
 ghost use Rattle.cbfs_commands.specs.declared.create.flashmap.TheConstants.{MOST_REGIONS};
 ghost use Rattle.cbfs_commands.specs.Creations.{IsPlace};
-ghost use Rattle.cbfs_commands.specs.Effects.{HasChanged, creates};
+ghost use Rattle.cbfs_commands.specs.Effects.{HasApplied, creates};
 
 use crate::create::plan::read_plan;
 use crate::refusal::Refusal;
@@ -58,7 +58,7 @@ pub fn create<F: Flash, S: Source>(
     source: &mut S,
 ) -> Result<(), Refusal>
     requires { length names.now ≤ MOST_REGIONS }
-    ensures { HasChanged F.facts (2 * length (F.facts paged.old.device).content + 64)
+    ensures { HasApplied F.facts (2 * length (F.facts paged.old.device).content + 64)
         (creates (map (λ name. name.now) names.now)) paged.old paged.new (S.facts source.old)
         (S.facts source.new) result }
 {

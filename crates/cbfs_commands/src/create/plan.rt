@@ -6,7 +6,7 @@ ghost use Rattle.std.specs.List.{list_any};
 ghost use Rattle.std.specs.Result.{result_map_both};
 ghost use Rattle.flash_format.specs.Flashmap.{area_len, map_len};
 ghost use Rattle.flash_device.specs.Device.{Reads, fault_count};
-ghost use Rattle.cbfs_commands.specs.Creations.{FitsImage, map_place, overlap, plan_for, plan_of};
+ghost use Rattle.cbfs_commands.specs.Creations.{FitsImage, map_place, share_bytes, plan_for, plan_of};
 ghost use Rattle.cbfs_commands.specs.Creations.{region_place, region_places, some_overlap};
 ghost use Rattle.cbfs_commands.specs.Refusals.{by_source};
 
@@ -64,8 +64,8 @@ fn region_places(
     Ok(places)
 }
 
-fn overlap(a: &Region, b: &Region) -> bool
-    ensures { result ≡ overlap a.now b.now }
+fn share_bytes(a: &Region, b: &Region) -> bool
+    ensures { result ≡ share_bytes a.now b.now }
 {
     begins_before_end(a, b) && begins_before_end(b, a)
 }
@@ -77,9 +77,9 @@ fn begins_before_end(a: &Region, b: &Region) -> bool
 }
 
 fn overlaps_any(place: &Region, others: &[Region]) -> bool
-    ensures { result ≡ list_any (overlap place.now) others.now }
+    ensures { result ≡ list_any (share_bytes place.now) others.now }
 {
-    others.iter().any(|other| overlap(place, other))
+    others.iter().any(|other| share_bytes(place, other))
 }
 
 fn some_overlap(mut places: &[Region]) -> bool

@@ -12,7 +12,7 @@ ghost use Rattle.cbfs_walk.specs.AttrWalks.{head_of_attribute};
 ghost use Rattle.cbfs_walk.specs.Hashes.{hash_state};
 ghost use Rattle.cbfs_commands.specs.Rows.{attribute_line, details, digest_line, hash_line};
 ghost use Rattle.cbfs_commands.specs.Rows.{hash_text};
-ghost use Rattle.cbfs_commands.specs.Printouts.{HasOutput, IsComponentOf, cell_of, shows};
+ghost use Rattle.cbfs_commands.specs.Printouts.{HasOutput, IsComponentOf, cell_bytes, shows};
 
 use crate::refusal::Refusal;
 use crate::row::{ROW_LEN, Row, push_decimal, put_row};
@@ -95,7 +95,7 @@ fn print_attributes<F: Flash, W: Sink>(
 
     ensures { HasOutput F.facts W.contents W.faults (cell.now.head.offset / 8)
         paged.old paged.new out.old out.new result (λ image. shows (flat_map attribute_line
-        (map head_of_attribute (cell_attributes (cell_of region cell.now image))))) }
+        (map head_of_attribute (cell_attributes (cell_bytes region cell.now image))))) }
 {
     let mut walk = attributes(cell);
     while let Some(head) = walk.next(paged, region)? {
@@ -116,7 +116,7 @@ fn print_hash<F: Flash, W: Sink>(
 
     ensures { HasOutput F.facts W.contents W.faults (1 + cell.now.span / 3840)
         paged.old paged.new out.old out.new result (λ image.
-        shows (hash_text (cell_of region cell.now image))) }
+        shows (hash_text (cell_bytes region cell.now image))) }
 {
     let state = check_hash(paged, region, cell)?;
     set_hash_row(row, &state);
@@ -136,7 +136,7 @@ pub fn print_details<F: Flash, W: Sink>(
     ensures { HasOutput F.facts W.contents W.faults
         (cell.now.head.offset / 8 + (1 + cell.now.span / 3840))
         paged.old paged.new out.old out.new result (λ image.
-        shows (details (cell_of region cell.now image))) }
+        shows (details (cell_bytes region cell.now image))) }
 {
     print_attributes(paged, region, cell, row, out)?;
     print_hash(paged, region, cell, row, out)

@@ -4,8 +4,8 @@ ghost use Rattle.std.specs.Prelude.{◌≡◌, ◌+◌, ◌*◌, ◌/◌, ◌<�
 ghost use Rattle.flash_device.specs.Pages.{HasAnswered, OnHonest};
 ghost use Rattle.flash_device.specs.Regions.{LiesOn, bytes_in};
 ghost use Rattle.cbfs_commands.specs.Outcomes.{print_region, printed_in};
-ghost use Rattle.cbfs_commands.specs.Rows.{shown_cell, row};
-ghost use Rattle.cbfs_commands.specs.Printouts.{HasOutput, IsCellOf, cell_of, shows};
+ghost use Rattle.cbfs_commands.specs.Rows.{shown_cell, cell_row};
+ghost use Rattle.cbfs_commands.specs.Printouts.{HasOutput, IsCellOf, cell_bytes, shows};
 
 use crate::print::details::print_details;
 use crate::refusal::Refusal;
@@ -24,8 +24,8 @@ fn set_cell_row<F: Flash>(
     requires { IsCellOf F.facts region cell.now paged.old.device }
 
     ensures after { HasAnswered F.facts (2 + cell.now.span / 3840) paged.old paged.new result }
-    ensures row { OnHonest F.facts paged.old.device (λ image.
-        OnOk result (buffer.new.items ≡ row cell.now.at (cell_of region cell.now image))) }
+    ensures cell_row { OnHonest F.facts paged.old.device (λ image.
+        OnOk result (buffer.new.items ≡ cell_row cell.now.at (cell_bytes region cell.now image))) }
 {
     cells_stand_in_their_image();
     if cell.head.is_free() {
@@ -50,7 +50,7 @@ fn print_row<F: Flash, W: Sink>(
 
     ensures { HasOutput F.facts W.contents W.faults (2 + cell.now.span / 3840)
         paged.old paged.new out.old out.new result (λ image.
-        shows (row cell.now.at (cell_of region cell.now image))) }
+        shows (cell_row cell.now.at (cell_bytes region cell.now image))) }
 {
     set_cell_row(paged, region, cell, buffer)?;
     put_row(out, buffer)
@@ -71,7 +71,7 @@ fn print_cell<F: Flash, W: Sink>(
         (2 + cell.now.span / 3840
         + (if verbose then 1 + cell.now.span / 8 + cell.now.span / 3840 else 0))
         paged.old paged.new out.old out.new result
-        (λ image. shows (shown_cell verbose cell.now.at (cell_of region cell.now image))) }
+        (λ image. shows (shown_cell verbose cell.now.at (cell_bytes region cell.now image))) }
 {
     cells_stand_in_their_image();
     print_row(paged, region, cell, buffer, out)?;

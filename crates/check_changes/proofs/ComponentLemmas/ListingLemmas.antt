@@ -15,7 +15,7 @@ use Rattle.flash_device.specs.Regions.{Range, LiesOn, bytes_in}
 use Rattle.flash_device.proofs.DeviceLemmas.{honest_still, length-bytes_in}
 use Rattle.cbfs_walk.specs.Cells.{IsCellIn, cell_in}
 use Rattle.cbfs_walk.specs.Hashes.{content_at}
-use Rattle.cbfs_walk.specs.Walks.{reads_over, Answer, Walking, walk_of, answer_at, StandsIn}
+use Rattle.cbfs_walk.specs.Walks.{reads_over, StepResult, Walking, walk_of, answer_at, StandsIn}
 use Rattle.cbfs_walk.specs.Shaped.{reading_of, ReadsCells, by_answer}
 use Rattle.cbfs_walk.specs.declared.cell.Cell.{Cell}
 use Rattle.cbfs_walk.specs.declared.walk.Step.TheVariants as steps
@@ -70,17 +70,17 @@ unfolding states states_from reading_of rest_read
 states_whole x = refl
 
 -- the same by the result of a walk
-states_by : List ℕ → Answer → List ComponentState
+states_by : List ℕ → StepResult → List ComponentState
 states_by x answer = by_answer (λ fault. []) rest_read rest_cell x answer
 
 states_step : (x : List ℕ) (at : ℕ) → at ≤ length x → at % 64 ≡ 0 → states_from x at ≡ states_by x (answer_at x at)
 unfolding states_from states_by
 states_step x at inside aligned = shaped_step (λ fault. []) rest_read rest_cell law x at inside aligned
 
-abbrev pub IsNoCell : Answer → Type 0
+abbrev pub IsNoCell : StepResult → Type 0
 IsNoCell a = (c : Cell) → a ≡ Ok (steps.Cell c) → ⊥
 
-states_end : (x : List ℕ) (a : Answer) → IsNoCell a → states_by x a ≡ []
+states_end : (x : List ℕ) (a : StepResult) → IsNoCell a → states_by x a ≡ []
 unfolding states_by rest_read components_from
 states_end x (Ok (steps.Cell c)) none = absurd (none c refl)
 states_end x (Ok step) none = refl
@@ -117,10 +117,10 @@ module _ {F : Type 0} (facts : F → Device) (r : Range) (w : Walking) (all : Ve
   x = bytes_in r (facts old.device).content
 
   -- the results of the walk on an honest device
-  abbrev pub Answers : Answer → Type 0
+  abbrev pub Answers : StepResult → Type 0
   Answers a = IsTrue (facts now.device).honest → w.ended ≡ None → IsErrOf a walk.Device ⊎ (a ≡ answer_at (bytes_in w.region (facts now.device).content) w.at)
 
-  answered : (a : Answer) → (IsErrOf a walk.Device → ⊥) → Answers a → IsTrue (facts old.device).honest → (a ≡ answer_at x w.at) × (states_in x all.items ++ states_by x a ≡ states x)
+  answered : (a : StepResult) → (IsErrOf a walk.Device → ⊥) → Answers a → IsTrue (facts old.device).honest → (a ≡ answer_at x w.at) × (states_in x all.items ++ states_by x a ≡ states x)
   answered a other answer h = go (answer (honest_still i.read.device.calls.same_honesty h) i.going)
     where
       go : IsErrOf a walk.Device ⊎ (a ≡ answer_at (bytes_in w.region (facts now.device).content) w.at) → (a ≡ answer_at x w.at) × (states_in x all.items ++ states_by x a ≡ states x)
@@ -128,7 +128,7 @@ module _ {F : Type 0} (facts : F → Device) (r : Range) (w : Walking) (all : Ve
       go (inr is) =
           let len : length x ≡ r.size = length-bytes_in r (facts old.device).content lies.inside in
           let here : a ≡ answer_at x w.at = is ∙ ap (λ (k : Range). answer_at (bytes_in k (facts now.device).content) w.at) i.region ∙ ap (λ (l : List ℕ). answer_at (bytes_in r l) w.at) (i.read.device.unchanged h) in
-          let step : states_by x a ≡ states_from x w.at = ap (λ (b : Answer). states_by x b) here ∙ sym (states_step x w.at (omega (arith, len, i.inside)) i.aligned) in
+          let step : states_by x a ≡ states_from x w.at = ap (λ (b : StepResult). states_by x b) here ∙ sym (states_step x w.at (omega (arith, len, i.inside)) i.aligned) in
           (here, ap (λ (l : List ComponentState). states_in x all.items ++ l) step ∙ i.so_far h)
 
   -- a cell is listed
@@ -164,7 +164,7 @@ module _ {F : Type 0} (facts : F → Device) (r : Range) (w : Walking) (all : Ve
       cell_of_region = rw i.region at given.0
 
   -- the walk ended
-  pub listing_lists : (a : Answer) → IsNoCell a → (IsErrOf a walk.Device → ⊥) → Answers a → Lists facts r old all
+  pub listing_lists : (a : StepResult) → IsNoCell a → (IsErrOf a walk.Device → ⊥) → Answers a → Lists facts r old all
   listing_lists a none other answer = record {
     cells = i.cells;
     room = omega (arith, i.room, i.inside);

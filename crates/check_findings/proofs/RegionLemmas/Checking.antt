@@ -10,7 +10,7 @@ use Rattle.flash_device.proofs.WindowLemmas.{HasRead-none, HasRead-then, HasRead
 use Rattle.flash_device.specs.Regions.{Range, LiesOn, bytes_in}
 use Rattle.flash_device.proofs.DeviceLemmas.{honest_still, length-bytes_in}
 use Rattle.cbfs_walk.specs.Cells.{IsCellIn, cell_in}
-use Rattle.cbfs_walk.specs.Walks.{reads_over, Answer, Walking, walk_of, answer_at, StandsIn}
+use Rattle.cbfs_walk.specs.Walks.{reads_over, StepResult, Walking, walk_of, answer_at, StandsIn}
 use Rattle.cbfs_walk.specs.Shapes.{shape_fault, refused_or}
 use Rattle.cbfs_walk.specs.Shaped.{reading_of, ReadsCells, by_answer, place_after}
 use Rattle.cbfs_walk.specs.declared.cell.Cell.{Cell}
@@ -69,7 +69,7 @@ whole_findings x = go (shape_fault x)
     go (Some fault) = refl
 
 -- the same by the result of the walk
-findings_by : List ℕ → Count → Answer → List RegionFinding
+findings_by : List ℕ → Count → StepResult → List RegionFinding
 findings_by x n answer = by_answer fault_findings (cut_findings x) cell_step x answer n
 
 by_step : (x : List ℕ) (n : Count) (at : ℕ) → at ≤ length x → at % 64 ≡ 0 → findings_from x n at ≡ findings_by x n (answer_at x at)
@@ -89,7 +89,7 @@ unfolding findings_by cut_findings cells_findings last
 by_damage x n at kind = ap (λ m. findings.Damaged at kind ∷ m) (count_none n at)
 
 -- a tail begins at the walk's offset
-tail_place : (x : List ℕ) (place at : ℕ) → (let a : Answer = Ok (steps.Tail at) in a) ≡ answer_at x place → at ≡ place
+tail_place : (x : List ℕ) (place at : ℕ) → (let a : StepResult = Ok (steps.Tail at) in a) ≡ answer_at x place → at ≡ place
 unfolding answer_at
 tail_place x place at is = grind (arith, common_steps, is)
 
@@ -119,7 +119,7 @@ checking_start facts r old lies = record {
 }
 
 -- a result without a device fault
-no_fault : (a b : Answer) → (IsErrOf a walk.Device → ⊥) → IsErrOf a walk.Device ⊎ (a ≡ b) → a ≡ b
+no_fault : (a b : StepResult) → (IsErrOf a walk.Device → ⊥) → IsErrOf a walk.Device ⊎ (a ≡ b) → a ≡ b
 no_fault a b other (inl e) = absurd (other e)
 no_fault a b other (inr e) = e
 
@@ -128,15 +128,15 @@ module _ {F : Type 0} (facts : F → Device) (r : Range) (w : Walking) (found : 
   x = bytes_in r (facts old.device).content
 
   -- the results of the walk on an honest device
-  abbrev pub Answers : Answer → Type 0
+  abbrev pub Answers : StepResult → Type 0
   Answers a = IsTrue (facts now.device).honest → w.ended ≡ None → IsErrOf a walk.Device ⊎ (a ≡ answer_at (bytes_in w.region (facts now.device).content) w.at)
 
-  answered : (a : Answer) → Answers a → (IsErrOf a walk.Device → ⊥) → IsTrue (facts old.device).honest → (a ≡ answer_at x w.at) × (walk_findings x ≡ found ++ findings_by x count a)
+  answered : (a : StepResult) → Answers a → (IsErrOf a walk.Device → ⊥) → IsTrue (facts old.device).honest → (a ≡ answer_at x w.at) × (walk_findings x ≡ found ++ findings_by x count a)
   answered a answer other h =
       let is = no_fault a _ other (answer (honest_still i.read.device.calls.same_honesty h) i.going) in
       let len : length x ≡ r.size = length-bytes_in r (facts old.device).content lies.inside in
       let here : a ≡ answer_at x w.at = is ∙ ap (λ (k : Range). answer_at (bytes_in k (facts now.device).content) w.at) i.region ∙ ap (λ (l : List ℕ). answer_at (bytes_in r l) w.at) (i.read.device.unchanged h) in
-      let step = by_step x count w.at (omega (arith, len, i.inside)) i.aligned ∙ ap (λ (b : Answer). findings_by x count b) (sym here) in
+      let step = by_step x count w.at (omega (arith, len, i.inside)) i.aligned ∙ ap (λ (b : StepResult). findings_by x count b) (sym here) in
       (here, i.so_far h ∙ ap (λ (l : List RegionFinding). found ++ l) step)
 
   -- another cell
@@ -171,7 +171,7 @@ module _ {F : Type 0} (facts : F → Device) (r : Range) (w : Walking) (found : 
   -- ---- the walk ended
 
   -- the last findings follow
-  stopped : (a : Answer) (more all : List RegionFinding) → Answers a → (IsErrOf a walk.Device → ⊥) → all ≡ found ++ more → findings_by x count a ≡ more → IsTrue (facts old.device).honest → all ≡ walk_findings x
+  stopped : (a : StepResult) (more all : List RegionFinding) → Answers a → (IsErrOf a walk.Device → ⊥) → all ≡ found ++ more → findings_by x count a ≡ more → IsTrue (facts old.device).honest → all ≡ walk_findings x
   stopped a more all answer other is_all is h =
       is_all ∙ sym ((answered a answer other h).1 ∙ ap (λ (l : List RegionFinding). found ++ l) is)
 

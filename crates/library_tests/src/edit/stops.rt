@@ -4,7 +4,7 @@ use crate::edit::actions::{Action, before, does, has_finished};
 use crate::edit::support::{Held, LEN, Stop, device_of, image_of, region_of, source_of, stopping};
 use crate::support::{ALL, device_from, equal};
 use cbfs_edit::{EditFault, HashChoice, Spot, add};
-use flash_store::{Ahead, Erased, FlakyFile, Flash, MemFlash, Paged, StoredFlash};
+use flash_store::{EraseFilter, FlakyFile, Flash, MemFlash, Paged, ReadAhead, StoredFlash};
 use std::process::Abort;
 
 // ---- devices
@@ -106,10 +106,10 @@ fn flaky(rt: &(impl Abort + AllocGlobal), held: Held, calls: Calls, made: u64) -
 }
 
 /// The layers of a device in a system file.
-type InFile = Paged<StoredFlash<Ahead<Erased<FlakyFile>>>>;
+type InFile = Paged<StoredFlash<ReadAhead<EraseFilter<FlakyFile>>>>;
 
 fn in_file(file: FlakyFile) -> InFile {
-    Paged::new(StoredFlash::new(Ahead::new(Erased::new(file))))
+    Paged::new(StoredFlash::new(ReadAhead::new(EraseFilter::new(file))))
 }
 
 fn left_in(rt: &(impl Abort + AllocGlobal), paged: InFile) -> MemFlash {

@@ -2,7 +2,7 @@
 use crate::support::{device_with, equal, filled, same_bytes, write_over};
 use flash_format::HEADER_LENGTH;
 use flash_store::{
-    Erased, FlakyFile, Flash, MemFlash, MemSource, Paged, Source, StoreFault, StoredFlash,
+    EraseFilter, FlakyFile, Flash, MemFlash, MemSource, Paged, Source, StoreFault, StoredFlash,
     StoredSource, region,
 };
 use std::process::Abort;
@@ -119,7 +119,7 @@ fn a_source_in_a_file_that_gives_nothing_is_refused(rt: HostRuntime) {
 
 #[test]
 fn a_file_is_erased(rt: HostRuntime) {
-    let erased = Erased::erase(flaky(&rt, 7, 1000)).expect(&rt, "an erased file");
+    let erased = EraseFilter::erase(flaky(&rt, 7, 1000)).expect(&rt, "an erased file");
     let mut device = StoredFlash::new(erased);
     write_parts(&rt, &mut device);
     let mut wanted = [0xff; 100];
@@ -128,13 +128,18 @@ fn a_file_is_erased(rt: HostRuntime) {
     same_bytes(&rt, device.into_inner().into_inner().bytes(), &wanted);
 }
 
-fn write_part(rt: &impl Abort, device: &mut StoredFlash<Erased<FlakyFile>>, at: u64, bytes: &[u8]) {
+fn write_part(
+    rt: &impl Abort,
+    device: &mut StoredFlash<EraseFilter<FlakyFile>>,
+    at: u64,
+    bytes: &[u8],
+) {
     assert!(rt; device.len() == 100 && at <= 50 && bytes.len() <= 50);
     equal(rt, &device.write_at(at, bytes).is_ok(), &true);
 }
 
 /// Writes over 0xff, and 0xff over the first written byte.
-fn write_parts(rt: &impl Abort, device: &mut StoredFlash<Erased<FlakyFile>>) {
+fn write_parts(rt: &impl Abort, device: &mut StoredFlash<EraseFilter<FlakyFile>>) {
     write_part(rt, device, 10, &[0xff; 50]);
     write_part(rt, device, 30, b"new");
     write_part(rt, device, 20, &[0xff; 11]);
@@ -142,7 +147,7 @@ fn write_parts(rt: &impl Abort, device: &mut StoredFlash<Erased<FlakyFile>>) {
 
 #[test]
 fn a_file_that_refuses_is_not_erased(rt: HostRuntime) {
-    assert!(rt; Erased::erase(flaky(&rt, 7, 10)).is_err());
+    assert!(rt; EraseFilter::erase(flaky(&rt, 7, 10)).is_err());
 }
 
 // ---- headers across two blocks

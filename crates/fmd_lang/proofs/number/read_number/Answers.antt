@@ -1,6 +1,6 @@
 use Rattle.std.proofs.Common.{◌≡◌, ℕ, ◌∙◌, ◌*◌, ◌^◌, sym, ap, Option, Result, option_map, unwrap_or, Some, None, min}
 use Rattle.fmd_lang.specs.Numbers as spec
-use Rattle.fmd_lang.specs.Numbers.{number_at, number_value}
+use Rattle.fmd_lang.specs.Numbers.{number_at, literal_value}
 use Rattle.fmd_lang.specs.declared.fault.FmdFault.{FmdFault}
 use Rattle.fmd_lang.proofs.number.read_number.Goals as goal
 
@@ -13,7 +13,7 @@ number_at-scaled at None value unit answer h scaled = cc
 number_at-scaled at (Some n) value unit answer h scaled = scaled n (ap (λ o. unwrap_or o 0) h)
 
 pub returns-in-Some : goal.returns-in-Some
-unfolding number_value
+unfolding literal_value
 returns-in-Some c =
     let bytes = c.args.bytes.now in
     let unit = spec.unit_value (spec.last_byte bytes) in

@@ -1,6 +1,6 @@
 use Rattle.std.proofs.Common.{◌≡◌, ◌<◌, suc, length, ◌∷◌, [], sym, refl, rules, arith, inr, add-one, ◌++◌}
 use Rattle.fmd_lang.specs.Faults.{past}
-use Rattle.fmd_lang.specs.Lexing.{word_of, end_of}
+use Rattle.fmd_lang.specs.Lexing.{word_of, piece_end}
 use Rattle.fmd_lang.specs.Parsing.{IsBody}
 use Rattle.fmd_lang.specs.Grammar.{AreSections, Until}
 use Rattle.fmd_lang.specs.Tree.{Tree, view, views}
@@ -43,7 +43,7 @@ sections-loop-parts-preserved t c =
     let next = rw add-one at c.in_ok-token.ensures.next in
     let w = word_of token.word in
     let word =
-    token-takes {to = end_of token.word} (λ x. x ≡ w) (past 4) (past 0, suc c.args.depth) Name next refl c.in-Name.is (λ e. cc) refl refl in
+    token-takes {to = piece_end token.word} (λ x. x ≡ w) (past 4) (past 0, suc c.args.depth) Name next refl c.in-Name.is (λ e. cc) refl refl in
     let part = rw add-one at c.in_ok-part-in-Name.ensures.1 in
     let one = reads-as (section-opens w (view c.in_ok-part-in-Name.part)) (reads-then word.reads part) in
     let parts : c.push.new.self.items ≡ c.loop-parts.parts.items ++ c.in_ok-part-in-Name.part ∷ [] = search rules in (

@@ -2,7 +2,7 @@ use Rattle.std.proofs.Common.{◌≡◌, ◌∙◌, ◌&&◌, not, Bool, false, 
 use Rattle.flash_format.specs.Head.{head_of, is_free}
 use Rattle.flash_format.specs.declared.head.Head.{Head}
 use Rattle.cbfs_commands.specs.Rows.{details}
-use Rattle.cbfs_commands.specs.Printouts.{Printout, cell_of, shows}
+use Rattle.cbfs_commands.specs.Printouts.{Printout, cell_bytes, shows}
 use Rattle.cbfs_commands.proofs.Telling.{so_far-ends, so_far-of, still_cell, printout-stopped, printout-within}
 use Rattle.cbfs_commands.proofs.print.listing.print_cell.Goals as goal
 
@@ -14,7 +14,7 @@ print_details-requires g c = record { cell = still_cell c.print_row.ensures.read
 
 pub returns-in_err-print_row : goal.returns-in_err-print_row
 returns-in_err-print_row g c =
-    printout-within _ (omega arith) (printout-stopped (λ image. lines c.args.verbose (cell_of c.args.region c.args.cell.now image)) c.in_err-print_row.ensures c.from_residual.ensures.1)
+    printout-within _ (omega arith) (printout-stopped (λ image. lines c.args.verbose (cell_bytes c.args.region c.args.cell.now image)) c.in_err-print_row.ensures c.from_residual.ensures.1)
 
 pub returns-then-not-is_free : goal.returns-then-not-is_free
 returns-then-not-is_free g c =
@@ -22,8 +22,8 @@ returns-then-not-is_free g c =
     let cell = c.args.cell.now in
     let mid = (g.F.Flash.facts c.print_row.new.paged.device).content in
     let here = still_cell c.print_row.ensures.read c.requires in
-    let rest = so_far-of (λ image. lines c.args.verbose (cell_of r cell image)) c.in_ok-print_row.ensures in
+    let rest = so_far-of (λ image. lines c.args.verbose (cell_bytes r cell image)) c.in_ok-print_row.ensures in
     so_far-ends rest _ c.print_details.ensures (λ h.
     let known = c.cells_stand_in_their_image.ensures r mid cell here.region.inside here.cell (here.stands h) in
-    let used : is_free (head_of (cell_of r cell mid)) ≡ false = ap (λ (head : Head). is_free head) known.head ∙ sym c.if-not-is_free.ensures in
+    let used : is_free (head_of (cell_bytes r cell mid)) ≡ false = ap (λ (head : Head). is_free head) known.head ∙ sym c.if-not-is_free.ensures in
     rw (c.if-verbose.true, used) refl) (rw c.if-verbose.true (omega (arith, c.requires.cell.content)))

@@ -1,0 +1,14 @@
+use Rattle.std.proofs.Common.{refl}
+use Rattle.cbfs_walk.proofs.Parts.{part-in}
+use Rattle.cbfs_walk.proofs.Reading.{Passes-seen}
+use Rattle.cbfs_walk.proofs.region_reads.piece_in.Goals as goal
+
+pub returns : goal.returns
+returns g c = (
+  (refl, λ p. tt, Passes-seen c.requires.region c.requires.inside c.requires.short (rw c.start.ensures at c.piece.follows.holds-at-none)),
+  record {
+    passes = tt;
+    size = c.piece.ensures.size;
+    read = λ h. rw (c.start.ensures, part-in (g.F.Flash.facts c.args.paged.now.device).content c.args.region c.args.at c.args.n c.requires.inside) at (c.piece.ensures.read h);
+  },
+)
