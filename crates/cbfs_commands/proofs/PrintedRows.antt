@@ -1,96 +1,66 @@
 -- Printed rows determine their cells.
-use Rattle.std.proofs.Common.{◌≡◌, ◌≢◌, inl, inr, ℕ, zero, suc, ◌+◌, ◌^◌, ◌<◌, ◌≤◌, length, Bool, true, false, if◌then◌else◌, List, [], ◌∷◌, ◌++◌, Option, Some, None, unwrap_or, refl, sym, ap, ◌∙◌, arith}
+use Rattle.std.proofs.Common.{◌≡◌, ◌≢◌, ℕ, ◌+◌, ◌^◌, ◌<◌, length, Bool, true, false, if◌then◌else◌, List, [], ◌∷◌, ◌++◌, Option, Some, None, unwrap_or, refl, sym, ap, ◌∙◌, arith}
 use Rattle.std.specs.List.{flat_map}
 use Rattle.std.specs.Option.{option_map_or}
 use Rattle.std.specs.Fmt.{decimal}
-use Rattle.std.specs.Str.{bytes_eq}
-use Rattle.std.proofs.lemmas.Bool.{cases_lt}
 use Rattle.std.proofs.lemmas.Bool.Decides.{nat_tests}
 use Rattle.std.proofs.lemmas.List.{append-nil, append_assoc}
 use lib.Chars.{codes}
 use Rattle.flash_format.specs.Head.{head_of, is_free}
 use Rattle.flash_format.specs.Components.{cell_attributes, cell_name, packing}
 use Rattle.flash_format.specs.Flashmap.{text_of}
-use Rattle.flash_format.specs.Printed.{hexadecimal, is_field, printed_name}
-use Rattle.flash_format.specs.TypeNames.{name_of_type, type_of_text}
+use Rattle.flash_format.specs.Printed.{hexadecimal, is_field, printed_compression, printed_name, printed_type}
+use Rattle.flash_format.specs.TypeNames.{compression_table, name_of_compression, name_of_type, number_for, type_of_text}
 use Rattle.flash_format.specs.declared.flashmap.Area.{Area}
 use Rattle.flash_format.specs.declared.flashmap.FmapHead.{FmapHead}
 use Rattle.flash_format.specs.declared.head.Head.{Head}
 use Rattle.flash_format.proofs.PrintedLaws.{decimal_field, hexadecimal_field, name_field, same_decimals, same_hexadecimals, same_names, split}
-use Rattle.flash_format.proofs.TypeLaws.{is_word, read_back, type_is_word, word_is_field}
+use Rattle.flash_format.proofs.TypeLaws.{compression_back, compression_is_word, is_word, read_back, type_is_word, word_is_field}
 use Rattle.cbfs_commands.specs.Laws.{AreSameAreas, AreSameCells, HasAreaNumbers, HasMapNumbers, HasNumbers, HaveAreaNumbers, HaveNumbers, IsSameArea, IsSameCell, IsSameMap}
-use Rattle.cbfs_commands.specs.Rows.{area_line, map_line, printed_packing, printed_type, cell_row, row_text, rows_from}
+use Rattle.cbfs_commands.specs.Rows.{area_line, map_line, cell_row, row_text, rows_from}
 
--- ---- types
+-- ---- names or numbers
 
 word_is_no_number : (s : List ℕ) (n : ℕ) → is_word s ≡ true → s ≢ hexadecimal n
 unfolding hexadecimal
 word_is_no_number [] n word e = absurd cc
 word_is_no_number (b ∷ s) n word e = let first : b ≡ 48 = cc in absurd (grind (arith, nat_tests))
 
+-- the names are words, and decode
+module _ (name_of : ℕ → Option (List ℕ)) (word : (n : ℕ) (name : List ℕ) → name_of n ≡ Some name → is_word name ≡ true) where
+  same_texts : (number_of : List ℕ → Option ℕ) → ((n : ℕ) (name : List ℕ) → name_of n ≡ Some name → number_of name ≡ Some n)
+      → (a b : ℕ) → a < 2 ^ 64 → b < 2 ^ 64 → unwrap_or (name_of a) (hexadecimal a) ≡ unwrap_or (name_of b) (hexadecimal b) → a ≡ b
+  same_texts number_of back a b small_a small_b e = go (name_of a) (name_of b) refl refl e
+    where
+      go : (p q : Option (List ℕ)) → name_of a ≡ p → name_of b ≡ q → unwrap_or p (hexadecimal a) ≡ unwrap_or q (hexadecimal b) → a ≡ b
+      go (Some s) (Some t) is_a is_b e =
+          let x : number_of s ≡ Some a = back a s is_a in
+          let y : number_of t ≡ Some b = back b t is_b in
+          let same : s ≡ t = e in
+          let whole : Some a ≡ Some b = sym x ∙ ap number_of same ∙ y in
+          cc
+      go (Some s) None is_a is_b e = absurd (word_is_no_number s b (word a s is_a) e)
+      go None (Some t) is_a is_b e = absurd (word_is_no_number t a (word b t is_b) (sym e))
+      go None None is_a is_b e = same_hexadecimals a b small_a small_b e
+
+  text_field : (n : ℕ) → n < 2 ^ 64 → is_field (unwrap_or (name_of n) (hexadecimal n)) ≡ true
+  text_field n small = go (name_of n) refl
+    where
+      go : (p : Option (List ℕ)) → name_of n ≡ p → is_field (unwrap_or p (hexadecimal n)) ≡ true
+      go (Some s) is = word_is_field s (word n s is)
+      go None is = hexadecimal_field n small
+
 pub same_types : (a b : ℕ) → a < 2 ^ 64 → b < 2 ^ 64 → printed_type a ≡ printed_type b → a ≡ b
-unfolding printed_type
-same_types a b small_a small_b e = go (name_of_type a) (name_of_type b) refl refl e
-  where
-    go : (p q : Option (List ℕ)) → name_of_type a ≡ p → name_of_type b ≡ q → unwrap_or p (hexadecimal a) ≡ unwrap_or q (hexadecimal b) → a ≡ b
-    go (Some s) (Some t) is_a is_b e =
-        let x : type_of_text s ≡ Some a = read_back a s is_a in
-        let y : type_of_text t ≡ Some b = read_back b t is_b in
-        let same : s ≡ t = e in
-        let whole : Some a ≡ Some b = sym x ∙ ap type_of_text same ∙ y in
-        cc
-    go (Some s) None is_a is_b e = absurd (word_is_no_number s b (type_is_word a s is_a) e)
-    go None (Some t) is_a is_b e = absurd (word_is_no_number t a (type_is_word b t is_b) (sym e))
-    go None None is_a is_b e = same_hexadecimals a b small_a small_b e
+same_types a b = same_texts name_of_type type_is_word type_of_text read_back a b
 
 type_field : (kind : ℕ) → kind < 2 ^ 64 → is_field (printed_type kind) ≡ true
-unfolding printed_type
-type_field kind small = go (name_of_type kind) refl
-  where
-    go : (p : Option (List ℕ)) → name_of_type kind ≡ p → is_field (unwrap_or p (hexadecimal kind)) ≡ true
-    go (Some s) is = word_is_field s (type_is_word kind s is)
-    go None is = hexadecimal_field kind small
+type_field kind = text_field name_of_type type_is_word kind
 
--- ---- compression
+pub same_compressions : (a b : ℕ) → a < 2 ^ 64 → b < 2 ^ 64 → printed_compression a ≡ printed_compression b → a ≡ b
+same_compressions a b = same_texts name_of_compression compression_is_word (number_for compression_table) compression_back a b
 
-abbrev named : List ℕ → ℕ
-named text = if bytes_eq text (codes "none") then 0 else (if bytes_eq text (codes "LZMA") then 1 else 2)
-
-small_named : (n : ℕ) → n < 3 → named (printed_packing n) ≡ n
-unfolding printed_packing
-small_named zero small = refl
-small_named (suc zero) small = refl
-small_named (suc (suc zero)) small = refl
-small_named (suc (suc (suc n))) small = absurd (omega arith)
-
-small_word : (n : ℕ) → n < 3 → is_word (printed_packing n) ≡ true
-unfolding printed_packing
-small_word zero small = refl
-small_word (suc zero) small = refl
-small_word (suc (suc zero)) small = refl
-small_word (suc (suc (suc n))) small = absurd (omega arith)
-
-large_number : (n : ℕ) → 3 ≤ n → printed_packing n ≡ hexadecimal n
-unfolding printed_packing
-large_number n large = grind (arith, nat_tests)
-
-pub same_packings : (m n : ℕ) → m < 2 ^ 64 → n < 2 ^ 64 → printed_packing m ≡ printed_packing n → m ≡ n
-same_packings m n small_m small_n e = elim (cases_lt m 3) [
-  | inl few ↦ elim (cases_lt n 3) [
-    | inl other ↦ sym (small_named m few) ∙ ap named e ∙ small_named n other
-    | inr many ↦ absurd (word_is_no_number (printed_packing m) n (small_word m few) (e ∙ large_number n many))
-  ]
-  | inr many ↦ elim (cases_lt n 3) [
-    | inl few ↦ absurd (word_is_no_number (printed_packing n) m (small_word n few) (sym e ∙ large_number m many))
-    | inr other ↦ same_hexadecimals m n small_m small_n (sym (large_number m many) ∙ e ∙ large_number n other)
-  ]
-]
-
-packing_field : (n : ℕ) → n < 2 ^ 64 → is_field (printed_packing n) ≡ true
-packing_field n small = elim (cases_lt n 3) [
-  | inl few ↦ word_is_field (printed_packing n) (small_word n few)
-  | inr many ↦ rw (large_number n many) (hexadecimal_field n small)
-]
+compression_field : (n : ℕ) → n < 2 ^ 64 → is_field (printed_compression n) ≡ true
+compression_field n = text_field name_of_compression compression_is_word n
 
 -- ---- fields of a line
 
@@ -129,7 +99,7 @@ shown_field None = refl
 shown_field (Some name) = name_field name
 
 row_shape : (at : ℕ) (h : Head) (name : Option (List ℕ)) (n : ℕ) (more : List ℕ)
-    → row_text at h name n ++ more ≡ line5 (shown_name name) (hexadecimal at) (printed_type h.kind) (decimal h.len) (printed_packing n) more
+    → row_text at h name n ++ more ≡ line5 (shown_name name) (hexadecimal at) (printed_type h.kind) (decimal h.len) (printed_compression n) more
 unfolding row_text
 row_shape at h name n more = simp append_assoc
 
@@ -145,17 +115,17 @@ same_text : (at other : ℕ) (h k : Head) (name title : Option (List ℕ)) (n m 
     → h.kind < 2 ^ 64 → k.kind < 2 ^ 64 → h.len < 2 ^ 64 → k.len < 2 ^ 64 → n < 2 ^ 64 → m < 2 ^ 64
     → row_text at h name n ++ more ≡ row_text other k title m ++ rest → IsSameText at other h k name title n m × (more ≡ rest)
 same_text at other h k name title n m more rest sat sother skind skind2 slen slen2 sn sm e =
-    let parts = split5 (shown_name name) (hexadecimal at) (printed_type h.kind) (decimal h.len) (printed_packing n) more
-    (shown_name title) (hexadecimal other) (printed_type k.kind) (decimal k.len) (printed_packing m) rest
-    (shown_field name) (hexadecimal_field at sat) (type_field h.kind skind) (decimal_field h.len slen) (packing_field n sn)
-    (shown_field title) (hexadecimal_field other sother) (type_field k.kind skind2) (decimal_field k.len slen2) (packing_field m sm)
+    let parts = split5 (shown_name name) (hexadecimal at) (printed_type h.kind) (decimal h.len) (printed_compression n) more
+    (shown_name title) (hexadecimal other) (printed_type k.kind) (decimal k.len) (printed_compression m) rest
+    (shown_field name) (hexadecimal_field at sat) (type_field h.kind skind) (decimal_field h.len slen) (compression_field n sn)
+    (shown_field title) (hexadecimal_field other sother) (type_field k.kind skind2) (decimal_field k.len slen2) (compression_field m sm)
     (sym (row_shape at h name n more) ∙ e ∙ row_shape other k title m rest) in (
       record {
         names = parts.0;
         place = same_hexadecimals at other sat sother parts.1;
         kind = same_types h.kind k.kind skind skind2 parts.2;
         len = same_decimals h.len k.len slen slen2 parts.3;
-        packing = same_packings n m sn sm parts.4;
+        packing = same_compressions n m sn sm parts.4;
       },
       parts.5,
     )
@@ -194,7 +164,7 @@ some_row at x more = go (is_free (head_of x))
     begun (b ∷ a) s e = absurd cc
 
     text : (h : Head) (name : Option (List ℕ)) (n : ℕ) → [] ≢ row_text at h name n ++ more
-    text h name n e = begun (shown_name name) (line4 (hexadecimal at) (printed_type h.kind) (decimal h.len) (printed_packing n) more) (e ∙ row_shape at h name n more)
+    text h name n e = begun (shown_name name) (line4 (hexadecimal at) (printed_type h.kind) (decimal h.len) (printed_compression n) more) (e ∙ row_shape at h name n more)
 
     go : (p : Bool) → [] ≢ row_if p at x ++ more
     go true = text (head_of x) None 0

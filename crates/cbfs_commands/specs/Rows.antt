@@ -1,18 +1,18 @@
 -- The output of `print` and `layout`, in this project's own formats.
-use Rattle.std.specs.Prelude.{ℕ, List, ◌++◌, ◌==◌, drop, if◌then◌else◌, Option, Some, None}
-use Rattle.std.specs.Prelude.{unwrap_or, ◌+◌, Bool, not, ◌&&◌, [], ◌∷◌, length, map}
+use Rattle.std.specs.Prelude.{ℕ, List, ◌++◌, drop, if◌then◌else◌, Option, Some, None}
+use Rattle.std.specs.Prelude.{◌+◌, Bool, not, ◌&&◌, [], ◌∷◌, length, map}
 use Rattle.std.specs.List.{flat_map}
 use Rattle.std.specs.Option.{option_map_or}
 use Rattle.std.specs.Fmt.{decimal}
 use lib.Chars.{codes}
 use Rattle.flash_format.specs.Head.{head_of, is_free}
 use Rattle.flash_format.specs.Components.{cell_name, cell_attributes, packing, cell_content}
-use Rattle.flash_format.specs.TypeNames.{name_of_type}
 use Rattle.flash_format.specs.Flashmap.{fmap_head_of, text_of, map_of, areas_at}
 use Rattle.flash_format.specs.declared.flashmap.FmapHead.{FmapHead}
 use Rattle.flash_format.specs.declared.flashmap.Area.{Area}
 use Rattle.flash_format.specs.declared.head.Head.{Head}
-use Rattle.flash_format.specs.Printed.{hexadecimal, printed_name, tab, line_feed}
+use Rattle.flash_format.specs.Printed.{hexadecimal, line_feed, printed_compression, printed_name}
+use Rattle.flash_format.specs.Printed.{printed_type, tab}
 use Rattle.cbfs_commands.specs.Printouts.{Printout, shows, refuses}
 use Rattle.cbfs_commands.specs.declared.refusal.Refusal.TheVariants as refusals
 use Rattle.byteorder.specs.Endian.{big_bytes}
@@ -26,19 +26,10 @@ use Rattle.cbfs_walk.specs.declared.hashes.HashState.{HashState}
 use Rattle.cbfs_walk.specs.declared.hashes.HashState.TheVariants.{Absent, Valid, Invalid}
 use Rattle.cbfs_walk.specs.declared.hashes.HashState.TheVariants.{Unsupported}
 
--- by name, or else by number
-unfoldable pub printed_type : ℕ → List ℕ
-printed_type kind = unwrap_or (name_of_type kind) (hexadecimal kind)
-
--- by name, or else by number
-unfoldable pub printed_packing : ℕ → List ℕ
-printed_packing n = if n == 0 then codes "none"
-    else (if n == 1 then codes "LZMA" else (if n == 2 then codes "LZ4" else hexadecimal n))
-
 -- A cell's name, offset, type, content length and compression.
 unfoldable pub row_text : ℕ → Head → Option (List ℕ) → ℕ → List ℕ
 row_text at h name n = option_map_or printed_name name (codes "(empty)") ++ tab ++ hexadecimal at
-    ++ tab ++ printed_type h.kind ++ tab ++ decimal h.len ++ tab ++ printed_packing n ++ line_feed
+    ++ tab ++ printed_type h.kind ++ tab ++ decimal h.len ++ tab ++ printed_compression n ++ line_feed
 
 -- free space has no name and no compression
 abbrev pub cell_row : ℕ → List ℕ → List ℕ

@@ -1,18 +1,18 @@
 //! The printed row of a cell.
 
-ghost use Rattle.std.specs.Prelude.{◌≡◌, ◌+◌, ◌<◌, ◌≤◌, length, Err, OnErr};
+ghost use Rattle.std.specs.Prelude.{◌≡◌, ◌+◌, ◌<◌, ◌≤◌, length, unwrap_or, Err, OnErr};
 ghost use Rattle.std.specs.Fmt.{decimal};
 ghost use Rattle.std.specs.Option.{ForSome, option_copied, option_map_or};
 ghost use lib.Chars.{codes};
 ghost use Rattle.arrayvec.specs.ArrayVec.{array_vec_len};
-ghost use Rattle.flash_format.specs.Printed.{Pushes, printed_name};
-ghost use Rattle.cbfs_commands.specs.Rows.{printed_type, printed_packing, row_text};
+ghost use Rattle.flash_format.specs.Printed.{Pushes, hexadecimal, printed_name};
+ghost use Rattle.cbfs_commands.specs.Rows.{row_text};
 ghost use Rattle.cbfs_commands.specs.Printouts.{PrintsOut, shows};
 
 use crate::refusal::Refusal;
 use arrayvec::ArrayVec;
 use flash_device::{Sink, put_all};
-use flash_format::{Head, push_hexadecimal, push_name, push_text, type_name};
+use flash_format::{Head, compression_name, push_hexadecimal, push_name, push_text, type_name};
 use itoa::Buffer;
 
 /// The maximum length of a row: a name of 255 escaped bytes, and the other fields.
@@ -29,27 +29,16 @@ pub fn push_decimal(row: &mut Row, n: u32)
     push_text(row, buffer.format(n).as_bytes());
 }
 
-#[tactic(auto, unfolding(crate::specs::Rows::printed_type))]
-fn push_type(row: &mut Row, kind: u32)
-    requires { array_vec_len row.old + 18 ≤ ROW_LEN }
-    ensures { Pushes row.old (printed_type kind) 18 row.new }
+/// Appends a name of at most 12 letters, or else a number.
+fn push_name_or(row: &mut Row, name: Option<&str>, number: u32)
+    requires room { array_vec_len row.old + 18 ≤ ROW_LEN }
+    requires short { ForSome name (λ n. length n.now ≤ 12) }
+    ensures { Pushes row.old
+        (unwrap_or (option_copied name.entry) (hexadecimal number)) 18 row.new }
 {
-    match type_name(kind) {
+    match name {
         Some(name) => push_text(row, name.as_bytes()),
-        None => push_hexadecimal(row, u64::from(kind)),
-    }
-}
-
-#[tactic(auto, unfolding(crate::specs::Rows::printed_packing))]
-fn push_packing(row: &mut Row, packing: u32)
-    requires { array_vec_len row.old + 18 ≤ ROW_LEN }
-    ensures { Pushes row.old (printed_packing packing) 18 row.new }
-{
-    match packing {
-        0 => push_text(row, b"none"),
-        1 => push_text(row, b"LZMA"),
-        2 => push_text(row, b"LZ4"),
-        _ => push_hexadecimal(row, u64::from(packing)),
+        None => push_hexadecimal(row, u64::from(number)),
     }
 }
 
@@ -77,11 +66,11 @@ pub fn set_row_text(row: &mut Row, at: u64, head: &Head, name: Option<&[u8]>, pa
     push_text(row, b"\t");
     push_hexadecimal(row, at);
     push_text(row, b"\t");
-    push_type(row, head.kind);
+    push_name_or(row, type_name(head.kind), head.kind);
     push_text(row, b"\t");
     push_decimal(row, head.len);
     push_text(row, b"\t");
-    push_packing(row, packing);
+    push_name_or(row, compression_name(packing), packing);
     push_text(row, b"\n");
 }
 

@@ -12,10 +12,10 @@ unfoldable pub hexadecimal : ℕ → List ℕ
 hexadecimal n = codes "0x" ++ digits 16 false n
 
 -- by name, or else by number
-unfoldable pub printed_type : ℕ → List ℕ
+abbrev pub printed_type : ℕ → List ℕ
 printed_type kind = unwrap_or (name_of_type kind) (hexadecimal kind)
 
-unfoldable pub printed_compression : ℕ → List ℕ
+abbrev pub printed_compression : ℕ → List ℕ
 printed_compression n = unwrap_or (name_of_compression n) (hexadecimal n)
 
 -- the byte, or `\x` and two digits for the backslash and non-printing bytes

@@ -24,7 +24,7 @@ fn set_cell_row<F: Flash>(
     requires { IsCellOf F.facts region cell.now paged.old.device }
 
     ensures after { HasAnswered F.facts (2 + cell.now.span / 3840) paged.old paged.new result }
-    ensures cell_row { OnHonest F.facts paged.old.device (λ image.
+    ensures row { OnHonest F.facts paged.old.device (λ image.
         OnOk result (buffer.new.items ≡ cell_row cell.now.at (cell_bytes region cell.now image))) }
 {
     cells_stand_in_their_image();
