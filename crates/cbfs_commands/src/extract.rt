@@ -8,7 +8,8 @@ ghost use Rattle.cbfs_commands.specs.Printouts.{HasOutput, IsComponentOf, cell_b
 use crate::read::copy_out;
 use crate::refusal::Refusal;
 use cbfs_walk::{Cell, cells_stand_in_their_image, find, packing};
-use flash_device::{Flash, Paged, Region, Sink};
+use flash_device::{Flash, Paged, Sink};
+use flash_map::Region;
 
 fn extract_component<F: Flash, W: Sink>(
     paged: &mut Paged<F>,

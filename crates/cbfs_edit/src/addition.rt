@@ -22,8 +22,9 @@ use crate::hashing::Hashing;
 use crate::insertion::describe;
 use crate::place::{Place, Spot, Wanted, find_place};
 use crate::region_writes::{copy_into, write_empty_entry};
-use flash_device::{CopyInFault, Flash, Paged, Region, Source, Unwatched};
+use flash_device::{CopyInFault, Flash, Paged, Source, Unwatched};
 use flash_format::{Algorithm, Digest, Meta, meta_len};
+use flash_map::Region;
 use sha2::{Sha256, Sha512};
 
 /// The digest to store.

@@ -10,7 +10,8 @@ use crate::fault::EditFault;
 use crate::group::Freed;
 use crate::place::Spot;
 use crate::removal::remove;
-use flash_device::{Flash, Paged, Region, Source};
+use flash_device::{Flash, Paged, Source};
+use flash_map::Region;
 
 /// An edit of a region.
 #[derive(Drop)]

@@ -12,7 +12,8 @@ ghost use Rattle.cbfs_edit.specs.Removals.{last_four};
 use crate::fault::EditFault;
 use crate::group::CellRange;
 use crate::region_writes::write_empty_entry;
-use flash_device::{Flash, Paged, Region};
+use flash_device::{Flash, Paged};
+use flash_map::Region;
 
 /// Formats the region as a single empty entry, without reading, and keeps its last four bytes. A
 /// device fault leaves the region unchanged, or a single free cell.

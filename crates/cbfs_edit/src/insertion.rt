@@ -11,8 +11,9 @@ ghost use Rattle.cbfs_edit.specs.Additions.{with_metadata, held_back, shown_by};
 
 use crate::place::Place;
 use crate::region_writes::{commit_in, write_in};
-use flash_device::{Flash, FlashFault, Paged, Region};
+use flash_device::{Flash, FlashFault, Paged};
 use flash_format::{HEADER_LENGTH, LONGEST_METADATA, Meta, empty_header, write_meta};
+use flash_map::Region;
 
 /// Returns the number of metadata bytes in the last commit.
 fn held_back(place: Place) -> usize

@@ -8,10 +8,9 @@ ghost use Rattle.cbfs_edit.specs.Changes.{HasCopied, HasWrittenIn, IsOldOrEmptie
 ghost use Rattle.cbfs_edit.specs.Removals.{IsCellRange, removed, space_end};
 
 use crate::group::CellRange;
-use flash_device::{
-    CopyInFault, Flash, FlashFault, MemSource, Paged, Region, Source, Unwatched, Watch,
-};
+use flash_device::{CopyInFault, Flash, FlashFault, MemSource, Paged, Source, Unwatched, Watch};
 use flash_format::{HEADER_LENGTH, empty_header};
+use flash_map::Region;
 
 /// Replaces a header atomically.
 pub fn commit_in<F: Flash>(

@@ -13,8 +13,9 @@ use crate::cell::{Cell, content_fits};
 use crate::names::name_end;
 use crate::region_reads::read_in;
 use byteorder::{BigEndian, ByteOrder};
-use flash_device::{Flash, FlashFault, Paged, Region};
+use flash_device::{Flash, FlashFault, Paged};
 use flash_format::AttrHead;
+use flash_map::Region;
 use std::marker::Model;
 
 /// A walk over a component's attributes.

@@ -2,8 +2,8 @@
 ghost use Rattle.std.specs.Prelude.{◌+◌, ◌≤◌};
 ghost use Rattle.cbfs_walk.specs.Cells.{PassesChecks};
 
-use flash_device::Region;
 use flash_format::Head;
+use flash_map::Region;
 
 /// A cell, with its position in the region and its length in bytes.
 #[derive(Clone, Copy, Debug, PartialEq, Eq)]

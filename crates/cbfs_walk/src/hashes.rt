@@ -11,8 +11,9 @@ ghost use Rattle.cbfs_walk.specs.Hashes.{digest_like, stored_digest, comparison,
 use crate::attribute_walk::{first_attribute, value_at};
 use crate::cell::{Cell, content_fits};
 use crate::region_reads::piece_in;
-use flash_device::{Flash, FlashFault, Paged, Region};
+use flash_device::{Flash, FlashFault, Paged};
 use flash_format::{Algorithm, AttrHead, Digest};
+use flash_map::Region;
 use sha2::{Sha256, Sha512};
 
 /// The result of a digest check.

@@ -11,8 +11,9 @@ ghost use Rattle.cbfs_walk.specs.Cells.{IsComponentIn, cell_in};
 
 use crate::cell::{Cell, content_fits};
 use crate::region_reads::piece_in;
-use flash_device::{Flash, FlashFault, Paged, Region};
+use flash_device::{Flash, FlashFault, Paged};
 use flash_format::Head;
+use flash_map::Region;
 
 const LONGEST: usize = 255;
 

@@ -7,7 +7,8 @@ ghost use Rattle.flash_device.specs.Regions.{LiesOn};
 ghost use Rattle.flash_device.specs.contracts.paged.Paged.{the_row};
 ghost use Rattle.cbfs_walk.specs.Walks.{HasPassed};
 
-use flash_device::{Flash, FlashFault, Paged, Region};
+use flash_device::{Flash, FlashFault, Paged};
+use flash_map::Region;
 
 /// Reads bytes at a position in the region.
 #[inline]

@@ -13,8 +13,9 @@ use crate::attribute_walk::are_well_formed;
 use crate::cell::Cell;
 use crate::names::{has_name_end, name_end};
 use crate::region_reads::read_in;
-use flash_device::{Flash, FlashFault, Paged, Region};
+use flash_device::{Flash, FlashFault, Paged};
 use flash_format::{DamageKind, Head};
+use flash_map::Region;
 use std::marker::Model;
 
 /// The next part of a region. Positions are relative to the region's start.

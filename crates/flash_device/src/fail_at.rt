@@ -4,8 +4,7 @@ ghost use Rattle.flash_device.specs.Device.{OneRead, OneWrite, OneCommit};
 ghost use Rattle.flash_device.specs.Failing.{facts_over, PassedOrRefused, RefusedWrite, refused_once};
 
 use crate::counter::Counter;
-use crate::flash::{Flash, FlashFault};
-use flash_format::HEADER_LENGTH;
+use crate::flash::{COMMIT_LENGTH, Flash, FlashFault};
 use std::marker::Model;
 
 /// A test device over another: the first calls pass, and all later calls fail.
@@ -133,7 +132,7 @@ impl<F: Flash> Flash for FailAt<F> {
         Err(self.refuse())
     }
 
-    fn commit_at(&mut self, at: u64, bytes: &[u8; HEADER_LENGTH]) -> Result<(), FlashFault>
+    fn commit_at(&mut self, at: u64, bytes: &[u8; COMMIT_LENGTH]) -> Result<(), FlashFault>
         requires { at + length bytes.now ≤ length (F.facts self.old.device).content }
 
         ensures after { OneCommit at bytes.now (facts_over F.facts self.old)

@@ -2,10 +2,11 @@
 ghost use Rattle.std.specs.Prelude.{◌≡◌, ◌+◌, ◌^◌, ◌<◌, ◌≤◌, length};
 ghost use Rattle.flash_device.specs.Device.{Device, OneRead, OneWrite, OneCommit};
 
-use flash_format::HEADER_LENGTH;
-
 /// The maximum length of a call in bytes.
 pub const PIECE: usize = 4096;
+
+/// The length of a commit in bytes: the header of a CBFS entry, with an empty name.
+pub const COMMIT_LENGTH: usize = 28;
 
 /// A failed call.
 #[derive(Clone, Copy, Debug, PartialEq, Eq, Drop)]
@@ -36,7 +37,7 @@ pub trait Flash: Drop {
         ensures after { OneWrite at bytes.now (facts self.old) (facts self.new) result };
 
     /// Writes a cell's first bytes atomically.
-    fn commit_at(&mut self, at: u64, bytes: &[u8; HEADER_LENGTH]) -> Result<(), FlashFault>
+    fn commit_at(&mut self, at: u64, bytes: &[u8; COMMIT_LENGTH]) -> Result<(), FlashFault>
         requires { at + length bytes.now ≤ length (facts self.old).content }
 
         ensures after { OneCommit at bytes.now (facts self.old) (facts self.new) result };

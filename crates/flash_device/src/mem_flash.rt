@@ -3,8 +3,7 @@ ghost use Rattle.std.specs.Prelude.{◌≡◌, ◌+◌, ◌^◌, ◌<◌, ◌≤
 ghost use Rattle.flash_device.specs.Device.{overwritten};
 
 use crate::counter::Counter;
-use crate::flash::{Flash, FlashFault};
-use flash_format::HEADER_LENGTH;
+use crate::flash::{COMMIT_LENGTH, Flash, FlashFault};
 use std::marker::Model;
 
 /// An honest device without faults, over fewer than 2^32 bytes.
@@ -83,7 +82,7 @@ impl Flash for MemFlash {
         Ok(())
     }
 
-    fn commit_at(&mut self, at: u64, bytes: &[u8; HEADER_LENGTH]) -> Result<(), FlashFault> {
+    fn commit_at(&mut self, at: u64, bytes: &[u8; COMMIT_LENGTH]) -> Result<(), FlashFault> {
         self.replace(at, bytes);
         Ok(())
     }

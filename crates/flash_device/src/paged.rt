@@ -5,11 +5,10 @@ ghost use Rattle.flash_device.specs.Pages.{HasFilled, HasCopiedIn, HasCopiedOut,
 ghost use Rattle.flash_device.specs.Output.{AppendsPieces};
 ghost use Rattle.std.specs.Io.KnownBytes.{Keeps};
 
-use crate::flash::{Flash, FlashFault, PIECE};
+use crate::flash::{COMMIT_LENGTH, Flash, FlashFault, PIECE};
 use crate::sink::{Sink, SinkFault, put_all};
 use crate::source::{Source, SourceFault};
 use crate::watch::{Unwatched, Watch};
-use flash_format::HEADER_LENGTH;
 use std::marker::Model;
 
 /// The reason for a stopped copy from a source.
@@ -296,7 +295,7 @@ impl<F: Flash> Paged<F> {
     }
 
     /// Writes a cell's first bytes atomically.
-    pub fn commit(&mut self, at: u64, bytes: &[u8; HEADER_LENGTH]) -> Result<(), FlashFault>
+    pub fn commit(&mut self, at: u64, bytes: &[u8; COMMIT_LENGTH]) -> Result<(), FlashFault>
         requires { at + length bytes.now ≤ length (F.facts self.old.device).content }
 
         ensures after { OneCommit at bytes.now (F.facts self.old.device)

@@ -9,7 +9,8 @@ ghost use Rattle.flash_device.specs.Regions.{LiesOn};
 ghost use Rattle.flash_map.specs.Regions.{by_device, region_by_area, region_of};
 ghost use Rattle.memchr.specs.Find.{IsFirst};
 
-use flash_device::{Flash, FlashFault, PIECE, Paged, Region, Source, SourceFault};
+use crate::range::Region;
+use flash_device::{Flash, FlashFault, PIECE, Paged, Source, SourceFault};
 use flash_format::{Area, FmapHead};
 use memchr::memmem;
 

@@ -19,12 +19,12 @@ pub use file_source::FileSource;
 pub use flaky_file::FlakyFile;
 pub use flash_device::{
     CopyFault, CopyInFault, Counter, FailAt, FailSource, Flash, FlashFault, MemFlash, MemSource,
-    PIECE, Paged, Region, Sink, SinkFault, Source, SourceFault, Unwatched, Watch, WriteSink,
-    put_all, separate_edits_swap, separate_writes_swap, writes_are_seen_by_regions,
+    PIECE, Paged, Sink, SinkFault, Source, SourceFault, Unwatched, Watch, WriteSink, put_all,
+    separate_edits_swap, separate_writes_swap, writes_are_seen_by_regions,
 };
 pub use flash_map::{
-    AreaNames, CheckFault, FoundMap, ImageMap, NumberedArea, StoreFault, area, area_in_source,
-    find_fmap, find_fmap_from, image_map, map_in_source, region, region_of_area,
+    AreaNames, CheckFault, FoundMap, ImageMap, NumberedArea, Region, StoreFault, area,
+    area_in_source, find_fmap, find_fmap_from, image_map, map_in_source, region, region_of_area,
     written_maps_are_found,
 };
 pub use open_fault::OpenFault;

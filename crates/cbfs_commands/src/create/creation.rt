@@ -13,7 +13,8 @@ ghost use Rattle.cbfs_commands.specs.Effects.{HasApplied, creates};
 use crate::create::plan::read_plan;
 use crate::refusal::Refusal;
 use cbfs_edit::{EditFault, format};
-use flash_device::{Flash, Paged, Region, Source};
+use flash_device::{Flash, Paged, Source};
+use flash_map::Region;
 
 fn format_place<F: Flash>(paged: &mut Paged<F>, place: Region) -> Result<(), Refusal>
     requires { IsPlace (length (F.facts paged.old.device).content) place }

@@ -13,9 +13,9 @@ ghost use Rattle.cbfs_commands.specs.Refusals.{by_source};
 use crate::create::flashmap::{MOST_REGIONS, first_areas, head_for};
 use crate::refusal::Refusal;
 use arrayvec::ArrayVec;
-use flash_device::{Region, Source};
+use flash_device::Source;
 use flash_format::{Area, FmapHead};
-use flash_map::region_of_area;
+use flash_map::{Region, region_of_area};
 
 /// The ranges of a new image.
 #[derive(Drop)]

@@ -18,8 +18,9 @@ use crate::refusal::Refusal;
 use crate::row::{ROW_LEN, Row, push_decimal, put_row};
 use byteorder::{BigEndian, ByteOrder};
 use cbfs_walk::{Cell, HashState, attributes, cells_stand_in_their_image, check_hash};
-use flash_device::{Flash, Paged, Region, Sink};
+use flash_device::{Flash, Paged, Sink};
 use flash_format::{AttrHead, Digest, digest_text, push_text};
+use flash_map::Region;
 
 /// Appends a tag's eight digits.
 fn push_tag(row: &mut Row, tag: u32)

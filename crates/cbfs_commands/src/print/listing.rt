@@ -12,7 +12,8 @@ use crate::refusal::Refusal;
 use crate::row::{Row, put_row, set_row_text};
 use arrayvec::ArrayVec;
 use cbfs_walk::{Cell, Step, Walk, cells_stand_in_their_image, name, packing};
-use flash_device::{Flash, FlashFault, Paged, Region, Sink};
+use flash_device::{Flash, FlashFault, Paged, Sink};
+use flash_map::Region;
 
 /// Formats a cell's row. A fault leaves arbitrary bytes in the buffer.
 fn set_cell_row<F: Flash>(
