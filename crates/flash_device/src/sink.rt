@@ -11,7 +11,10 @@ use std::marker::Model;
 #[derive(Clone, Copy, Debug, PartialEq, Eq, Drop)]
 pub struct SinkFault;
 
-/// A writer with possibly partial writes.
+/// The receiver of output. A call may accept only a part of the bytes.
+///
+/// Std's `Write` was rejected: it states no number of faults, and a contract needs one to state
+/// that a reported output fault has occurred. `WriteSink` adapts any writer.
 pub trait Sink {
     /// The bytes, if known.
     ghost contents: { Self → Option (List ℕ) };

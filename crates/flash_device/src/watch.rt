@@ -1,7 +1,10 @@
 //! Observers of copied bytes.
 ghost use Rattle.std.specs.Prelude.{◌≡◌, ℕ, List, ◌++◌};
 
-/// An observer of bytes in order, such as a hasher.
+/// An observer of copied bytes in order, such as a hasher.
+///
+/// A copy shows each piece to its watcher, so the digest of a content needs no second read, and no
+/// memory for the content.
 pub trait Watch: Drop {
     /// The bytes possibly seen.
     ghost saw: { Self → List ℕ → Type 0 };

@@ -13,7 +13,10 @@ pub enum StorageFault {
     Failed,
 }
 
-/// A file with byte offsets. Each call is one system call, and may move fewer bytes.
+/// A file, by single system calls. A call may move fewer bytes than requested, or be interrupted.
+///
+/// The loops over short and interrupted calls are proved above this trait. A trait with complete
+/// transfers was rejected: the loops would be assumed, not proved.
 pub trait Storage: Drop {
     /// Content and faithfulness: each call has the effect of its result.
     ghost facts: { Self → Stored };
