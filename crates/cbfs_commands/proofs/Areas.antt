@@ -7,7 +7,7 @@ use Rattle.flash_format.specs.Flashmap.{area_of, areas_at, areas_from, map_of, f
 use Rattle.flash_map.specs.Fmap.{found_in}
 use Rattle.flash_map.specs.declared.search.FoundMap.{FoundMap}
 use Rattle.cbfs_commands.specs.Rows.{area_line, map_line, layout}
-use Rattle.cbfs_commands.proofs.Telling.{text_then}
+use Rattle.cbfs_commands.proofs.OutputParts.{text_then}
 use Rattle.cbfs_commands.specs.Printouts.{Printout, refuses, shows}
 use Rattle.cbfs_commands.specs.declared.refusal.Refusal.TheVariants as refusals
 

@@ -9,7 +9,7 @@ use lib.Chars.{codes}
 use Rattle.flash_format.specs.Head.{head_of, is_free}
 use Rattle.flash_format.specs.Components.{cell_attributes, cell_name, packing}
 use Rattle.flash_format.specs.Flashmap.{text_of}
-use Rattle.flash_format.specs.Printed.{hexadecimal, is_field, printed_compression, printed_name, printed_type}
+use Rattle.flash_format.specs.Texts.{hexadecimal, is_field, printed_compression, printed_name, printed_type}
 use Rattle.flash_format.specs.TypeNames.{compression_table, name_of_compression, name_of_type, number_for, type_of_text}
 use Rattle.flash_format.specs.declared.flashmap.Area.{Area}
 use Rattle.flash_format.specs.declared.flashmap.FmapHead.{FmapHead}

@@ -9,8 +9,8 @@ use Rattle.flash_map.specs.Regions.{region_of}
 use Rattle.cbfs_edit.specs.Changes.{AddLeavesBefore, AddLeavesWhole}
 use Rattle.cbfs_edit.specs.Additions.{NewComponent}
 use Rattle.cbfs_edit.specs.declared.place.Spot.{Spot}
-use Rattle.cbfs_walk.specs.Finding.{component_in, not_found}
-use Rattle.cbfs_walk.specs.Shaped.{place_after}
+use Rattle.cbfs_walk.specs.Search.{component_in, not_found}
+use Rattle.cbfs_walk.specs.CellReadings.{place_after}
 use Rattle.cbfs_walk.specs.Shapes.{shape_fault, refused_or}
 use Rattle.cbfs_commands.specs.declared.refusal.Refusal.TheVariants as refusals
 use Rattle.cbfs_commands.specs.Refusals.{fault_or, store_refusal, walk_refusal}

@@ -11,8 +11,8 @@ use Rattle.flash_format.specs.Flashmap.{fmap_head_of, text_of, map_of, areas_at}
 use Rattle.flash_format.specs.declared.flashmap.FmapHead.{FmapHead}
 use Rattle.flash_format.specs.declared.flashmap.Area.{Area}
 use Rattle.flash_format.specs.declared.head.Head.{Head}
-use Rattle.flash_format.specs.Printed.{hexadecimal, line_feed, printed_compression, printed_name}
-use Rattle.flash_format.specs.Printed.{printed_type, tab}
+use Rattle.flash_format.specs.Texts.{hexadecimal, line_feed, printed_compression, printed_name}
+use Rattle.flash_format.specs.Texts.{printed_type, tab}
 use Rattle.cbfs_commands.specs.Printouts.{Printout, shows, refuses}
 use Rattle.cbfs_commands.specs.declared.refusal.Refusal.TheVariants as refusals
 use Rattle.byteorder.specs.Endian.{big_bytes}

@@ -18,7 +18,7 @@ use Rattle.cbfs_edit.specs.Changes.{IsOldOrEmptied}
 use Rattle.cbfs_edit.specs.Formats.{formatted, IsOneFreeCell}
 use Rattle.cbfs_edit.specs.Laws.{FormattedIsOneFreeCell}
 use Rattle.cbfs_edit.specs.declared.group.CellRange.{CellRange}
-use Rattle.cbfs_edit.proofs.Emptied.{emptied-bytes, emptied-outside, emptied-wider, space_end-below, space_end-near}
+use Rattle.cbfs_edit.proofs.EmptyEntries.{emptied-bytes, emptied-outside, emptied-wider, space_end-below, space_end-near}
 use Rattle.cbfs_edit.proofs.Changes.{length-last_four}
 
 overwritten-whole : (x u : List ℕ) → length u ≡ length x → overwritten x 0 u ≡ u

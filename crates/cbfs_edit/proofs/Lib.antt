@@ -1,6 +1,6 @@
 pub mod Lists
 pub mod Changes
-pub mod Emptied
+pub mod EmptyEntries
 pub mod Groups
 pub mod Runs
 pub mod Sound
@@ -9,6 +9,6 @@ pub mod Searches
 pub mod Places
 pub mod FormatLemmas
 pub mod Insertions
-pub mod Added
+pub mod AdditionLemmas
 pub mod EditLists
-pub mod FoundAgain
+pub mod SearchLaws

@@ -16,10 +16,10 @@ use Rattle.cbfs_edit.specs.declared.place.Spot.{Spot}
 use Rattle.cbfs_edit.specs.declared.place.Spot.TheVariants.{First, Aligned, Fixed}
 use Rattle.cbfs_edit.specs.declared.place.Wanted.{Wanted}
 use Rattle.cbfs_edit.specs.declared.place.Place.{Place}
-use Rattle.cbfs_edit.proofs.Emptied.{space_end-near}
+use Rattle.cbfs_edit.proofs.EmptyEntries.{space_end-near}
 use Rattle.cbfs_edit.proofs.Lists.{one_split}
 use Rattle.flash_format.specs.Components.{Component, components}
-use Rattle.cbfs_walk.specs.Finding.{first_named}
+use Rattle.cbfs_walk.specs.Search.{first_named}
 use Rattle.cbfs_edit.proofs.Sound.{IsAccepted, IsSound, accepted_by, found-some}
 use Rattle.cbfs_edit.specs.declared.fault.EditFault.TheVariants as faults
 

@@ -19,7 +19,7 @@ use Rattle.flash_format.proofs.CutLaws.{cut_exists}
 use Rattle.std.proofs.lemmas.List.{append-nil}
 use Rattle.flash_format.specs.Components.{Component, components_from}
 use Rattle.flash_format.specs.Splices.{CellsBetween}
-use Rattle.cbfs_edit.proofs.Emptied.{group_range, emptied-components, emptied-end}
+use Rattle.cbfs_edit.proofs.EmptyEntries.{group_range, emptied-components, emptied-end}
 
 -- ---- each run is such a sequence
 

@@ -11,12 +11,12 @@ use Rattle.flash_device.proofs.DeviceLemmas.{honest_still, length-bytes_in}
 use Rattle.cbfs_walk.specs.Cells.{IsCellIn, cell_in}
 use Rattle.cbfs_walk.specs.Walks.{reads_over, StepResult, Walking, walk_of, answer_at, reads_at, StandsIn}
 use Rattle.cbfs_walk.specs.Shapes.{shape_fault, refused_or}
-use Rattle.cbfs_walk.specs.Shaped.{reading_of, ReadsCells, by_answer, place_after}
+use Rattle.cbfs_walk.specs.CellReadings.{reading_of, ReadsCells, by_answer, place_after}
 use Rattle.cbfs_walk.specs.declared.cell.Cell.{Cell}
 use Rattle.cbfs_walk.specs.declared.walk.Step.{Step}
 use Rattle.cbfs_walk.specs.declared.walk.WalkFault.{WalkFault}
 use Rattle.cbfs_walk.proofs.Shapes.{shaped_step}
-use Rattle.cbfs_walk.proofs.Answering.{IsLast, last_reads}
+use Rattle.cbfs_walk.proofs.StepResults.{IsLast, last_reads}
 use Rattle.cbfs_edit.specs.Changes.{by_device}
 use Rattle.cbfs_edit.specs.Removals.{edit_fault_of, unless_damaged, unless_unsound, removal_in, by_rows}
 use Rattle.cbfs_edit.specs.declared.fault.EditFault.{EditFault}
@@ -28,7 +28,7 @@ use Rattle.cbfs_edit.specs.declared.group.CellRange.{CellRange}
 use Rattle.cbfs_edit.specs.declared.group.Search.TheVariants.{Looking}
 use Rattle.std.specs.List.{cons_option, filter_map, slice_get}
 use Rattle.std.specs.Option.{option_or}
-use Rattle.cbfs_walk.specs.Finding.{first_named}
+use Rattle.cbfs_walk.specs.Search.{first_named}
 use Rattle.cbfs_edit.specs.Runs.{add_run, runs_from}
 use Rattle.cbfs_edit.specs.Places.{place_in, first_place, placing_in, unless_exists}
 use Rattle.cbfs_edit.specs.declared.place.Wanted.{Wanted}

@@ -4,8 +4,8 @@ use Rattle.std.specs.Prelude.{ok_or}
 use Rattle.flash_format.specs.Cut.{End, damage, cut}
 use Rattle.flash_format.specs.Entry.{entry}
 use Rattle.cbfs_walk.specs.Shapes.{has_bad_size, is_absent, refused_or}
-use Rattle.cbfs_walk.specs.Shaped.{place_after}
-use Rattle.cbfs_walk.proofs.Answering.{good_size}
+use Rattle.cbfs_walk.specs.CellReadings.{place_after}
+use Rattle.cbfs_walk.proofs.StepResults.{good_size}
 use Rattle.cbfs_edit.specs.Removals.{edit_fault_of, unless_damaged, unless_unsound}
 use Rattle.cbfs_edit.specs.declared.fault.EditFault.{EditFault}
 use Rattle.cbfs_edit.specs.declared.group.CellRange.{CellRange}

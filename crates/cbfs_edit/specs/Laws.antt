@@ -6,7 +6,7 @@ use Rattle.std.specs.Str.{bytes_eq}
 use Rattle.flash_format.specs.Cut.{cut}
 use Rattle.flash_format.specs.Components.{Component, components}
 use Rattle.flash_format.specs.Made.{IsDigest}
-use Rattle.cbfs_walk.specs.Finding.{component_in}
+use Rattle.cbfs_walk.specs.Search.{component_in}
 use Rattle.cbfs_edit.specs.Additions.{NewComponent, AddsOne, added, added_component, addition_in}
 use Rattle.cbfs_edit.specs.Removals.{group_of, IsNot, IsGroupOf, LosesOne, removed, removal_in}
 use Rattle.cbfs_edit.specs.Changes.{IsEmptied, SameCells}

@@ -5,7 +5,7 @@ use Rattle.std.specs.Prelude.{◌≡◌, ℕ, ◌+◌, ◌-◌, ◌*◌, ◌/◌
 use Rattle.std.specs.Prelude.{false, nat_le, if◌then◌else◌, is_some, List, ◌∷◌, ◌++◌, All, length}
 use Rattle.std.specs.Prelude.{Option, Some, None, MatchOption, Result, Err, ok_or}
 use Rattle.flash_format.specs.Components.{components}
-use Rattle.cbfs_walk.specs.Finding.{first_named}
+use Rattle.cbfs_walk.specs.Search.{first_named}
 use Rattle.cbfs_edit.specs.Removals.{IsCellRange, space_end, unless_unsound}
 use Rattle.cbfs_edit.specs.Runs.{runs}
 use Rattle.cbfs_edit.specs.declared.fault.EditFault.{EditFault}

@@ -12,9 +12,9 @@ use Rattle.cbfs_edit.specs.declared.group.CellRange.{CellRange}
 use Rattle.std.specs.Result.{result_and, result_map_both}
 use Rattle.flash_format.specs.Made.{empty_entry}
 use Rattle.flash_device.specs.Device.{overwritten}
-use Rattle.cbfs_walk.specs.Finding.{IsFirstOf, not_found}
+use Rattle.cbfs_walk.specs.Search.{IsFirstOf, not_found}
 use Rattle.cbfs_walk.specs.Shapes.{shape_fault, refused_or}
-use Rattle.cbfs_walk.specs.Shaped.{place_after}
+use Rattle.cbfs_walk.specs.CellReadings.{place_after}
 use Rattle.cbfs_walk.specs.declared.walk.WalkFault.{WalkFault}
 use Rattle.cbfs_walk.specs.declared.walk.WalkFault.TheVariants as faults
 use Rattle.cbfs_edit.specs.declared.fault.EditFault.{EditFault}

@@ -3,7 +3,7 @@ use Rattle.std.specs.Option.{option_or}
 use Rattle.std.specs.Prelude.{◌≡◌, ℕ, ◌%◌, ◌^◌, ◌<◌, ◌≤◌, ◌||◌, is_some, List, IfSome, Result, Ok}
 use Rattle.std.specs.Prelude.{ok_or}
 use Rattle.flash_format.specs.Components.{components_from}
-use Rattle.cbfs_walk.specs.Finding.{first_named}
+use Rattle.cbfs_walk.specs.Search.{first_named}
 use Rattle.cbfs_edit.specs.Removals.{IsCellRange, group_from, row_end}
 use Rattle.cbfs_edit.specs.Runs.{runs_from}
 use Rattle.cbfs_edit.specs.Places.{Fits, IsWanted, first_place, unless_exists}

@@ -1,2 +1,2 @@
-mod Matching
+mod Matches
 mod Tables

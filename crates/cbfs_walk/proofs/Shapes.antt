@@ -15,8 +15,8 @@ use Rattle.cbfs_walk.specs.declared.cell.Cell.{Cell}
 use Rattle.cbfs_walk.specs.declared.walk.Step.TheVariants as steps
 use Rattle.cbfs_walk.specs.declared.walk.WalkFault.{WalkFault}
 use Rattle.cbfs_walk.specs.declared.walk.WalkFault.TheVariants as walk
-use Rattle.cbfs_walk.specs.Shaped.{reading_of, ReadsCells, by_answer}
-use Rattle.cbfs_walk.proofs.Answering.{good_size}
+use Rattle.cbfs_walk.specs.CellReadings.{reading_of, ReadsCells, by_answer}
+use Rattle.cbfs_walk.proofs.StepResults.{good_size}
 use Rattle.cbfs_walk.proofs.CutLaws.{cut_at}
 use Rattle.cbfs_walk.proofs.Parts.{range_is}
 

@@ -6,10 +6,10 @@ use Rattle.flash_format.specs.Cut.{Cut, complete, tail, damage, ends, after, cut
 use Rattle.flash_format.specs.Components.{Component, components, cell_content}
 use Rattle.flash_device.specs.Regions.{Range, LiesIn, bytes_in}
 use Rattle.cbfs_walk.specs.Cells.{IsCellIn, cell_in}
-use Rattle.cbfs_walk.specs.Finding.{IsFirstOf, component_in}
+use Rattle.cbfs_walk.specs.Search.{IsFirstOf, component_in}
 use Rattle.cbfs_walk.specs.Shapes.{has_bad_size, shape_fault}
 use Rattle.cbfs_walk.specs.Walks.{StepResult, answer_at, StandsIn}
-use Rattle.cbfs_walk.specs.Shaped.{reading_of, ReadsCells, by_answer}
+use Rattle.cbfs_walk.specs.CellReadings.{reading_of, ReadsCells, by_answer}
 use Rattle.cbfs_walk.specs.declared.cell.Cell.{Cell}
 use Rattle.cbfs_walk.specs.declared.walk.Step.TheVariants as steps
 use Rattle.cbfs_walk.specs.declared.walk.WalkFault.{WalkFault}

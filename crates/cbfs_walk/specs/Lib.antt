@@ -1,8 +1,8 @@
 pub mod Cells
 pub mod Shapes
 pub mod Walks
-pub mod Shaped
+pub mod CellReadings
 pub mod AttrWalks
-pub mod Finding
+pub mod Search
 pub mod Hashes
 pub mod Laws

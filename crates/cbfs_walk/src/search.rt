@@ -8,7 +8,7 @@ ghost use Rattle.flash_device.specs.Pages.{HasRead, HasAnswered, OnHonestIn};
 ghost use Rattle.flash_device.specs.Regions.{LiesOn};
 ghost use Rattle.cbfs_walk.specs.Cells.{IsCellIn, PassesChecks, cell_in};
 ghost use Rattle.cbfs_walk.specs.Walks.{StandsIn, ReadsCellAs, by_device};
-ghost use Rattle.cbfs_walk.specs.Finding.{component_in, found_cell, find_reads};
+ghost use Rattle.cbfs_walk.specs.Search.{component_in, found_cell, find_reads};
 
 use crate::cell::Cell;
 use crate::names::name_is;

@@ -7,7 +7,7 @@ use Rattle.std.proofs.lemmas.Bool.Decides.{nat_tests}
 use Rattle.std.proofs.lemmas.List.Elements.{All-contains, Contains-append_cases, Contains-append_right}
 use Rattle.flash_format.specs.Cut.{cut}
 use Rattle.cbfs_walk.specs.Shapes.{shape_fault}
-use Rattle.cbfs_walk.specs.Shaped.{place_after}
+use Rattle.cbfs_walk.specs.CellReadings.{place_after}
 use Rattle.cbfs_edit.specs.Places.{place_in}
 use Rattle.cbfs_edit.specs.Removals.{by_rows}
 use Rattle.cbfs_edit.specs.Runs.{add_run, runs_from}

@@ -12,7 +12,7 @@ use Rattle.json.specs.Token.{Token, begin_object, end_array, end_object}
 use Rattle.json.specs.Tree.{json_tokens, members_tokens}
 use Rattle.json.specs.Print.{ends, print, print_from}
 use Rattle.json.proofs.Printed.Tokens.{print_from-append}
-use Rattle.flash_format.specs.Printed.{line_feed}
+use Rattle.flash_format.specs.Texts.{line_feed}
 use Rattle.check_report.specs.declared.request.Files.{Files}
 use Rattle.check_report.specs.declared.rows.kinds.Counts.{Counts}
 use Rattle.check_report.specs.declared.rows.form.Form.{Form}

@@ -1,5 +1,5 @@
 pub mod Device
-pub mod Failing
+pub mod TestDevices
 pub mod Laws
 pub mod Numbers
 pub mod Output

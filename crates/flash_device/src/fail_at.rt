@@ -1,7 +1,7 @@
 //! A device with injected faults.
 ghost use Rattle.std.specs.Prelude.{◌≡◌, ◌+◌, ◌-◌, ◌<◌, ◌≤◌, length, take, true, false, IsTrue};
 ghost use Rattle.flash_device.specs.Device.{OneRead, OneWrite, OneCommit};
-ghost use Rattle.flash_device.specs.Failing.{facts_over, PassedOrRefused, RefusedWrite, refused_once};
+ghost use Rattle.flash_device.specs.TestDevices.{facts_over, PassedOrRefused, RefusedWrite, refused_once};
 
 use crate::counter::Counter;
 use crate::flash::{COMMIT_LENGTH, Flash, FlashFault};
@@ -22,7 +22,7 @@ pub struct FailAt<F: Flash> {
 }
 
 impl<F: Flash> Model for FailAt<F> {
-    ghost use Rattle.flash_device.specs.Failing.{Failing};
+    ghost use Rattle.flash_device.specs.TestDevices.{Failing};
 
     ghost Value = { Failing F };
 

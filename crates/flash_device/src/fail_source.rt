@@ -1,7 +1,7 @@
 //! A source with injected faults.
 ghost use Rattle.std.specs.Prelude.{◌≡◌, ◌+◌, ◌≤◌, length, false};
 ghost use Rattle.flash_device.specs.Device.{OneRead};
-ghost use Rattle.flash_device.specs.Failing.{facts_over, PassedOrRefused, refused_once};
+ghost use Rattle.flash_device.specs.TestDevices.{facts_over, PassedOrRefused, refused_once};
 
 use crate::counter::Counter;
 use crate::source::{Source, SourceFault};
@@ -18,7 +18,7 @@ pub struct FailSource<S: Source> {
 
 impl<S: Source> Model for FailSource<S> {
     ghost use Rattle.std.specs.Prelude.{false};
-    ghost use Rattle.flash_device.specs.Failing.{Failing};
+    ghost use Rattle.flash_device.specs.TestDevices.{Failing};
 
     ghost Value = { Failing S };
 

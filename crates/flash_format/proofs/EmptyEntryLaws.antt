@@ -12,7 +12,7 @@ use Rattle.flash_format.specs.Entry.{cell, entry, present}
 use Rattle.flash_format.proofs.Fronts.{head_at-take}
 use Rattle.flash_format.proofs.CutSteps.{head_is}
 use Rattle.flash_format.proofs.EntryLaws.{from_head, present_by}
-use Rattle.flash_format.proofs.Writing.{head_is_read_back}
+use Rattle.flash_format.proofs.FieldWrites.{head_is_read_back}
 
 pub length-head_bytes : (h : Head) → length (head_bytes h) ≡ 24
 unfolding head_bytes

@@ -8,10 +8,10 @@ pub mod CellLists
 pub mod EmptyEntryLaws
 pub mod Splices
 pub mod MapLaws
-pub mod Writing
+pub mod FieldWrites
 pub mod PutLemmas
 pub mod MadeLaws
-pub mod Placed
+pub mod Placings
 pub mod NumberLaws
 pub mod PrintedLaws
 pub mod TypeLaws

@@ -13,7 +13,7 @@ use Rattle.flash_format.specs.Laws.{IsAreaInBytes, IsMapOf, MapsAreReadBack, NoM
 use Rattle.flash_format.proofs.Fronts.{area_of-take, fmap_head_of-take, has_signature-take}
 use Rattle.flash_format.proofs.MapLaws.{map_lowest}
 use Rattle.flash_format.proofs.MapSteps.{map_where}
-use Rattle.flash_format.proofs.Writing.{area_is_read_back, fmap_head_is_read_back, signature_is_written}
+use Rattle.flash_format.proofs.FieldWrites.{area_is_read_back, fmap_head_is_read_back, signature_is_written}
 
 -- ---- the lowest map
 

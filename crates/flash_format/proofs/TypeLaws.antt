@@ -3,7 +3,7 @@ use Rattle.std.proofs.Common.{◌≡◌, ℕ, Bool, true, false, nat_eq, nat_le,
 use Rattle.std.specs.List.{list_all}
 use Rattle.std.specs.Map.{lookup}
 use Rattle.std.proofs.lemmas.Bool.{eqb-true, and_parts}
-use Rattle.flash_format.specs.Printed.{is_field}
+use Rattle.flash_format.specs.Texts.{is_field}
 use Rattle.flash_format.specs.TypeNames.{compression_table, name_of_compression, name_of_type, number_for, type_table, type_of_text}
 
 -- a test of all rows holds for a found row

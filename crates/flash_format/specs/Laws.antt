@@ -12,7 +12,7 @@ use Rattle.flash_format.specs.Placings.{IsPlacing, IsReadAs, HasOneMore, space_c
 use Rattle.flash_format.specs.Flashmap.{area_bytes, areas_from, fmap_head_bytes, fmap_head_len, fmap_head_of, is_map, is_map_name}
 use Rattle.flash_format.specs.declared.flashmap.Area.{Area}
 use Rattle.flash_format.specs.declared.flashmap.FmapHead.{FmapHead}
-use Rattle.flash_format.specs.Printed.{hexadecimal, is_field, printed_name}
+use Rattle.flash_format.specs.Texts.{hexadecimal, is_field, printed_name}
 use Rattle.flash_format.specs.TypeNames.{name_of_type, type_of_text}
 
 pub record EntriesAreReadAlike : Type 0 where

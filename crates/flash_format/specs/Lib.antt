@@ -9,4 +9,4 @@ pub mod Flashmap
 pub mod Numbers
 pub mod TypeNames
 pub mod Laws
-pub mod Printed
+pub mod Texts

@@ -2,7 +2,7 @@
 
 ghost use Rattle.std.specs.Prelude.{◌+◌, ◌≤◌, length};
 ghost use Rattle.arrayvec.specs.ArrayVec.{array_vec_len};
-ghost use Rattle.flash_format.specs.Printed.{Pushes};
+ghost use Rattle.flash_format.specs.Texts.{Pushes};
 
 use arrayvec::ArrayVec;
 

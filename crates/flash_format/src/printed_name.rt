@@ -2,14 +2,14 @@
 
 ghost use Rattle.std.specs.Prelude.{◌≡◌, ◌+◌, ◌*◌, ◌≤◌, length};
 ghost use Rattle.arrayvec.specs.ArrayVec.{array_vec_len};
-ghost use Rattle.flash_format.specs.Printed.{Pushes, printed_byte, printed_name};
+ghost use Rattle.flash_format.specs.Texts.{Pushes, printed_byte, printed_name};
 
 use crate::buffer::push_text;
 use crate::printed_number::digit;
 use arrayvec::ArrayVec;
 
 #[inline]
-#[tactic(auto, unfolding(crate::specs::Printed::printed_byte))]
+#[tactic(auto, unfolding(crate::specs::Texts::printed_byte))]
 fn push_byte<const N: usize>(buffer: &mut ArrayVec<u8, N>, byte: u8)
     requires { array_vec_len buffer.old + 4 ≤ N }
     ensures { Pushes buffer.old (printed_byte byte) 4 buffer.new }

@@ -3,7 +3,7 @@
 ghost use Rattle.std.specs.Prelude.{◌≡◌, ◌+◌, ◌<◌, ◌≤◌, false, drop};
 ghost use Rattle.std.specs.Fmt.{digit_glyph, digits};
 ghost use Rattle.arrayvec.specs.ArrayVec.{array_vec_len};
-ghost use Rattle.flash_format.specs.Printed.{Pushes, hexadecimal};
+ghost use Rattle.flash_format.specs.Texts.{Pushes, hexadecimal};
 
 use crate::buffer::push_text;
 use arrayvec::ArrayVec;
@@ -36,7 +36,7 @@ fn write_digits(n: u64, text: &mut [u8; 16]) -> usize
 }
 
 /// Appends `0x` and lower-case digits without leading zeros.
-#[tactic(auto, unfolding(crate::specs::Printed::hexadecimal))]
+#[tactic(auto, unfolding(crate::specs::Texts::hexadecimal))]
 pub fn push_hexadecimal<const N: usize>(buffer: &mut ArrayVec<u8, N>, n: u64)
     requires { array_vec_len buffer.old + 18 ≤ N }
     ensures { Pushes buffer.old (hexadecimal n) 18 buffer.new }

@@ -6,7 +6,7 @@ use Rattle.std.proofs.Math.Seq.{take-append-add, take-length}
 use borrow.Rule.Slice.PartMut.{put_mid}
 use Rattle.flash_format.specs.Made.{header_length}
 use Rattle.flash_device.specs.Device.{overwritten, SameOutside}
-use Rattle.flash_store.specs.Storing.{Stored, SameFile, SameBytes, IsReserved, HasReadSome, HasWrittenSome, IsErased}
+use Rattle.flash_store.specs.Files.{Stored, SameFile, SameBytes, IsReserved, HasReadSome, HasWrittenSome, IsErased}
 use Rattle.std.specs.Prelude.{slice_range, Result, Ok, Err}
 use Rattle.flash_device.proofs.BytesLemmas.{nearer, further, slice_range_is, part_of_window, overwritten_is, length-overwritten, overwritten-range, overwritten-same, SameOutside-overwritten}
 

@@ -1,2 +1,2 @@
-pub mod Opening
-pub mod Storing
+pub mod OpenFaults
+pub mod Files

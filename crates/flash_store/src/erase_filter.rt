@@ -1,6 +1,6 @@
 //! A file with a known erased range.
 ghost use Rattle.std.specs.Prelude.{◌≡◌, ◌⊎◌, ◌+◌, ◌<◌, ◌≤◌, IfOk, IsTrue, length, replicate, slice_range};
-ghost use Rattle.flash_store.specs.Storing.{SameFile, SameBytes, IsErased};
+ghost use Rattle.flash_store.specs.Files.{SameFile, SameBytes, IsErased};
 
 use crate::storage::{Storage, StorageFault};
 use crate::transfer::{read_front, write_whole};
@@ -35,7 +35,7 @@ pub struct EraseFilter<S: Storage> {
 
 impl<S: Storage> Model for EraseFilter<S> {
     ghost use Rattle.std.specs.Prelude.{◌≤◌, length, IsTrue};
-    ghost use Rattle.flash_store.specs.Storing.{Stored, IsErased};
+    ghost use Rattle.flash_store.specs.Files.{Stored, IsErased};
 
     ghost Value = { Stored };
 

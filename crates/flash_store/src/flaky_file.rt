@@ -1,7 +1,7 @@
 //! A test file with short, interrupted and failed calls.
 ghost use Rattle.std.specs.Prelude.{◌≡◌, ◌+◌, ◌-◌, ◌^◌, ◌<◌, ◌≤◌, Err, length, true, IsOk};
 ghost use Rattle.flash_device.specs.Device.{overwritten};
-ghost use Rattle.flash_store.specs.Storing.{IsReserved, stored};
+ghost use Rattle.flash_store.specs.Files.{IsReserved, stored};
 
 use crate::storage::{Storage, StorageFault};
 use flash_format::HEADER_LENGTH;
@@ -24,7 +24,7 @@ pub struct FlakyFile {
 
 impl Model for FlakyFile {
     ghost use Rattle.std.specs.Prelude.{◌^◌, ◌<◌, length};
-    ghost use Rattle.flash_store.specs.Storing.{Flaky};
+    ghost use Rattle.flash_store.specs.Files.{Flaky};
 
     ghost Value = { Flaky };
 

@@ -22,7 +22,7 @@ pub struct OsFile {
 
 impl Model for OsFile {
     ghost use Rattle.std.specs.Prelude.{◌≡◌, replicate, false};
-    ghost use Rattle.flash_store.specs.Storing.{Stored};
+    ghost use Rattle.flash_store.specs.Files.{Stored};
 
     ghost Value = { Stored };
 

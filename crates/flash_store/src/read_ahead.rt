@@ -1,6 +1,6 @@
 //! A file with read-ahead.
 ghost use Rattle.std.specs.Prelude.{◌≡◌, ◌≤◌, IsTrue, length, take, drop};
-ghost use Rattle.flash_store.specs.Storing.{SameBytes};
+ghost use Rattle.flash_store.specs.Files.{SameBytes};
 
 use crate::storage::{Storage, StorageFault};
 use crate::transfer::read_front;
@@ -25,7 +25,7 @@ pub struct ReadAhead<S: Storage> {
 
 impl<S: Storage> Model for ReadAhead<S> {
     ghost use Rattle.std.specs.Prelude.{◌≡◌, ◌-◌, ◌≤◌, take, drop, IsTrue};
-    ghost use Rattle.flash_store.specs.Storing.{Stored};
+    ghost use Rattle.flash_store.specs.Files.{Stored};
 
     ghost Value = { Stored };
 

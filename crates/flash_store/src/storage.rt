@@ -1,6 +1,6 @@
 //! Single file calls.
 ghost use Rattle.std.specs.Prelude.{◌≡◌, ◌+◌, ◌^◌, ◌<◌, ◌≤◌, length, IsTrue, IsErrOf};
-ghost use Rattle.flash_store.specs.Storing.{Stored, HasReadSome, HasWrittenSome};
+ghost use Rattle.flash_store.specs.Files.{Stored, HasReadSome, HasWrittenSome};
 
 use flash_format::HEADER_LENGTH;
 

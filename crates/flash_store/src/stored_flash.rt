@@ -1,6 +1,6 @@
 //! A device in a file.
 ghost use Rattle.std.specs.Prelude.{◌≡◌, ◌+◌, IsOk, IsErr, IsTrue, OnOk, OnErr, IfOk, length, replicate};
-ghost use Rattle.flash_store.specs.Storing.{stored_device};
+ghost use Rattle.flash_store.specs.Files.{stored_device};
 
 use crate::erase_filter::EraseFilter;
 use crate::open_fault::OpenFault;
@@ -24,7 +24,7 @@ pub struct StoredFlash<S: Storage> {
 
 impl<S: Storage> Model for StoredFlash<S> {
     ghost use Rattle.flash_device.specs.Device.{Device};
-    ghost use Rattle.flash_store.specs.Storing.{stored_device};
+    ghost use Rattle.flash_store.specs.Files.{stored_device};
 
     ghost Value = { Device };
 

@@ -1,6 +1,6 @@
 //! A source in a file.
 ghost use Rattle.std.specs.Prelude.{◌≡◌};
-ghost use Rattle.flash_store.specs.Storing.{stored_device};
+ghost use Rattle.flash_store.specs.Files.{stored_device};
 
 use crate::storage::Storage;
 use crate::transfer::read_whole;
@@ -17,7 +17,7 @@ pub struct StoredSource<S: Storage> {
 
 impl<S: Storage> Model for StoredSource<S> {
     ghost use Rattle.flash_device.specs.Device.{Device};
-    ghost use Rattle.flash_store.specs.Storing.{stored_device};
+    ghost use Rattle.flash_store.specs.Files.{stored_device};
 
     ghost Value = { Device };
 

@@ -1,7 +1,7 @@
 //! Complete transfers by repeated file calls, with device contracts.
 ghost use Rattle.std.specs.Prelude.{◌≡◌, ◌+◌, ◌<◌, ◌≤◌, length, IfOk, OnOk, IsTrue};
 ghost use Rattle.flash_device.specs.Device.{OneRead, OneWrite, OneCommit, refusals};
-ghost use Rattle.flash_store.specs.Storing.{
+ghost use Rattle.flash_store.specs.Files.{
   stored_device,
   SameFile,
   IsReserved,

@@ -1,3 +1,3 @@
-pub mod Compiling
+pub mod Compilations
 pub mod Prefixes
 mod CompiledMaps

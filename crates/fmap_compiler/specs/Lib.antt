@@ -1,3 +1,3 @@
 pub mod Outcome
-pub mod Reading
+pub mod TextReaders
 pub mod Laws

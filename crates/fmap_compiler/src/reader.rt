@@ -43,7 +43,7 @@ pub struct ReadText<R: Read> {
 }
 
 impl<R: Read> Model for ReadText<R> {
-    ghost use Rattle.fmap_compiler.specs.Reading.{Reader};
+    ghost use Rattle.fmap_compiler.specs.TextReaders.{Reader};
 
     ghost Value = { Reader R };
 

@@ -9,7 +9,7 @@ use Rattle.std.proofs.lemmas.List.Elements.{All-head, All-tail}
 use Rattle.fmd_lang.specs.Words.{Word, words, kind_of, without_comments}
 use Rattle.fmd_lang.specs.Numbers.{number_at, literal_value}
 use Rattle.fmd_lang.specs.Tree.{Tree, section, Forest, none, some}
-use Rattle.fmd_lang.specs.Parsing.{IsBody}
+use Rattle.fmd_lang.specs.ParserResults.{IsBody}
 use Rattle.fmd_lang.specs.Grammar.{Then, One, IsA, IsName, IsSection, AreSections, AreAnnotations, HaveFlags, IsOffset, IsSize, HasValue, Until, annotation_flag, flags_with}
 use Rattle.fmd_lang.specs.Faults.{Stage, start, in_annotations, at_sign, past, Standing, token_fault, fault_from, first_fault, next_standing, wanted_at}
 use Rattle.fmd_lang.specs.declared.word.Kind.{Kind}

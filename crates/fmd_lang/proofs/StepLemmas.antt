@@ -4,8 +4,8 @@ use Rattle.std.proofs.lemmas.List.{append-nil}
 use Rattle.fmd_lang.specs.Words.{Word, words_after, kind_of}
 use Rattle.fmd_lang.specs.Grammar.{One, Then, IsA, HasValue, annotation_flag}
 use Rattle.fmd_lang.specs.Faults.{Stage, Standing, token_fault, next_standing, fault_after, fault_from, wanted_at}
-use Rattle.fmd_lang.specs.Lexing.{word_of, piece_end}
-use Rattle.fmd_lang.specs.Parsing.{ParsesFront, Parses, IsNext}
+use Rattle.fmd_lang.specs.Tokens.{word_of, piece_end}
+use Rattle.fmd_lang.specs.ParserResults.{ParsesFront, Parses, IsNext}
 use Rattle.fmd_lang.specs.declared.parser.Token.{Token}
 use Rattle.fmd_lang.specs.declared.word.Kind.{Kind}
 use Rattle.fmd_lang.specs.declared.word.Kind.TheVariants.{End, Number}

@@ -6,7 +6,7 @@ use Rattle.std.specs.Int.Bits.{bit_or}
 use Rattle.fmd_lang.specs.Words.{Word, words, kind_of}
 use Rattle.fmd_lang.specs.Numbers.{literal_value}
 use Rattle.fmd_lang.specs.Tree.{Tree, section, Forest, none, some}
-use Rattle.fmd_lang.specs.Parsing.{IsBody}
+use Rattle.fmd_lang.specs.ParserResults.{IsBody}
 use Rattle.fmd_lang.specs.Grammar.{Then, IsA, IsSection, AreSections, AreAnnotations, IsOffset, IsSize, annotation_flag, flags_with}
 use Rattle.fmd_lang.specs.Faults.{Stage, Standing, start, in_annotations, at_sign, past, token_fault, next_standing, text_limit, fault_from, first_fault}
 use Rattle.fmd_lang.specs.declared.fault.FmdFault.TheVariants as faults

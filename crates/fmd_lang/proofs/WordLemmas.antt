@@ -5,7 +5,7 @@ use Rattle.std.proofs.lemmas.List.{drop_all, drop-drop, length-drop, take_all}
 use Rattle.std.proofs.lemmas.Grind.{common_steps}
 use Rattle.std.proofs.lemmas.List.Sums.{take_while-cons}
 use Rattle.std.specs.List.{position_or_len, prefix_len, take_while}
-use Rattle.fmd_lang.specs.Lexing.{begins_word}
+use Rattle.fmd_lang.specs.Tokens.{begins_word}
 use Rattle.fmd_lang.specs.Words.{words_from, without_comments, words_after, word, is_blank, is_plain}
 
 pub here : (text : List ℕ) (at : ℕ) → at < length text → drop at text ≡ slice_index text at ∷ drop (at + 1) text

@@ -5,6 +5,6 @@ pub mod Grammar
 pub mod Faults
 pub mod Layout
 pub mod Table
-pub mod Lexing
-pub mod Parsing
+pub mod Tokens
+pub mod ParserResults
 pub mod LayoutFaults

@@ -4,12 +4,12 @@ ghost use Rattle.std.specs.Prelude.{◌≡◌, ◌≢◌, ◌≤◌, ◌<◌, �
 ghost use Rattle.std.specs.Prelude.{Some, None, Err, IfOk, IfErr, MatchOption, MatchResult};
 ghost use Rattle.std.specs.Result.{result_err};
 ghost use Rattle.fmd_lang.specs.Words.{words, words_after, kind_of};
-ghost use Rattle.fmd_lang.specs.Lexing.{word_of, piece_end};
+ghost use Rattle.fmd_lang.specs.Tokens.{word_of, piece_end};
 ghost use Rattle.fmd_lang.specs.Faults.{Stage, depth_limit, fault_from, token_fault, FailsWith, start};
 ghost use Rattle.fmd_lang.specs.Faults.{past, at_sign, in_annotations, wanted_at, first_fault};
 ghost use Rattle.fmd_lang.specs.Grammar.{One, HasValue, HaveFlags, IsA, IsOffset, IsSize};
 ghost use Rattle.fmd_lang.specs.Grammar.{AreAnnotations, AreSections, IsSection, Until, flags_with};
-ghost use Rattle.fmd_lang.specs.Parsing.{Parses, IsNext, IsBody};
+ghost use Rattle.fmd_lang.specs.ParserResults.{Parses, IsNext, IsBody};
 ghost use Rattle.fmd_lang.specs.Tree.{view, views};
 ghost use Rattle.fmd_lang.specs.Grammar as grammar;
 ghost use Rattle.fmd_lang.specs.declared.word.Kind.TheVariants.{CloseBrace, CloseParen, Name};

@@ -5,7 +5,7 @@ ghost use Rattle.std.specs.Prelude.{slice_index, slice_range, IsTrue};
 ghost use Rattle.std.specs.List.{position_or_len, prefix_len};
 ghost use Rattle.fmd_lang.specs.Words.{words_after, word};
 ghost use Rattle.fmd_lang.specs.Words as spec;
-ghost use Rattle.fmd_lang.specs.Lexing.{begins_word, IsFirst, piece_end};
+ghost use Rattle.fmd_lang.specs.Tokens.{begins_word, IsFirst, piece_end};
 
 /// The kind of a token, by the first byte.
 #[derive(Clone, Copy)]

@@ -9,9 +9,9 @@ use Rattle.std.proofs.lemmas.List.Elements.{Contains-append_right}
 use Rattle.flash_format.specs.Head.{head_of, is_free}
 use Rattle.flash_format.specs.Cut.{cut}
 use Rattle.flash_format.specs.Components.{Component, component_at, components_from}
-use Rattle.cbfs_walk.specs.Finding.{component_in, first_named}
+use Rattle.cbfs_walk.specs.Search.{component_in, first_named}
 use Rattle.cbfs_walk.specs.Shapes.{refused_or}
-use Rattle.cbfs_walk.specs.Shaped.{place_after}
+use Rattle.cbfs_walk.specs.CellReadings.{place_after}
 use Rattle.cbfs_walk.specs.declared.walk.WalkFault.{WalkFault}
 use Rattle.check_findings.specs.Region.Laws.{UnshadowedAreFound}
 use Rattle.check_findings.specs.Region.RegionFindings.{all_marked, component_finding, cells_findings, counts_of, end_findings, is_named, shape_findings, region_findings, walk_findings}

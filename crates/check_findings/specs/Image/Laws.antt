@@ -8,11 +8,11 @@ use Rattle.flash_format.specs.Cut.{cut, damage, tail}
 use Rattle.flash_format.specs.Flashmap.{is_area, text_of}
 use Rattle.flash_map.specs.Regions.{region_of}
 use Rattle.flash_map.specs.declared.areas.NumberedArea.{NumberedArea}
-use Rattle.cbfs_walk.specs.Finding.{component_in}
+use Rattle.cbfs_walk.specs.Search.{component_in}
 use Rattle.cbfs_walk.specs.Hashes.{hash_state}
 use Rattle.cbfs_walk.specs.Shapes.{shape_fault}
 use Rattle.cbfs_walk.specs.declared.hashes.HashState.TheVariants.{Invalid}
-use Rattle.cbfs_walk.specs.Shaped.{place_after}
+use Rattle.cbfs_walk.specs.CellReadings.{place_after}
 use Rattle.check_findings.specs.Region.Laws.{IsBlankTail}
 use Rattle.check_findings.specs.Region.RegionFindings.{component_content, region_findings}
 use Rattle.check_findings.specs.Image.ImageFindings.{bytes_of, image_findings, range_of}

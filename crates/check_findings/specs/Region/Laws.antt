@@ -2,7 +2,7 @@
 use Rattle.std.specs.Prelude.{◌≡◌, ◌↔◌, ℕ, true, false, All, Contains, List, [], ◌∷◌, Some}
 use Rattle.std.specs.Prelude.{None, Ok}
 use Rattle.flash_format.specs.Components.{Component, components}
-use Rattle.cbfs_walk.specs.Finding.{component_in}
+use Rattle.cbfs_walk.specs.Search.{component_in}
 use Rattle.cbfs_walk.specs.Shapes.{shape_fault}
 use Rattle.check_findings.specs.Region.RegionFindings.{component_finding, is_filled}
 use Rattle.check_findings.specs.Region.RegionFindings.{region_findings, tail_bytes}

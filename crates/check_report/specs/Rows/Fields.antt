@@ -8,7 +8,7 @@ use Rattle.std.specs.Str.{is_utf8}
 use lib.Chars.{codes}
 use Rattle.json.specs.Json.{Json, number, string, array, object, Items, no_items, item, Members}
 use Rattle.json.specs.Json.{no_members, member}
-use Rattle.flash_format.specs.Printed.{hexadecimal, printed_name, tab, line_feed}
+use Rattle.flash_format.specs.Texts.{hexadecimal, printed_name, tab, line_feed}
 use Rattle.flash_format.specs.TypeNames.{name_of_type}
 use Rattle.check_report.specs.declared.rows.field.Value.{Value}
 use Rattle.check_report.specs.declared.rows.field.Value.TheVariants as values

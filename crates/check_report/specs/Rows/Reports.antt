@@ -8,7 +8,7 @@ use Rattle.json.specs.Json.{Json, array}
 use Rattle.json.specs.Token.{Token, begin_array, begin_object, end_array, end_object, key}
 use Rattle.json.specs.Tree.{json_tokens}
 use Rattle.json.specs.Print.{print, print_from}
-use Rattle.flash_format.specs.Printed.{line_feed}
+use Rattle.flash_format.specs.Texts.{line_feed}
 use Rattle.check_report.specs.declared.request.Files.{Files}
 use Rattle.check_report.specs.declared.rows.kinds.Counts.{Counts}
 use Rattle.check_report.specs.declared.rows.form.Form.{Form}

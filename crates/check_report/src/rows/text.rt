@@ -2,7 +2,7 @@
 ghost use Rattle.std.specs.Prelude.{◌≡◌, ◌++◌, map, IfOk, OnOk};
 ghost use Rattle.std.specs.List.{flat_map};
 ghost use Rattle.std.specs.Fmt.{decimal};
-ghost use Rattle.flash_format.specs.Printed.{printed_name};
+ghost use Rattle.flash_format.specs.Texts.{printed_name};
 ghost use Rattle.check_report.specs.Rows.Fields.{field_text, line_text, seen_field};
 ghost use Rattle.check_report.specs.Rows.Rows.{summary};
 

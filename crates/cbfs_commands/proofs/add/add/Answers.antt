@@ -1,6 +1,6 @@
 use Rattle.std.proofs.Common.{IsTrue, refl, rules}
 use Rattle.flash_device.proofs.DeviceLemmas.{honest_still}
-use Rattle.cbfs_commands.proofs.Editing.{addition_refused}
+use Rattle.cbfs_commands.proofs.RefusedEdits.{addition_refused}
 use Rattle.cbfs_commands.proofs.add.add.Goals as goal
 
 pub returns-in_err-add : goal.returns-in_err-add

@@ -1,7 +1,7 @@
 use Rattle.std.proofs.Common.{refl, rules}
 use Rattle.std.specs.Prelude.{map}
 use Rattle.cbfs_commands.specs.Effects.{creates}
-use Rattle.cbfs_commands.proofs.Running.{told_runs, fed_runs, removal_runs}
+use Rattle.cbfs_commands.proofs.CommandEffects.{told_runs, fed_runs, removal_runs}
 use Rattle.cbfs_commands.proofs.execution.dispatch.Goals as goal
 
 pub returns-in-Print : goal.returns-in-Print

@@ -1,5 +1,5 @@
 use Rattle.std.proofs.Common.{rules}
-use Rattle.cbfs_commands.proofs.Telling.{told_by_parts}
+use Rattle.cbfs_commands.proofs.OutputParts.{told_by_parts}
 use Rattle.cbfs_commands.proofs.extract.extract.Goals as goal
 
 pub returns-in_err-cell : goal.returns-in_err-cell

@@ -1,4 +1,4 @@
-use Rattle.cbfs_commands.proofs.Extracted.{additions_extracted, files_extracted}
+use Rattle.cbfs_commands.proofs.ExtractedContents.{additions_extracted, files_extracted}
 use Rattle.cbfs_commands.proofs.laws.additions_are_extracted.Goals as goal
 
 pub returns : goal.returns

@@ -1,4 +1,4 @@
-use Rattle.cbfs_commands.proofs.ByRegion.{outcomes_of_region}
+use Rattle.cbfs_commands.proofs.RegionOutcomes.{outcomes_of_region}
 use Rattle.cbfs_commands.proofs.laws.outcomes_are_of_the_region.Goals as goal
 
 pub returns : goal.returns

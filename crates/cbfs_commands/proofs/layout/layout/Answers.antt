@@ -2,7 +2,7 @@ use Rattle.std.proofs.Common.{◌+◌, ◌/◌, arith, length, refl}
 use Rattle.cbfs_commands.specs.Rows.{layout}
 use Rattle.cbfs_commands.specs.Printouts.{shows}
 use Rattle.cbfs_commands.proofs.Areas.{layout-is, rows_of}
-use Rattle.cbfs_commands.proofs.Telling.{so_far-ends, so_far-more, so_far-none, printout-row, printout-stopped}
+use Rattle.cbfs_commands.proofs.OutputParts.{so_far-ends, so_far-more, so_far-none, printout-row, printout-stopped}
 use Rattle.cbfs_commands.proofs.layout.layout.Goals as goal
 
 pub returns-in_err-put_row : goal.returns-in_err-put_row

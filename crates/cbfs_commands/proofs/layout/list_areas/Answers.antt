@@ -1,6 +1,6 @@
 use Rattle.std.proofs.Common.{◌+◌, List, ℕ, arith}
 use Rattle.cbfs_commands.proofs.Areas.{every, none_left, one_less, rows_left}
-use Rattle.cbfs_commands.proofs.Telling.{so_far-ends, so_far-more, so_far-none, printout-none, printout-stopped}
+use Rattle.cbfs_commands.proofs.OutputParts.{so_far-ends, so_far-more, so_far-none, printout-none, printout-stopped}
 use Rattle.cbfs_commands.proofs.layout.list_areas.Goals as goal
 
 pub loop-i-init : goal.loop-i-init

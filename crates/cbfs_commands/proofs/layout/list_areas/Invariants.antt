@@ -1,7 +1,7 @@
 use Rattle.std.proofs.Common.{◌+◌}
 use Rattle.cbfs_commands.specs.Printouts.{shows}
 use Rattle.cbfs_commands.proofs.Areas.{rows_left, rows_of}
-use Rattle.cbfs_commands.proofs.Telling.{ToldSoFar}
+use Rattle.cbfs_commands.proofs.OutputParts.{ToldSoFar}
 use Rattle.cbfs_commands.proofs.layout.list_areas.Given as goal
 
 abbrev pub invariant-loop-i : goal.invariant-loop-i

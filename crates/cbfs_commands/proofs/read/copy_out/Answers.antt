@@ -8,7 +8,7 @@ use Rattle.flash_device.specs.declared.paged.CopyFault.TheVariants as copy
 use Rattle.cbfs_commands.specs.declared.refusal.Refusal.TheVariants as refusals
 use Rattle.cbfs_commands.specs.Refusals.{copy_refusal}
 use Rattle.cbfs_commands.specs.Printouts.{CommandResult, HasOutput, shows}
-use Rattle.cbfs_commands.proofs.Telling.{handed}
+use Rattle.cbfs_commands.proofs.OutputParts.{handed}
 use Rattle.cbfs_commands.proofs.read.copy_out.Goals as goal
 
 module _ {F W : Type 0} {facts : F → Device} {contents : W → Option (List ℕ)} {faults : W → ℕ} {k at n : ℕ} {old new : Pages F} {a b : W} {answer : CommandResult} where

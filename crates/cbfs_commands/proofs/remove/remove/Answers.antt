@@ -1,6 +1,6 @@
 use Rattle.std.proofs.Common.{[], IsTrue, rules}
 use Rattle.flash_device.proofs.DeviceLemmas.{honest_still}
-use Rattle.cbfs_commands.proofs.Editing.{removal_refused}
+use Rattle.cbfs_commands.proofs.RefusedEdits.{removal_refused}
 use Rattle.cbfs_commands.proofs.remove.remove.Goals as goal
 
 pub returns-in_err-remove : goal.returns-in_err-remove

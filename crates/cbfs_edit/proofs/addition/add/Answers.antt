@@ -5,7 +5,7 @@ use Rattle.flash_device.proofs.DeviceLemmas.{honest_still}
 use Rattle.cbfs_edit.specs.Additions.{new_component, placed_of}
 use Rattle.cbfs_edit.specs.declared.fault.EditFault.TheVariants as faults
 use Rattle.cbfs_edit.specs.declared.place.Wanted.{Wanted}
-use Rattle.cbfs_edit.proofs.Added.{own-is, no_fault, told, digest-sized, found_in, place_found, written, source_leaves, device_leaves, no_error, copy_cause, copy_only, copy_source, content_read, sought_written}
+use Rattle.cbfs_edit.proofs.AdditionLemmas.{own-is, no_fault, told, digest-sized, found_in, place_found, written, source_leaves, device_leaves, no_error, copy_cause, copy_only, copy_source, content_read, sought_written}
 use Rattle.cbfs_edit.proofs.Removals.{image_of}
 use Rattle.cbfs_edit.proofs.addition.add.Goals as goal
 

@@ -3,7 +3,7 @@ use Rattle.std.specs.Option.{option_map}
 use Rattle.flash_format.specs.Made.{algorithm_row, hash_len}
 use Rattle.flash_format.specs.declared.digest.Algorithm.{Algorithm}
 use Rattle.cbfs_walk.specs.Hashes.{hashed_by}
-use Rattle.cbfs_walk.proofs.Hashing.{algorithm-hashed}
+use Rattle.cbfs_walk.proofs.Digests.{algorithm-hashed}
 use Rattle.cbfs_edit.proofs.addition.attribute_len.Goals as goal
 
 pub returns-in-Some-clause-is : goal.returns-in-Some-clause-is

@@ -1,4 +1,4 @@
-use Rattle.cbfs_edit.proofs.FoundAgain.{additions_found}
+use Rattle.cbfs_edit.proofs.SearchLaws.{additions_found}
 use Rattle.cbfs_edit.proofs.laws.additions_are_found.Goals as goal
 
 pub returns : goal.returns

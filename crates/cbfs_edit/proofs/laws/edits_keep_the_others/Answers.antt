@@ -1,4 +1,4 @@
-use Rattle.cbfs_edit.proofs.FoundAgain.{additions_keep, removals_keep}
+use Rattle.cbfs_edit.proofs.SearchLaws.{additions_keep, removals_keep}
 use Rattle.cbfs_edit.proofs.laws.edits_keep_the_others.Goals as goal
 
 pub returns : goal.returns

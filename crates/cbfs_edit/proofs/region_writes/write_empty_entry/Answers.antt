@@ -2,7 +2,7 @@ use Rattle.std.proofs.Common.{◌-◌, ◌+◌, IsTrue, ap, rules}
 use Rattle.std.proofs.lemmas.Result.{on_ok_weaker}
 use Rattle.flash_format.specs.Made.{header_length}
 use Rattle.flash_device.proofs.DeviceLemmas.{honest_still}
-use Rattle.cbfs_edit.proofs.Emptied.{commit_left, fill_done, fill_left, same_region_length}
+use Rattle.cbfs_edit.proofs.EmptyEntries.{commit_left, fill_done, fill_left, same_region_length}
 use Rattle.cbfs_edit.proofs.region_writes.write_empty_entry.Goals as goal
 
 pub returns-in_err-commit_in : goal.returns-in_err-commit_in

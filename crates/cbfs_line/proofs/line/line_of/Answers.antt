@@ -1,7 +1,7 @@
 use Rattle.std.specs.Box.{box_value}
 use Rattle.clap.specs.Words.{found_of, rows_of, subcommand_rows_of}
 use Rattle.clap.specs.declared.parser.matches.ArgMatches.TheViews.{out-ArgMatches, out-SubCommand}
-use Rattle.cbfs_line.proofs.Matching.{met, line-is}
+use Rattle.cbfs_line.proofs.Matches.{met, line-is}
 use Rattle.cbfs_line.proofs.line.line_of.Goals as goal
 
 pub returns : goal.returns

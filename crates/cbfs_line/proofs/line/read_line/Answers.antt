@@ -5,7 +5,7 @@ use Rattle.clap.specs.Words.{App, Row, fault_of, is_simple, is_simple_and_free, 
 use Rattle.clap.specs.declared.error.kind.ErrorKind.{ErrorKind}
 use Rattle.cbfs_line.specs.Subcommands.{command_line}
 use Rattle.cbfs_line.specs.CommandLine.{refusal_by, texts_of, with_image}
-use Rattle.cbfs_line.proofs.Matching.{simple, simple_shape, faultless}
+use Rattle.cbfs_line.proofs.Matches.{simple, simple_shape, faultless}
 use Rattle.cbfs_line.proofs.line.read_line.Goals as goal
 
 pub returns-in_default-clause-wordless : goal.returns-in_default-clause-wordless

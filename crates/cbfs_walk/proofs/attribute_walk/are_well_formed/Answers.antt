@@ -1,6 +1,6 @@
 use Rattle.std.proofs.Common.{true, false, refl}
 use Rattle.std.proofs.lemmas.Result.{err_from_is_err_and}
-use Rattle.cbfs_walk.proofs.Scanning.{scanning_start, scanned, lies_still, asked_more, asked_here, are_formed, formed_more, formed_end, formed_malformed}
+use Rattle.cbfs_walk.proofs.AttributeScans.{scanning_start, scanned, lies_still, asked_more, asked_here, are_formed, formed_more, formed_end, formed_malformed}
 use Rattle.cbfs_walk.proofs.attribute_walk.are_well_formed.Goals as goal
 
 pub loop-head-init : goal.loop-head-init

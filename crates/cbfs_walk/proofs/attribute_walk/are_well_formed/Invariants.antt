@@ -1,5 +1,5 @@
 use Rattle.std.proofs.Common.{◌-◌}
-use Rattle.cbfs_walk.proofs.Scanning.{Scanning, AsksRest, are_formed}
+use Rattle.cbfs_walk.proofs.AttributeScans.{Scanning, AsksRest, are_formed}
 use Rattle.cbfs_walk.proofs.attribute_walk.are_well_formed.Given as goal
 
 abbrev pub invariant-loop-head : goal.invariant-loop-head

@@ -1,4 +1,4 @@
-use Rattle.cbfs_walk.proofs.Listing.{walk_all}
+use Rattle.cbfs_walk.proofs.AttributeLists.{walk_all}
 use Rattle.cbfs_walk.proofs.attribute_walk.attributes.Goals as goal
 
 pub returns-clause-all : goal.returns-clause-all

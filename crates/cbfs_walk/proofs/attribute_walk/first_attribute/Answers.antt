@@ -3,8 +3,8 @@ use Rattle.std.proofs.lemmas.Bool.{eq-eqb, ne_eqb}
 use Rattle.std.proofs.lemmas.Result.{err_from_is_err_and}
 use Rattle.cbfs_walk.specs.AttrWalks.{first_in}
 use Rattle.cbfs_walk.proofs.CellNames.{has_field}
-use Rattle.cbfs_walk.proofs.Reading.{Passes-then}
-use Rattle.cbfs_walk.proofs.Scanning.{scanning_start, lies_still, asked_more, asked_here, first_more, first_here, first_none, first_is}
+use Rattle.cbfs_walk.proofs.ReadSequences.{Passes-then}
+use Rattle.cbfs_walk.proofs.AttributeScans.{scanning_start, lies_still, asked_more, asked_here, first_more, first_here, first_none, first_is}
 use Rattle.cbfs_walk.proofs.attribute_walk.first_attribute.Goals as goal
 
 pub loop-head-init : goal.loop-head-init

@@ -1,6 +1,6 @@
 use Rattle.std.proofs.Common.{◌-◌}
 use Rattle.cbfs_walk.specs.AttrWalks.{first_in}
-use Rattle.cbfs_walk.proofs.Scanning.{Scanning, AsksRest}
+use Rattle.cbfs_walk.proofs.AttributeScans.{Scanning, AsksRest}
 use Rattle.cbfs_walk.proofs.attribute_walk.first_attribute.Given as goal
 
 abbrev pub invariant-loop-head : goal.invariant-loop-head

@@ -1,7 +1,7 @@
 use Rattle.std.proofs.Common.{refl, ap, ◌∙◌, true, false}
 use Rattle.flash_format.specs.Entry.{attr_head_of}
-use Rattle.cbfs_walk.proofs.Listing.{listed_tested}
-use Rattle.cbfs_walk.proofs.Reading.{Passes-none}
+use Rattle.cbfs_walk.proofs.AttributeLists.{listed_tested}
+use Rattle.cbfs_walk.proofs.ReadSequences.{Passes-none}
 use Rattle.cbfs_walk.proofs.attribute_walk.listed_at.Goals as goal
 
 pub returns-then-is_unused-clause-listed : goal.returns-then-is_unused-clause-listed

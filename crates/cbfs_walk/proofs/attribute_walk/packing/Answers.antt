@@ -1,7 +1,7 @@
 use Rattle.std.proofs.Common.{arith, le_refl}
 use Rattle.flash_device.proofs.DeviceLemmas.{honest_still}
-use Rattle.cbfs_walk.proofs.Reading.{Passes-answers, Passes-then, IfOk-to}
-use Rattle.cbfs_walk.proofs.Scanning.{packing_found}
+use Rattle.cbfs_walk.proofs.ReadSequences.{Passes-answers, Passes-then, IfOk-to}
+use Rattle.cbfs_walk.proofs.AttributeScans.{packing_found}
 use Rattle.cbfs_walk.proofs.attribute_walk.packing.Goals as goal
 
 pub returns-in-Some-clause-after : goal.returns-in-Some-clause-after

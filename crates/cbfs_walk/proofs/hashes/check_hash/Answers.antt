@@ -1,8 +1,8 @@
 use Rattle.std.proofs.Common.{arith, le_refl, rules}
 use Rattle.flash_device.proofs.WindowLemmas.{HasRead-within}
 use Rattle.std.proofs.lemmas.Result.{err_from_is_err_and}
-use Rattle.cbfs_walk.proofs.Reading.{Passes-then, Passes-answers}
-use Rattle.cbfs_walk.proofs.Hashing.{compared_is_told, state_found, read_to_content}
+use Rattle.cbfs_walk.proofs.ReadSequences.{Passes-then, Passes-answers}
+use Rattle.cbfs_walk.proofs.Digests.{compared_is_told, state_found, read_to_content}
 use Rattle.cbfs_walk.proofs.hashes.check_hash.Goals as goal
 
 pub returns-in_err-stored-in-Some-clause-after : goal.returns-in_err-stored-in-Some-clause-after

@@ -1,9 +1,9 @@
 use Rattle.std.proofs.Common.{arith, ◌+◌}
 use Rattle.flash_device.specs.Regions.{bytes_in}
 use Rattle.std.proofs.lemmas.Result.{err_from_is_err_and}
-use Rattle.cbfs_walk.proofs.Reading.{Passes-within}
-use Rattle.cbfs_walk.proofs.Scanning.{scanned, lies_still}
-use Rattle.cbfs_walk.proofs.Hashing.{taking_more, content_taken}
+use Rattle.cbfs_walk.proofs.ReadSequences.{Passes-within}
+use Rattle.cbfs_walk.proofs.AttributeScans.{scanned, lies_still}
+use Rattle.cbfs_walk.proofs.Digests.{taking_more, content_taken}
 use Rattle.cbfs_walk.proofs.hashes.hash_content.Goals as goal
 
 pub piece_in-requires-clause-region : goal.piece_in-requires-clause-region

@@ -1,5 +1,5 @@
 use Rattle.std.proofs.Common.{◌-◌}
-use Rattle.cbfs_walk.proofs.Hashing.{Taking}
+use Rattle.cbfs_walk.proofs.Digests.{Taking}
 use Rattle.cbfs_walk.proofs.hashes.hash_content.Given as goal
 
 abbrev pub invariant-loop-at : goal.invariant-loop-at

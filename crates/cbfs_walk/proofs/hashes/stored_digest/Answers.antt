@@ -1,8 +1,8 @@
 use Rattle.std.proofs.Common.{arith, le_refl, sym, ◌∙◌, None}
 use Rattle.std.proofs.lemmas.Result.{err_from_is_err_and}
 use Rattle.flash_device.proofs.DeviceLemmas.{honest_still}
-use Rattle.cbfs_walk.proofs.Reading.{Passes-then, Passes-within}
-use Rattle.cbfs_walk.proofs.Hashing.{stored_by, stored_whole, stored_short}
+use Rattle.cbfs_walk.proofs.ReadSequences.{Passes-then, Passes-within}
+use Rattle.cbfs_walk.proofs.Digests.{stored_by, stored_whole, stored_short}
 use Rattle.cbfs_walk.proofs.hashes.stored_digest.Goals as goal
 
 pub returns-in_default-clause-passes : goal.returns-in_default-clause-passes

@@ -1,4 +1,4 @@
-use Rattle.cbfs_walk.proofs.FirstNamed.{found_first, first_found, listed_found}
+use Rattle.cbfs_walk.proofs.FirstComponents.{found_first, first_found, listed_found}
 use Rattle.cbfs_walk.proofs.laws.listed_components_are_found.Goals as goal
 
 pub returns : goal.returns

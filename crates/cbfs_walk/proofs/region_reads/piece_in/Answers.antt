@@ -1,6 +1,6 @@
 use Rattle.std.proofs.Common.{refl}
 use Rattle.cbfs_walk.proofs.Parts.{part-in}
-use Rattle.cbfs_walk.proofs.Reading.{Passes-seen}
+use Rattle.cbfs_walk.proofs.ReadSequences.{Passes-seen}
 use Rattle.cbfs_walk.proofs.region_reads.piece_in.Goals as goal
 
 pub returns : goal.returns

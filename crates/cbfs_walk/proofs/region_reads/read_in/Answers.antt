@@ -1,6 +1,6 @@
 use Rattle.std.proofs.Common.{ap, ◌+◌}
 use Rattle.cbfs_walk.proofs.Parts.{read_part}
-use Rattle.cbfs_walk.proofs.Reading.{Passes-seen}
+use Rattle.cbfs_walk.proofs.ReadSequences.{Passes-seen}
 use Rattle.cbfs_walk.proofs.region_reads.read_in.Goals as goal
 
 pub returns-clause-passes : goal.returns-clause-passes

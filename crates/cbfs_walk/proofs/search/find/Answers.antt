@@ -1,6 +1,6 @@
 use Rattle.std.proofs.Common.{inr, rules}
 use Rattle.std.proofs.lemmas.Result.{err_from_is_err_and}
-use Rattle.cbfs_walk.proofs.Searching.{searching_start, searching_more, found_first, found_answer, last_after, last_answer, searching_err}
+use Rattle.cbfs_walk.proofs.SearchSteps.{searching_start, searching_more, found_first, found_answer, last_after, last_answer, searching_err}
 use Rattle.cbfs_walk.proofs.search.find.Goals as goal
 
 pub loop-cell-init : goal.loop-cell-init

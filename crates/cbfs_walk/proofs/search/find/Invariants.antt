@@ -1,5 +1,5 @@
 use Rattle.std.proofs.Common.{◌-◌}
-use Rattle.cbfs_walk.proofs.Searching.{Searching}
+use Rattle.cbfs_walk.proofs.SearchSteps.{Searching}
 use Rattle.cbfs_walk.proofs.search.find.Given as goal
 
 abbrev pub invariant-loop-cell : goal.invariant-loop-cell

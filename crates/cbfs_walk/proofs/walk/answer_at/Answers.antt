@@ -7,7 +7,7 @@ use Rattle.flash_device.proofs.DeviceLemmas.{honest_still}
 use Rattle.cbfs_walk.specs.Shapes.{has_bad_size}
 use Rattle.cbfs_walk.proofs.Parts.{length-region, length-rest}
 use Rattle.cbfs_walk.proofs.Checks.{checked_extent, entry_absent, entry_present}
-use Rattle.cbfs_walk.proofs.Answering.{answer_shape, answer_end, answer_absent, answer_entry, answer_cell, cell_reads, cell_gives}
+use Rattle.cbfs_walk.proofs.StepResults.{answer_shape, answer_end, answer_absent, answer_entry, answer_cell, cell_reads, cell_gives}
 use Rattle.cbfs_walk.proofs.walk.answer_at.Goals as goal
 
 pub returns-then-has_bad_size-clause-answer : goal.returns-then-has_bad_size-clause-answer

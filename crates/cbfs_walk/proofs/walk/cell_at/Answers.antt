@@ -1,8 +1,8 @@
 use Rattle.std.proofs.Common.{arith, inr, le_refl, sym, drop}
 use Rattle.flash_device.specs.Regions.{bytes_in}
 use Rattle.cbfs_walk.proofs.Checks.{checks_give}
-use Rattle.cbfs_walk.proofs.Reading.{Passes-none, Passes-within}
-use Rattle.cbfs_walk.proofs.Answering.{answer_free, answer_damaged, answer_whole}
+use Rattle.cbfs_walk.proofs.ReadSequences.{Passes-none, Passes-within}
+use Rattle.cbfs_walk.proofs.StepResults.{answer_free, answer_damaged, answer_whole}
 use Rattle.cbfs_walk.proofs.walk.cell_at.Goals as goal
 
 pub damage_in-requires-clause-inside : goal.damage_in-requires-clause-inside

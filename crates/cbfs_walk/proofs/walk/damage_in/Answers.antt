@@ -1,6 +1,6 @@
 use Rattle.std.proofs.Common.{arith}
 use Rattle.std.proofs.lemmas.Result.{err_from_is_err_and}
-use Rattle.cbfs_walk.proofs.Reading.{Passes-then, Passes-within}
+use Rattle.cbfs_walk.proofs.ReadSequences.{Passes-then, Passes-within}
 use Rattle.cbfs_walk.proofs.walk.damage_in.Goals as goal
 
 pub returns-in_err-has_name_end-clause-passes : goal.returns-in_err-has_name_end-clause-passes

@@ -1,6 +1,6 @@
 use Rattle.std.proofs.Common.{arith}
 use Rattle.cbfs_walk.proofs.Parts.{front_read, length-region}
-use Rattle.cbfs_walk.proofs.Reading.{Passes-none}
+use Rattle.cbfs_walk.proofs.ReadSequences.{Passes-none}
 use Rattle.cbfs_walk.proofs.walk.front_at.Goals as goal
 
 pub returns-clause-head : goal.returns-clause-head

@@ -1,4 +1,4 @@
-use Rattle.flash_format.proofs.Placed.{components_placed, empty_is_space}
+use Rattle.flash_format.proofs.Placings.{components_placed, empty_is_space}
 use Rattle.flash_format.proofs.laws.components_are_placed.Goals as goal
 
 pub returns : goal.returns

@@ -1,6 +1,6 @@
 use Rattle.std.proofs.Common.{◌≡◌, ◌+◌, ◌*◌, ◌≤◌, ◌++◌, take}
 use Rattle.arrayvec.specs.ArrayVec.{array_vec_len}
-use Rattle.flash_format.specs.Printed.{printed_name}
+use Rattle.flash_format.specs.Texts.{printed_name}
 use Rattle.flash_format.proofs.printed_name.push_name.Given as goal
 
 abbrev pub invariant-loop-byte : goal.invariant-loop-byte

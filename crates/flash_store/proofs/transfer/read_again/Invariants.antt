@@ -1,4 +1,4 @@
-use Rattle.flash_store.specs.Storing.{SameBytes}
+use Rattle.flash_store.specs.Files.{SameBytes}
 use Rattle.flash_store.proofs.transfer.read_again.Given as goal
 
 abbrev pub invariant-loop : goal.invariant-loop

@@ -1,6 +1,6 @@
 use Rattle.std.proofs.Common.{subst, arith, length, take, ◌≡◌}
 use Rattle.std.proofs.lemmas.List.{length-take-le}
-use Rattle.flash_store.specs.Storing.{HasReadSome}
+use Rattle.flash_store.specs.Files.{HasReadSome}
 use Rattle.flash_store.proofs.StoringLemmas.{front_read}
 use Rattle.flash_store.proofs.transfer.read_front.Goals as goal
 

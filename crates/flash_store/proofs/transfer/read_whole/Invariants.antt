@@ -1,5 +1,5 @@
 use Rattle.std.proofs.Common.{length, ◌-◌, ◌≡◌, ◌≤◌, take, drop, IsTrue}
-use Rattle.flash_store.specs.Storing.{SameBytes}
+use Rattle.flash_store.specs.Files.{SameBytes}
 use Rattle.flash_store.proofs.transfer.read_whole.Given as goal
 
 abbrev pub invariant-loop-done : goal.invariant-loop-done

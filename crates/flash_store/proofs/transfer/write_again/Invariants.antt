@@ -1,5 +1,5 @@
 use Rattle.std.proofs.Common.{◌≡◌, IsTrue}
-use Rattle.flash_store.specs.Storing.{SameFile}
+use Rattle.flash_store.specs.Files.{SameFile}
 use Rattle.flash_store.proofs.transfer.write_again.Given as goal
 
 abbrev pub invariant-loop : goal.invariant-loop

@@ -1,6 +1,6 @@
 use Rattle.std.proofs.Common.{length, ◌-◌, ◌≡◌, ◌≤◌, take, IsTrue}
 use Rattle.flash_device.specs.Device.{overwritten}
-use Rattle.flash_store.specs.Storing.{SameFile}
+use Rattle.flash_store.specs.Files.{SameFile}
 use Rattle.flash_store.proofs.transfer.write_whole.Given as goal
 
 abbrev pub invariant-loop-done : goal.invariant-loop-done

@@ -3,7 +3,7 @@ use Rattle.std.proofs.lemmas.Result.{IfOk-weaker}
 use Rattle.fmd_lang.specs.Table.{table_bytes}
 use Rattle.fmd_lang.specs.Tree.{view}
 use Rattle.fmap_compiler.specs.Outcome.{Compiles}
-use Rattle.fmap_compiler.proofs.Compiling.{Refuses-encoded}
+use Rattle.fmap_compiler.proofs.Compilations.{Refuses-encoded}
 use Rattle.fmap_compiler.proofs.compiler.compile.Goals as goal
 
 pub returns-clause-compiled : goal.returns-clause-compiled

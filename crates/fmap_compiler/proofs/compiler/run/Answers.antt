@@ -1,7 +1,7 @@
 use Rattle.std.proofs.Common.{inl, inr, rules}
 use Rattle.std.proofs.lemmas.Result.{err_from_is_err_and}
 use Rattle.std.proofs.KnownBytes.{Keeps-refl}
-use Rattle.fmap_compiler.proofs.Compiling.{HasTable-prefix, Refuses-known}
+use Rattle.fmap_compiler.proofs.Compilations.{HasTable-prefix, Refuses-known}
 use Rattle.fmap_compiler.proofs.compiler.run.Goals as goal
 
 pub returns-clause-read_cause : goal.returns-clause-read_cause

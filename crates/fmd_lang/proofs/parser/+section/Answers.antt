@@ -1,7 +1,7 @@
 use Rattle.std.proofs.Common.{◌≡◌, ◌<◌, suc, length, ◌∷◌, [], sym, refl, rules, arith, inr, add-one, ◌++◌}
 use Rattle.fmd_lang.specs.Faults.{past}
-use Rattle.fmd_lang.specs.Lexing.{word_of, piece_end}
-use Rattle.fmd_lang.specs.Parsing.{IsBody}
+use Rattle.fmd_lang.specs.Tokens.{word_of, piece_end}
+use Rattle.fmd_lang.specs.ParserResults.{IsBody}
 use Rattle.fmd_lang.specs.Grammar.{AreSections, Until}
 use Rattle.fmd_lang.specs.Tree.{Tree, view, views}
 use Rattle.fmd_lang.specs.declared.section.Section.TheFolds.{fold-roll-Section}

@@ -2,7 +2,7 @@ use Rattle.std.proofs.Common.{◌≡◌, ◌≤◌, ◌-◌, length, Some, true}
 use Rattle.fmd_lang.specs.Words.{words_after}
 use Rattle.fmd_lang.specs.Faults.{in_annotations}
 use Rattle.fmd_lang.specs.Grammar.{flags_with}
-use Rattle.fmd_lang.specs.Parsing.{ParsesFront}
+use Rattle.fmd_lang.specs.ParserResults.{ParsesFront}
 use Rattle.fmd_lang.proofs.parser.more_annotations.Given as goal
 
 abbrev pub invariant-loop-token : goal.invariant-loop-token

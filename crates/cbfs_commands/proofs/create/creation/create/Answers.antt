@@ -1,6 +1,6 @@
 use Rattle.std.proofs.Common.{rules}
 use Rattle.flash_device.proofs.DeviceLemmas.{honest_still}
-use Rattle.cbfs_commands.proofs.Meeting.{all-written, creation_done, creation_stopped}
+use Rattle.cbfs_commands.proofs.CreationEffects.{all-written, creation_done, creation_stopped}
 use Rattle.cbfs_commands.proofs.create.creation.create.Goals as goal
 
 pub returns-in_err-plan : goal.returns-in_err-plan

@@ -5,7 +5,7 @@ use Rattle.flash_format.specs.declared.flashmap.Area.{Area}
 use Rattle.flash_format.specs.Flashmap.{areas_from}
 use Rattle.flash_device.proofs.DeviceLemmas.{honest_still, Reads-none, Reads-then}
 use Rattle.cbfs_commands.specs.Creations.{first_area}
-use Rattle.cbfs_commands.proofs.Planning.{areas-and, none-found}
+use Rattle.cbfs_commands.proofs.PlanSteps.{areas-and, none-found}
 use Rattle.cbfs_commands.proofs.create.flashmap.first_areas.Goals as goal
 
 pub loop-i-init : goal.loop-i-init

@@ -1,5 +1,5 @@
 use Rattle.std.proofs.Common.{◌∙◌, None, Some, refl, sym}
-use Rattle.cbfs_commands.proofs.Planning.{noted-is}
+use Rattle.cbfs_commands.proofs.PlanSteps.{noted-is}
 use Rattle.cbfs_commands.proofs.create.flashmap.noted.Goals as goal
 
 pub returns-in-Some : goal.returns-in-Some

@@ -1,7 +1,7 @@
 use Rattle.std.proofs.Common.{IsErrOf, inl, inr, rules}
 use Rattle.cbfs_commands.specs.declared.refusal.Refusal.TheVariants as refusals
-use Rattle.cbfs_commands.proofs.Blameless.{faultless_plan}
-use Rattle.cbfs_commands.proofs.Planned.{fitting_plan}
+use Rattle.cbfs_commands.proofs.OwnResults.{faultless_plan}
+use Rattle.cbfs_commands.proofs.PlanLaws.{fitting_plan}
 use Rattle.cbfs_commands.proofs.create.plan.read_plan.Goals as goal
 
 pub returns-clause-no_device : goal.returns-clause-no_device

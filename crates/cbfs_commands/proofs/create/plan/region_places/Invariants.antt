@@ -1,6 +1,6 @@
 use Rattle.std.proofs.Common.{◌≡◌, length, drop}
 use Rattle.cbfs_commands.specs.Creations.{region_places}
-use Rattle.cbfs_commands.proofs.Planning.{joined}
+use Rattle.cbfs_commands.proofs.PlanSteps.{joined}
 use Rattle.cbfs_commands.proofs.create.plan.region_places.Given as goal
 
 abbrev pub invariant-loop-i : goal.invariant-loop-i

@@ -1,8 +1,8 @@
 use Rattle.std.proofs.Common.{◌≡◌, ◌+◌, ◌∙◌, IsTrue, List, ℕ, ap, inl, refl, subst, sym, arith}
 use Rattle.flash_device.specs.Regions.{bytes_in}
 use Rattle.cbfs_walk.specs.AttrWalks.{AttrWalking, after_first, attr_reads, attributes_left}
-use Rattle.cbfs_commands.proofs.Listing.{lines-first, lines-none, lines_left}
-use Rattle.cbfs_commands.proofs.Telling.{so_far-ends, so_far-more, printout-after, printout-none, printout-refusal, printout-row, printout-stopped}
+use Rattle.cbfs_commands.proofs.AttributeLines.{lines-first, lines-none, lines_left}
+use Rattle.cbfs_commands.proofs.OutputParts.{so_far-ends, so_far-more, printout-after, printout-none, printout-refusal, printout-row, printout-stopped}
 use Rattle.cbfs_commands.proofs.print.details.print_attributes.Goals as goal
 
 pub loop-head-preserved : goal.loop-head-preserved

@@ -5,8 +5,8 @@ use Rattle.flash_device.specs.Pages.{OnHonestIn}
 use Rattle.flash_device.specs.Regions.{bytes_in}
 use Rattle.cbfs_walk.specs.AttrWalks.{attributes_left}
 use Rattle.cbfs_commands.specs.Printouts.{cell_bytes}
-use Rattle.cbfs_commands.proofs.Listing.{lines, lines_left}
-use Rattle.cbfs_commands.proofs.Telling.{ToldSoFar}
+use Rattle.cbfs_commands.proofs.AttributeLines.{lines, lines_left}
+use Rattle.cbfs_commands.proofs.OutputParts.{ToldSoFar}
 use Rattle.cbfs_commands.proofs.print.details.print_attributes.Given as goal
 
 abbrev pub invariant-loop-head : goal.invariant-loop-head

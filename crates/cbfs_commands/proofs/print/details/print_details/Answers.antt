@@ -1,7 +1,7 @@
 use Rattle.std.proofs.Common.{arith, refl}
 use Rattle.cbfs_commands.specs.Rows.{hash_text}
 use Rattle.cbfs_commands.specs.Printouts.{cell_bytes, shows}
-use Rattle.cbfs_commands.proofs.Telling.{so_far-ends, so_far-of, still_cell, printout-stopped, printout-within}
+use Rattle.cbfs_commands.proofs.OutputParts.{so_far-ends, so_far-of, still_cell, printout-stopped, printout-within}
 use Rattle.cbfs_commands.proofs.print.details.print_details.Goals as goal
 
 pub print_hash-requires : goal.print_hash-requires

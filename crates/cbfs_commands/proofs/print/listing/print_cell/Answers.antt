@@ -3,7 +3,7 @@ use Rattle.flash_format.specs.Head.{head_of, is_free}
 use Rattle.flash_format.specs.declared.head.Head.{Head}
 use Rattle.cbfs_commands.specs.Rows.{details}
 use Rattle.cbfs_commands.specs.Printouts.{Printout, cell_bytes, shows}
-use Rattle.cbfs_commands.proofs.Telling.{so_far-ends, so_far-of, still_cell, printout-stopped, printout-within}
+use Rattle.cbfs_commands.proofs.OutputParts.{so_far-ends, so_far-of, still_cell, printout-stopped, printout-within}
 use Rattle.cbfs_commands.proofs.print.listing.print_cell.Goals as goal
 
 abbrev lines : Bool → List ℕ → Printout

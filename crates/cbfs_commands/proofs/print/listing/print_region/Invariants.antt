@@ -1,5 +1,5 @@
 use Rattle.std.proofs.Common.{◌-◌}
-use Rattle.cbfs_commands.proofs.Printing.{PrintedTo}
+use Rattle.cbfs_commands.proofs.PrintSteps.{PrintedTo}
 use Rattle.cbfs_commands.proofs.print.listing.print_region.Given as goal
 
 abbrev pub invariant-loop-cell : goal.invariant-loop-cell

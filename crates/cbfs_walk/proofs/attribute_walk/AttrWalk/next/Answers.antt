@@ -1,7 +1,7 @@
 use Rattle.std.proofs.Common.{◌∙◌, ap, sym, ◌+◌}
 use Rattle.std.proofs.lemmas.Result.{err_from_is_err_and}
 use Rattle.cbfs_walk.specs.declared.attribute_walk.Listed.TheVariants as listed
-use Rattle.cbfs_walk.proofs.Listing.{walk_step, gives_none}
+use Rattle.cbfs_walk.proofs.AttributeLists.{walk_step, gives_none}
 use Rattle.cbfs_walk.specs.AttrWalks.{place_in_region}
 use Rattle.cbfs_walk.proofs.attribute_walk.AttrWalk.next.Goals as goal
 

@@ -1,5 +1,5 @@
 use Rattle.std.proofs.Common.{◌≡◌, ◌++◌, take}
-use Rattle.flash_format.specs.Printed.{printed_name}
+use Rattle.flash_format.specs.Texts.{printed_name}
 use Rattle.check_report.proofs.rows.text.push_name.Given as goal
 
 abbrev pub invariant-loop-byte : goal.invariant-loop-byte

@@ -1,7 +1,7 @@
 use Rattle.std.proofs.Common.{◌++◌, refl, arith, rules}
 use Rattle.byteorder.specs.Endian.{little_bytes}
 use Rattle.flash_format.specs.Flashmap.{area_bytes}
-use Rattle.flash_format.proofs.Writing.{put_name_and_number, area_is_read_back}
+use Rattle.flash_format.proofs.FieldWrites.{put_name_and_number, area_is_read_back}
 use Rattle.flash_format.proofs.flashmap.Area.write.Goals as goal
 
 pub returns-clause-bytes : goal.returns-clause-bytes

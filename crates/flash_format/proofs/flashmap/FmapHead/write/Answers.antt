@@ -2,7 +2,7 @@ use Rattle.std.proofs.Common.{[], ◌∷◌, ◌++◌, refl, arith, rules}
 use lib.Chars.{codes}
 use Rattle.byteorder.specs.Endian.{little_bytes}
 use Rattle.flash_format.specs.Flashmap.{fmap_head_bytes}
-use Rattle.flash_format.proofs.Writing.{put_name_and_number, fmap_head_is_read_back, signature_is_written}
+use Rattle.flash_format.proofs.FieldWrites.{put_name_and_number, fmap_head_is_read_back, signature_is_written}
 use Rattle.flash_format.proofs.flashmap.FmapHead.write.Goals as goal
 
 pub returns-clause-bytes : goal.returns-clause-bytes

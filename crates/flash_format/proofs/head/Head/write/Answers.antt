@@ -1,6 +1,6 @@
 use Rattle.std.proofs.Common.{arith, rules}
 use Rattle.flash_format.specs.Head.{head_bytes}
-use Rattle.flash_format.proofs.Writing.{head_is_read_back}
+use Rattle.flash_format.proofs.FieldWrites.{head_is_read_back}
 use Rattle.flash_format.proofs.head.Head.write.Goals as goal
 
 pub returns-clause-read_back : goal.returns-clause-read_back

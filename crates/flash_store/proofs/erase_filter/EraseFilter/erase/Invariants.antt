@@ -1,5 +1,5 @@
 use Rattle.std.proofs.Common.{◌-◌, ◌≡◌, ◌≤◌, IsTrue, take, replicate}
-use Rattle.flash_store.specs.Storing.{SameFile}
+use Rattle.flash_store.specs.Files.{SameFile}
 use Rattle.flash_store.proofs.erase_filter.EraseFilter.erase.Given as goal
 
 abbrev pub invariant-loop-at : goal.invariant-loop-at

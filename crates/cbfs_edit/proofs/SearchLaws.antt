@@ -10,15 +10,15 @@ use Rattle.flash_format.specs.Components.{Component, components, components_from
 use Rattle.flash_format.specs.Placings.{space_cells}
 use Rattle.flash_format.proofs.CutSteps.{cut_step}
 use Rattle.flash_format.proofs.CutLaws.{cut_unique}
-use Rattle.cbfs_walk.specs.Finding.{IsFirstOf, first_named}
+use Rattle.cbfs_walk.specs.Search.{IsFirstOf, first_named}
 use Rattle.cbfs_walk.specs.Shapes.{has_bad_size, is_absent, shape_fault, refused_or}
-use Rattle.cbfs_walk.proofs.FirstNamed.{first_found, none_named, same_name}
+use Rattle.cbfs_walk.proofs.FirstComponents.{first_found, none_named, same_name}
 use Rattle.cbfs_edit.specs.Additions.{NewComponent, AddsOne, added, added_component, empty_between, cell_end, made_at}
 use Rattle.cbfs_edit.specs.Laws.{IsAdded, AdditionsAreFound, AdditionsAreUndone, AdditionsKeepAll, RemovalsKeepOthers}
 use Rattle.cbfs_edit.specs.declared.place.Spot.{Spot}
 use Rattle.cbfs_edit.specs.declared.place.Place.{Place}
-use Rattle.cbfs_edit.proofs.Added.{accepted_size, added_length, additions_add_one, there, region_some}
-use Rattle.cbfs_walk.specs.Shaped.{place_after}
+use Rattle.cbfs_edit.proofs.AdditionLemmas.{accepted_size, added_length, additions_add_one, there, region_some}
+use Rattle.cbfs_walk.specs.CellReadings.{place_after}
 use Rattle.cbfs_walk.specs.declared.walk.WalkFault.{WalkFault}
 use Rattle.cbfs_edit.specs.Removals.{group_of, LosesOne, removed, removal_in, unless_damaged, edit_fault_of}
 use Rattle.cbfs_edit.specs.declared.fault.EditFault.TheVariants as faults

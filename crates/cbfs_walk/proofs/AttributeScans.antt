@@ -19,10 +19,10 @@ use Rattle.cbfs_walk.specs.declared.cell.Cell.{Cell}
 use Rattle.cbfs_walk.specs.declared.attribute_walk.Listed as declared
 use Rattle.cbfs_walk.specs.declared.attribute_walk.Listed.TheVariants as listed
 use Rattle.flash_device.proofs.DeviceLemmas.{honest_still, LiesOn-calls}
-use Rattle.cbfs_walk.proofs.Reading.{Passes-none, Passes-then}
+use Rattle.cbfs_walk.proofs.ReadSequences.{Passes-none, Passes-then}
 use Rattle.cbfs_walk.proofs.Parts.{length-region, range-inner, range-after, length-range}
 use Rattle.cbfs_walk.proofs.Checks.{content_inside}
-use Rattle.cbfs_walk.proofs.Listing.{goes, goes_end, goes_malformed, goes_none, goes_on, listed_all}
+use Rattle.cbfs_walk.proofs.AttributeLists.{goes, goes_end, goes_malformed, goes_none, goes_on, listed_all}
 
 -- a scan up to a position, with its remaining result
 pub record Scanning {F : Type 0} (facts : F → Device) (r : Range) (from end at : ℕ) (old now : Pages F) (Asked : Type 0) : Type 0 where

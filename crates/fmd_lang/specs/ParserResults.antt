@@ -5,7 +5,7 @@ use Rattle.fmd_lang.specs.Words.{Word, words_after, kind_of}
 use Rattle.fmd_lang.specs.Faults.{Standing, fault_from, token_fault}
 use Rattle.fmd_lang.specs.Grammar.{Enclosed, AreSections, HasValue}
 use Rattle.fmd_lang.specs.Tree.{Forest, none}
-use Rattle.fmd_lang.specs.Lexing.{word_of, IsFirst}
+use Rattle.fmd_lang.specs.Tokens.{word_of, IsFirst}
 use Rattle.fmd_lang.specs.declared.parser.Token.{Token}
 use Rattle.fmd_lang.specs.declared.word.Kind.TheVariants.{Number, OpenBrace, CloseBrace}
 use Rattle.fmd_lang.specs.declared.fault.FmdFault.{FmdFault}

@@ -6,8 +6,8 @@ use Rattle.std.proofs.lemmas.Slice.Eq.{bytes_eq-Decides}
 use Rattle.flash_format.specs.Cut.{End, damage, cut}
 use Rattle.flash_format.specs.Components.{Component, components}
 use Rattle.cbfs_walk.specs.Shapes.{shape_fault, refused_or}
-use Rattle.cbfs_walk.specs.Shaped.{place_after}
-use Rattle.cbfs_walk.specs.Finding.{Found, IsFirstOf, first_named, not_found, found_or, component_in}
+use Rattle.cbfs_walk.specs.CellReadings.{place_after}
+use Rattle.cbfs_walk.specs.Search.{Found, IsFirstOf, first_named, not_found, found_or, component_in}
 use Rattle.cbfs_walk.specs.Laws.{FoundIsFirst, FirstIsFound, ListedIsFound}
 use Rattle.cbfs_walk.specs.declared.walk.WalkFault.{WalkFault}
 

@@ -6,7 +6,7 @@ use Rattle.flash_device.specs.Device.{Device, fault_count}
 use Rattle.flash_device.specs.Pages.{Pages, HasRead, OnHonest, OnHonestIn}
 use Rattle.flash_device.specs.Regions.{Range, LiesIn, LiesOn, bytes_in}
 use Rattle.cbfs_walk.specs.Cells.{IsCellIn}
-use Rattle.cbfs_walk.specs.Shaped.{reading_of, ReadsCells, by_answer}
+use Rattle.cbfs_walk.specs.CellReadings.{reading_of, ReadsCells, by_answer}
 use Rattle.cbfs_walk.specs.Walks.{Walking, GivesCell, answer_at, walk_after, reads_at}
 use Rattle.cbfs_walk.specs.Walks as walks
 use Rattle.cbfs_walk.specs.declared.cell.Cell.{Cell}
@@ -21,7 +21,7 @@ use Rattle.cbfs_commands.specs.Outcomes.{print_cut, print_region}
 use Rattle.cbfs_commands.specs.Refusals.{by_device, walk_refusal}
 use Rattle.cbfs_commands.specs.Rows.{rows_from, shown_cell}
 use Rattle.cbfs_commands.specs.Printouts.{CommandResult, HasOutput, Printout, cell_bytes, shows, refuses}
-use Rattle.cbfs_commands.proofs.Telling.{ToldSoFar, so_far-ends, so_far-more, text_then, printout-after, printout-none, printout-refusal, printout-stopped}
+use Rattle.cbfs_commands.proofs.OutputParts.{ToldSoFar, so_far-ends, so_far-more, text_then, printout-after, printout-none, printout-refusal, printout-stopped}
 use Rattle.flash_device.proofs.DeviceLemmas.{length-bytes_in}
 
 abbrev pub print_from : Bool → List ℕ → ℕ → Printout

@@ -19,7 +19,7 @@ use Rattle.cbfs_walk.specs.declared.cell.Cell.{Cell}
 use Rattle.cbfs_walk.specs.Cells.{PassesChecks, content_start}
 use Rattle.cbfs_walk.specs.Walks.{Passes, reads_over, StepResult, Walking, EndsWalk, by_device, GivesCell, walk_after, answer_by, answer_of, answer_at, reads_at}
 use Rattle.cbfs_walk.proofs.Checks.{checks_give, entry_present}
-use Rattle.cbfs_walk.proofs.Reading.{Passes-then}
+use Rattle.cbfs_walk.proofs.ReadSequences.{Passes-then}
 use Rattle.cbfs_walk.specs.Shapes.{has_bad_size, is_absent}
 use Rattle.cbfs_walk.specs.declared.walk.Step.{Step}
 use Rattle.cbfs_walk.specs.declared.walk.Step.TheVariants as steps

@@ -11,8 +11,8 @@ use Rattle.flash_device.specs.Pages.{Pages, HasRead}
 use Rattle.flash_device.specs.Regions.{Range, LiesOn, bytes_in}
 use Rattle.cbfs_walk.specs.Walks.{reads_over, StepResult, Walking, walk_of, answer_at, StandsIn, GivesCell, reads_at, by_device, walk_after}
 use Rattle.cbfs_walk.specs.Cells.{IsCellIn, cell_in}
-use Rattle.cbfs_walk.specs.Shaped.{reading_of, ReadsCells, by_answer, place_after}
-use Rattle.cbfs_walk.specs.Finding.{Found, first_named, not_found, found_or, component_in, found_cell}
+use Rattle.cbfs_walk.specs.CellReadings.{reading_of, ReadsCells, by_answer, place_after}
+use Rattle.cbfs_walk.specs.Search.{Found, first_named, not_found, found_or, component_in, found_cell}
 use Rattle.cbfs_walk.specs.declared.cell.Cell.{Cell}
 use Rattle.cbfs_walk.specs.declared.walk.Step.{Step}
 use Rattle.cbfs_walk.specs.declared.walk.Step.TheVariants as steps
@@ -23,7 +23,7 @@ use Rattle.flash_device.proofs.WindowLemmas.{HasRead-none, HasRead-then, HasRead
 use Rattle.cbfs_walk.proofs.Parts.{length-region}
 use Rattle.cbfs_walk.proofs.CutLaws.{standing, cell_head, cell_len}
 use Rattle.cbfs_walk.proofs.Shapes.{shaped_step}
-use Rattle.cbfs_walk.proofs.Answering.{IsLast, last_reads}
+use Rattle.cbfs_walk.proofs.StepResults.{IsLast, last_reads}
 
 refused : WalkFault → Found
 refused fault = Err fault

@@ -12,7 +12,7 @@ use Rattle.flash_format.specs.Components.{components}
 use Rattle.flash_format.specs.Splices.{splice}
 use Rattle.flash_format.specs.Placings.{HasOneMore, IsSpace, IsPlacing, space_cells}
 use Rattle.flash_format.proofs.MadeLaws.{length-metadata, hash_as_long, made_as_long, made_alone}
-use Rattle.flash_format.proofs.Placed.{empty_is_space, components_placed}
+use Rattle.flash_format.proofs.Placings.{empty_is_space, components_placed}
 use Rattle.flash_device.specs.Device.{Device, Reads, SameOutside}
 use Rattle.flash_device.specs.Pages.{HasChanged, HasRead, Pages}
 use Rattle.flash_device.proofs.BytesLemmas.{SameOutside-overwritten, further, length-overwritten}
@@ -31,7 +31,7 @@ use Rattle.cbfs_edit.specs.declared.place.Place.{Place}
 use Rattle.cbfs_edit.proofs.Places.{IsAnsweredPlace, answered_place, fits_there, first_place-right}
 use Rattle.cbfs_edit.proofs.Lists.{content_at}
 use Rattle.cbfs_edit.proofs.Runs.{IsRun, run_of, emptied_runs}
-use Rattle.cbfs_edit.proofs.Emptied.{emptied-wider, space_end-below, space_end-near, as_splice, emptied-stopped}
+use Rattle.cbfs_edit.proofs.EmptyEntries.{emptied-wider, space_end-below, space_end-near, as_splice, emptied-stopped}
 use Rattle.cbfs_edit.proofs.Changes.{keeps}
 use Rattle.cbfs_edit.proofs.Insertions.{hash_short}
 use Rattle.std.specs.Option.{option_map_or}
@@ -42,7 +42,7 @@ use Rattle.flash_device.proofs.DeviceLemmas.{Calls-at_most, Calls-then, honest_s
 use Rattle.std.specs.Option.{option_map}
 use Rattle.flash_format.specs.declared.digest.Algorithm.{Algorithm}
 use Rattle.cbfs_walk.specs.Hashes.{hashed_by}
-use Rattle.cbfs_walk.proofs.Hashing.{length-hashed}
+use Rattle.cbfs_walk.proofs.Digests.{length-hashed}
 use Rattle.cbfs_edit.specs.declared.addition.HashChoice.{HashChoice}
 use Rattle.cbfs_edit.specs.declared.fault.EditFault.TheVariants as faults
 use Rattle.flash_device.specs.declared.paged.CopyInFault.TheVariants as copies

@@ -9,9 +9,9 @@ use Rattle.flash_device.specs.Regions.{Range, bytes_in}
 use Rattle.flash_map.specs.declared.search.StoreFault.{StoreFault}
 use Rattle.flash_device.proofs.DeviceLemmas.{length-bytes_in}
 use Rattle.cbfs_edit.specs.Additions.{added}
-use Rattle.cbfs_edit.proofs.Added.{added_length}
-use Rattle.cbfs_edit.proofs.FoundAgain.{additions_found}
-use Rattle.cbfs_walk.specs.Finding.{Found}
+use Rattle.cbfs_edit.proofs.AdditionLemmas.{added_length}
+use Rattle.cbfs_edit.proofs.SearchLaws.{additions_found}
+use Rattle.cbfs_walk.specs.Search.{Found}
 use Rattle.cbfs_commands.specs.declared.refusal.Refusal.TheVariants as refusals
 use Rattle.cbfs_commands.specs.Refusals.{fault_or, store_refusal, walk_refusal}
 use Rattle.cbfs_commands.specs.Outcomes.{extract_region, printed_component}

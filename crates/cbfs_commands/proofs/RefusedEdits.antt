@@ -21,7 +21,7 @@ use Rattle.cbfs_commands.specs.Effects.{adds, changes, outcome, removes}
 use Rattle.cbfs_commands.specs.Outcomes.{AddStopsIn, LeavesOr}
 use Rattle.cbfs_commands.specs.Refusals.{edit_refusal, fault_or, store_refusal}
 use Rattle.cbfs_commands.specs.Printouts.{CommandResult}
-use Rattle.cbfs_commands.proofs.Telling.{handed}
+use Rattle.cbfs_commands.proofs.OutputParts.{handed}
 
 -- the error of the place is the error of the addition
 refused_place : (place : Result Place EditFault) (fault : EditFault) (next : Place → Result (List ℕ) Refusal) → (let r : Result Placed EditFault = Err fault in r ≡ placed_of place) → fault_or (λ f. Err (edit_refusal f)) place next ≡ Err (edit_refusal fault)

@@ -12,8 +12,8 @@ use Rattle.flash_map.specs.Fmap.{map_head}
 use Rattle.flash_device.specs.Regions.{Range, bytes_in}
 use Rattle.flash_map.specs.Regions.{region_by_area, region_of, region_under}
 use Rattle.flash_map.specs.declared.search.StoreFault.{StoreFault}
-use Rattle.cbfs_walk.specs.Finding.{Found, component_in, first_named, found_or, not_found}
-use Rattle.cbfs_walk.specs.Shaped.{place_after}
+use Rattle.cbfs_walk.specs.Search.{Found, component_in, first_named, found_or, not_found}
+use Rattle.cbfs_walk.specs.CellReadings.{place_after}
 use Rattle.cbfs_walk.specs.Shapes.{has_bad_size, is_absent, refused_or, shape_fault}
 use Rattle.cbfs_walk.specs.declared.walk.WalkFault.{WalkFault}
 use Rattle.cbfs_walk.specs.declared.walk.WalkFault.TheVariants as walk

@@ -5,7 +5,7 @@ use Rattle.flash_format.specs.declared.attribute.AttrHead.{AttrHead}
 use Rattle.flash_format.specs.Entry.{Attribute}
 use Rattle.cbfs_walk.specs.AttrWalks.{first_head, after_first, head_of_attribute}
 use Rattle.cbfs_commands.specs.Rows.{attribute_line}
-use Rattle.cbfs_commands.proofs.Telling.{text_then}
+use Rattle.cbfs_commands.proofs.OutputParts.{text_then}
 use Rattle.cbfs_commands.specs.Printouts.{Printout, shows}
 
 abbrev pub lines : List Attribute → Printout

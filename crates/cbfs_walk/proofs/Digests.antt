@@ -26,10 +26,10 @@ use Rattle.cbfs_walk.specs.declared.hashes.HashState.{HashState}
 use Rattle.cbfs_walk.specs.declared.hashes.HashState.TheVariants.{Valid, Invalid}
 use Rattle.flash_format.specs.Made.{algorithm, algorithm_row, algorithm_numbered, digest_with, digest_bytes, digest_len}
 use Rattle.cbfs_walk.proofs.Parts.{length-region, range-inner, range-take, range-after, length-range}
-use Rattle.cbfs_walk.proofs.Reading.{Passes-then}
+use Rattle.cbfs_walk.proofs.ReadSequences.{Passes-then}
 use Rattle.cbfs_walk.proofs.Checks.{checks_give}
 use Rattle.cbfs_walk.proofs.CutLaws.{standing, cell_head, cell_part}
-use Rattle.cbfs_walk.proofs.Scanning.{data_found, Scanning, told_before, scanning_more}
+use Rattle.cbfs_walk.proofs.AttributeScans.{data_found, Scanning, told_before, scanning_more}
 
 -- ---- a hasher of adjacent pieces
 

@@ -5,7 +5,7 @@ use Rattle.std.specs.List.{list_any}
 use Rattle.std.proofs.lemmas.Bool.{or_parts}
 use Rattle.std.proofs.lemmas.List.{length-replicate}
 use Rattle.std.proofs.lemmas.List.Elements.{All-nil, All-cons, All-head, All-tail}
-use Rattle.flash_format.proofs.Placed.{empty_is_space}
+use Rattle.flash_format.proofs.Placings.{empty_is_space}
 use Rattle.flash_device.specs.Device.{overwritten}
 use Rattle.flash_device.specs.Laws.{LieApart, with_edit}
 use Rattle.flash_device.specs.Regions.{Range, LiesIn, bytes_in}
@@ -13,14 +13,14 @@ use Rattle.flash_device.proofs.BytesLemmas.{length-overwritten}
 use Rattle.flash_device.proofs.DeviceLemmas.{length-bytes_in}
 use Rattle.flash_device.proofs.RegionLemmas.{written_beside}
 use Rattle.cbfs_walk.specs.Shapes.{has_bad_size}
-use Rattle.cbfs_walk.proofs.Answering.{good_size}
+use Rattle.cbfs_walk.proofs.StepResults.{good_size}
 use Rattle.cbfs_edit.specs.Formats.{IsOneFreeCell, formatted}
 use Rattle.cbfs_edit.specs.Removals.{last_four}
 use Rattle.cbfs_edit.proofs.FormatLemmas.{formatted_free}
 use Rattle.cbfs_commands.specs.Creations.{IsPlace, share_bytes, some_overlap}
 use Rattle.cbfs_commands.specs.Laws.{CreatedRegionsAreFree}
 use Rattle.cbfs_commands.proofs.RegionPlaces.{whole_over}
-use Rattle.cbfs_commands.proofs.Planned.{lie_apart, planned}
+use Rattle.cbfs_commands.proofs.PlanLaws.{lie_apart, planned}
 
 positive : (size : ℕ) → has_bad_size size ≡ false → 0 < size
 positive zero good = absurd cc
