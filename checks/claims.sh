@@ -230,7 +230,8 @@ refusals() {
     done < refusals
     # 7 and 8: the commands that the page names, and no other
     for number in 7 8; do
-        for command in print extract add remove read write create; do
+        for command in "${commands[@]}"; do
+            [ -n "${takes[${command}r]-}" ] || continue
             needed "$command"
             cp odd.rom tried.rom
             cp odd.fmap board.fmap

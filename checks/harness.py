@@ -5,6 +5,8 @@ A check that finds a fault ends the script with status 1 and says what it saw.
 
 import hashlib
 import os
+import pathlib
+import re
 import shutil
 import struct
 import sys
@@ -94,6 +96,12 @@ def script(name, check, planted):
 
 HEADER = 28
 FREE = (0, 0xFFFFFFFF)
+TOP = pathlib.Path(__file__).resolve().parent.parent
+FORMAT = (TOP / "docs" / "FORMAT.md").read_text(encoding="utf-8")
+# the digests by their names, in FORMAT.md's table of the hash attribute
+ALGORITHMS = re.search(r"^\| 8 to 11 \| the algorithm: .*", FORMAT, re.MULTILINE)[0]
+DIGESTS = {f"sha{bits}": int(number)
+           for number, bits in re.findall(r"(\d+) for SHA-(\d+)", ALGORITHMS)}
 
 
 def entry(name, content, kind=0x50, digest=None):
@@ -101,9 +109,8 @@ def entry(name, content, kind=0x50, digest=None):
     padded = name + b"\0" * (4 - len(name) % 4)
     attributes = b""
     if digest:
-        number, digest_of = {"sha256": (2, hashlib.sha256), "sha512": (3, hashlib.sha512)}[digest]
-        value = digest_of(content).digest()
-        attributes = struct.pack(">III", 0x68736148, 12 + len(value), number) + value
+        value = hashlib.new(digest, content).digest()
+        attributes = struct.pack(">III", 0x68736148, 12 + len(value), DIGESTS[digest]) + value
     at = 24 + len(padded) if attributes else 0
     offset = 24 + len(padded) + len(attributes)
     head = b"LARCHIVE" + struct.pack(">IIII", len(content), kind, at, offset)

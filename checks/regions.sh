@@ -101,25 +101,29 @@ without() {
     } > rows
 }
 
-# the number of each type that is added by a name
-declare -A numbers=(
-    [bootblock]=1 ["cbfs header"]=2 ["legacy stage"]=0x10 [stage]=0x11 ["simple elf"]=0x20 [fit_payload]=0x21
-    [optionrom]=0x30 [bootsplash]=0x40 [raw]=0x50 [vsa]=0x51 [mbi]=0x52 [microcode]=0x53 [fsp]=0x60 [mrc]=0x61
-    [cmos_default]=0xaa [spd]=0xab [mrc_cache]=0xac [cmos_layout]=0x1aa
-)
+# the number of each type that is added by a name, and of each digest, in the tables of FORMAT.md
+declare -A numbers digests
+while IFS='|' read -r number name; do
+    [[ $name == @(deleted|null) ]] || numbers[$name]=$number
+done < <(sed -nE 's/^\| (0x\w+) \| ([^|]+) \| (0x\w+) \| ([^|]+) \|$/\1|\2\n\3|\4/p' \
+    docs/FORMAT.md)
+while read -r number _ name; do
+    digests[sha${name#SHA-}]=$number
+done < <(sed -n 's/^| 8 to 11 | the algorithm: //p' docs/FORMAT.md |
+    grep -o '[0-9]* for SHA-[0-9]*')
 
 # with SHOWN TYPE FILE HASH SPOT [NUMBER]: puts a component into the first run of free cells, from the place `from` to
 # the place `to`, that has room for it: its header at the place `at`, its content at the place `content`; the bytes up
-# to `free_to` may change. SHOWN is its name as it is printed, HASH `plain`, `sha256` or `sha512`, and SPOT `first`, or
-# `-a` or `-b` with its number.
+# to `free_to` may change. SHOWN is its name as it is printed, HASH `plain` or a digest, and SPOT
+# `first`, or `-a` or `-b` with its number.
 with() {
     local LC_ALL=C names places name algorithm=0 digest="" field header size limit end
     name=$(printf '%b' "$1")
     size=$(stat -c %s "$3")
-    case $4 in
-        sha256) algorithm=2 digest=$(sha256sum < "$3" | head -c 64 | sed 's/../\\x&/g') ;;
-        sha512) algorithm=3 digest=$(sha512sum < "$3" | head -c 128 | sed 's/../\\x&/g') ;;
-    esac
+    if [ "$4" != plain ]; then
+        algorithm=${digests[$4]}
+        digest=$("$4sum" < "$3" | cut -d ' ' -f 1 | sed 's/../\\x&/g')
+    fi
     field=$((${#name} / 4 * 4 + 4))
     header=$((24 + field))
     [ "$4" = plain ] || header=$((header + 12 + ${#digest} / 4))

@@ -1,18 +1,17 @@
 """What cbfscheck has to report of an image, and of two, by what `layout` and `print -v` show of them; for checks/fuzz."""
 import collections, re
 
+from harness import FORMAT
+
 BLOCK = 4096
 CHECKED, COMPARED = 2, 8
 MOST_OF_A_KIND = 16
 MOST_COMPARED = 4096
 PRESERVE = 8
 SHAPES = {"bad region size": "region-size", "not a CBFS region": "no-cbfs"}
-TYPES = {
-    0: "deleted", 1: "bootblock", 2: "cbfs header", 0x10: "legacy stage", 0x11: "stage", 0x20: "simple elf",
-    0x21: "fit_payload", 0x30: "optionrom", 0x40: "bootsplash", 0x50: "raw", 0x51: "vsa", 0x52: "mbi",
-    0x53: "microcode", 0x60: "fsp", 0x61: "mrc", 0xaa: "cmos_default", 0xab: "spd", 0xac: "mrc_cache",
-    0x1aa: "cmos_layout", 0xffffffff: "null",
-}
+TYPES = {int(number, 16): name for row in
+         re.findall(r"^\| (0x\w+) \| ([^|]+) \| (0x\w+) \| ([^|]+) \|$", FORMAT, re.MULTILINE)
+         for number, name in (row[:2], row[2:])}
 # the verdict and the text of each code; a digest's and a damage's text has its kind before or after this
 KINDS = {
     "no-map": ("bad", "no flashmap"),

@@ -1,6 +1,6 @@
 -- The output of `print` and `layout`, in this project's own formats.
 use Rattle.std.specs.Prelude.{ℕ, List, ◌++◌, drop, if◌then◌else◌, Option, Some, None}
-use Rattle.std.specs.Prelude.{◌+◌, Bool, not, ◌&&◌, [], ◌∷◌, length, map}
+use Rattle.std.specs.Prelude.{◌+◌, ◌/◌, Bool, not, ◌&&◌, [], ◌∷◌, length, map}
 use Rattle.std.specs.List.{flat_map}
 use Rattle.std.specs.Option.{option_map_or}
 use Rattle.std.specs.Fmt.{decimal}
@@ -76,6 +76,10 @@ hash_text x = hash_line (hash_state (cell_attributes x) (cell_content x))
 -- all lines of a component
 abbrev pub details : List ℕ → List ℕ
 details x = flat_map attribute_line (map head_of_attribute (cell_attributes x)) ++ hash_text x
+
+-- the maximum number of calls for the lines of a component
+abbrev pub details_reads : ℕ → ℕ
+details_reads span = 1 + span / 8 + span / 3840
 
 -- the row, then its lines
 abbrev pub shown_cell : Bool → ℕ → List ℕ → List ℕ

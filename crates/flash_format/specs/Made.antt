@@ -98,7 +98,7 @@ hash_bytes digest =
     option_map_or (λ d. hash_attribute (algorithm_row (algorithm d)).number (digest_bytes d))
     digest []
 
--- 44 with SHA-256, 76 with SHA-512
+-- the attribute's length, or 0
 abbrev pub hash_len : Option Digest → ℕ
 hash_len digest = option_map_or (λ d. 12 + digest_len d) digest 0
 

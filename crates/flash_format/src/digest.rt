@@ -19,14 +19,14 @@ impl Algorithm {
     pub fn numbered(number: u32) -> Option<Algorithm>
         ensures { result ≡ algorithm_numbered number }
     {
-        Self::ALL.into_iter().find(|it| it.number() == number)
+        Self::ALL.iter().copied().find(|it| it.number() == number)
     }
 
     /// Returns the algorithm with a printed name.
     pub fn named(name: &str) -> Option<Algorithm>
         ensures { result ≡ algorithm_named name.now }
     {
-        Self::ALL.into_iter().find(|it| it.name() == name)
+        Self::ALL.iter().copied().find(|it| it.name() == name)
     }
 
     /// Returns vboot's number.

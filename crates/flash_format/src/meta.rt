@@ -12,7 +12,7 @@ use crate::digest::Digest;
 use crate::head::{Head, NAME_PADDING};
 use byteorder::{BigEndian, ByteOrder};
 
-/// The maximum length in bytes: name 127, SHA-512, gap 63.
+/// The maximum length in bytes: name 127, digest 64, gap 63.
 pub const LONGEST_METADATA: usize = Head::LENGTH + 128 + 76 + 63;
 
 /// A component's properties except its content.
@@ -44,7 +44,7 @@ pub fn attr_len(digest: Option<&Digest>) -> usize
     }
 }
 
-/// Returns the length in bytes without the gap. `attr_len` is 0, 44 (SHA-256) or 76 (SHA-512).
+/// Returns the length in bytes without the gap. `attr_len` is the hash attribute's length.
 pub fn meta_len(name_len: usize, attr_len: usize) -> usize
     requires name { name_len ≤ 127 }
     requires attribute { attr_len ≤ 76 }
