@@ -1,3 +1,4 @@
+pub mod Lists
 pub mod Map
 pub mod Region
 pub mod Image

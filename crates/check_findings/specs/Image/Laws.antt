@@ -20,10 +20,14 @@ use Rattle.check_findings.specs.Image.Needs.{Wish, is_met, unmet}
 use Rattle.check_findings.specs.Image.RegionAreas.{region_areas}
 use Rattle.check_findings.specs.Image.Verdicts.{is_bad, is_bad_region}
 
-abbrev pub FitRegionsLoseNothing : Type 0
-FitRegionsLoseNothing = (needs : Bool) (x : List ℕ) (c : Component)
-    → list_any (is_bad_region needs) (region_findings x) ≡ false
-    → Contains (components x) c → component_in x c.name ≡ Ok (Some c)
+-- P holds for each region without bad findings
+abbrev pub InFitRegions : (List ℕ → Type 0) → Type 0
+InFitRegions P = (needs : Bool) (x : List ℕ)
+    → list_any (is_bad_region needs) (region_findings x) ≡ false → P x
+
+-- a search finds each component by name
+abbrev pub LosesNothing : List ℕ → Type 0
+LosesNothing x = (c : Component) → Contains (components x) c → component_in x c.name ≡ Ok (Some c)
 
 -- the component's digest, if any, matches
 abbrev pub IsIntact : Component → Type 0
@@ -36,22 +40,18 @@ pub record IsWhole (x : List ℕ) : Type 0 where
   pub intact : All IsIntact (components x)
   pub blank : (cut x).end ≡ tail → IsBlankTail (place_after 0 (cut x).cells) x
 
-abbrev pub FitRegionsAreWhole : Type 0
-FitRegionsAreWhole = (needs : Bool) (x : List ℕ)
-    → list_any (is_bad_region needs) (region_findings x) ≡ false → IsWhole x
-
--- a command finds the area by name, the area is whole, and a search finds each component by name
+-- a command finds the area by name, and the area is whole and loses nothing
 pub record IsFit (image : List ℕ) (a : NumberedArea) : Type 0 where
   pub reached : region_of image (text_of a.area.name) ≡ Ok (range_of a)
   pub whole : IsWhole (bytes_of image a)
-  pub found : (c : Component) → Contains (components (bytes_of image a)) c
-      → component_in (bytes_of image a) c.name ≡ Ok (Some c)
+  pub found : LosesNothing (bytes_of image a)
 
-abbrev pub FitImagesAreWhole : Type 0
-FitImagesAreWhole =
+-- P holds for each checked area of an image without bad findings
+abbrev pub InFitImages : (List ℕ → NumberedArea → Type 0) → Type 0
+InFitImages P =
     (needs : Bool) (image : List ℕ) (names expected : List (List ℕ))
     → list_any (is_bad needs) (image_findings image names expected) ≡ false
-    → All (IsFit image) (region_areas (image_findings image names expected))
+    → All (P image) (region_areas (image_findings image names expected))
 
 -- a search in the named area finds the component at the position
 pub record IsMet (image : List ℕ) (areas : List NumberedArea) (wish : Wish) : Type 0 where

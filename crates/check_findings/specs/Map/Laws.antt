@@ -1,5 +1,5 @@
 -- Laws about flash maps without findings.
-use Rattle.std.specs.Prelude.{◌≡◌, true, ℕ, ◌+◌, ◌<◌, ◌≤◌, ◌⊎◌, List, [], ◌∷◌, length, Contains}
+use Rattle.std.specs.Prelude.{◌≡◌, true, ℕ, ◌+◌, ◌<◌, ◌≤◌, ◌⊎◌, All, List, [], ◌∷◌, length, Contains}
 use Rattle.std.specs.Prelude.{IsSomeAnd, Some, None}
 use Rattle.std.specs.List.{find}
 use Rattle.std.specs.Str.{is_utf8}
@@ -33,10 +33,8 @@ pub record IsSound (image : List ℕ) (map : FoundMap) : Type 0 where
   pub found : found_in image ≡ Some map
   pub size : map.head.size ≡ length image
   pub only : found_from (map.at + 1) image ≡ None
-  pub inside : (a : NumberedArea) → Contains (map_areas image map) a
-      → IsInside (length image) a.area
-  pub text : (a : NumberedArea) → Contains (map_areas image map) a
-      → is_utf8 (text_of a.area.name) ≡ true
+  pub inside : All (λ a. IsInside (length image) a.area) (map_areas image map)
+  pub text : All (λ a. is_utf8 (text_of a.area.name) ≡ true) (map_areas image map)
   pub named : (a : NumberedArea) → Contains (map_areas image map) a
       → find (has_name (text_of a.area.name)) (map_areas image map) ≡ Some a
   pub nested : (a b : NumberedArea) → Contains (map_areas image map) a

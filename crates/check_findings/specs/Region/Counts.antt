@@ -1,13 +1,12 @@
 -- Sums over entries.
-use Rattle.std.specs.Prelude.{ℕ, ◌+◌, ◌-◌, ◌≤◌, Bool, List, [], ◌∷◌, length, max, ◌==◌}
+use Rattle.std.specs.Prelude.{ℕ, ◌+◌, ◌-◌, ◌≤◌, Bool, List, [], ◌∷◌, filter, length, max, ◌==◌}
 use Rattle.std.specs.Prelude.{if◌then◌else◌}
+use Rattle.std.specs.List.{sum_by}
 use Rattle.flash_format.specs.Head.{head_of, is_free}
 use Rattle.check_findings.specs.declared.region.count.Count.{Count}
 
 unfoldable pub free_bytes : List (List ℕ) → ℕ
-free_bytes [] = 0
-free_bytes (x ∷ cells) =
-    if is_free (head_of x) then length x + free_bytes cells else free_bytes cells
+free_bytes cells = sum_by length (filter (λ x. is_free (head_of x)) cells)
 
 -- the usable bytes of an empty run: four less at the end of the region
 abbrev pub usable : ℕ → ℕ → ℕ → ℕ

@@ -94,11 +94,7 @@ fn areas_findings<F: Flash>(
 fn map_part(alloc: Global, found: &[MapFinding]) -> Result<Vec<ImageFinding>, AllocError>
     ensures { IfOk result (λ findings. findings.items ≡ map Map found.now) }
 {
-    let mut findings = Vec::new(alloc);
-    for finding in found {
-        findings.push(ImageFinding::Map(*finding))?;
-    }
-    Ok(findings)
+    found.iter().map(|finding| ImageFinding::Map(*finding)).collect(alloc)
 }
 
 /// An image's findings, map and areas.

@@ -1,12 +1,12 @@
 //! Laws about images without bad findings, as contracts of functions without effect.
-ghost use Rattle.check_findings.specs.Image.Laws.{FitImagesAreWhole, FitRegionsAreWhole};
-ghost use Rattle.check_findings.specs.Image.Laws.{FitRegionsLoseNothing, NeedsAreThere};
+ghost use Rattle.check_findings.specs.Image.Laws.{InFitImages, InFitRegions, IsFit, IsWhole};
+ghost use Rattle.check_findings.specs.Image.Laws.{LosesNothing, NeedsAreThere};
 
 use crate::region::unshadowed_components_are_found;
 
 /// In a region without bad findings, a search finds each component by name.
 pub fn fit_regions_lose_nothing()
-    ensures { FitRegionsLoseNothing }
+    ensures { InFitRegions LosesNothing }
 {
     unshadowed_components_are_found();
 }
@@ -14,13 +14,13 @@ pub fn fit_regions_lose_nothing()
 /// A region without bad findings has a good size, a first entry, no damaged entry, matching digests
 /// and a blank tail.
 pub fn fit_regions_are_whole()
-    ensures { FitRegionsAreWhole }
+    ensures { InFitRegions IsWhole }
 {}
 
 /// In an image without bad findings, a command finds each checked area by name, and the area is a
 /// region as above.
 pub fn fit_images_are_whole()
-    ensures { FitImagesAreWhole }
+    ensures { InFitImages IsFit }
 {
     fit_regions_lose_nothing();
 }

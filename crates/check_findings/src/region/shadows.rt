@@ -5,13 +5,13 @@ ghost use Rattle.check_findings.specs.Region.RegionFindings.{all_marked};
 ghost use Rattle.check_findings.specs.Region.Reports.{mark_at};
 
 use crate::lists::{Pushed, push_if};
-use crate::region::finding::{Name, RegionFinding};
+use crate::region::finding::RegionFinding;
 use std::alloc::{AllocError, Global};
 use std::collections::HashSet;
 use std::hash::RandomState;
 
 /// Names, hashed with random keys, since an image's author chooses names.
-type Names<'a> = HashSet<&'a Name, RandomState>;
+type Names<'a> = HashSet<&'a [u8], RandomState>;
 
 /// Returns the indices of components with the name of an earlier component.
 fn shadowed(
@@ -26,7 +26,7 @@ fn shadowed(
     let mut indices = Vec::new(alloc);
     for i in 0..findings.len() {
         if let RegionFinding::Component { name, .. } = &findings[i] {
-            let is_new = names.insert(name)?;
+            let is_new = names.insert(name.as_slice())?;
             push_if(&mut indices, !is_new, i)?;
         }
     }
