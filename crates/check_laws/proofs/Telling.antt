@@ -5,7 +5,7 @@ use Rattle.flash_format.specs.Cut.{End, complete, tail, damage, cut}
 use Rattle.flash_map.specs.declared.areas.NumberedArea.{NumberedArea}
 use Rattle.cbfs_walk.specs.Finding.{not_found}
 use Rattle.cbfs_walk.specs.Shaped.{place_after}
-use Rattle.check_findings.specs.Image.Laws.{IsFit, IsWhole}
+use Rattle.check_findings.specs.Laws.{IsFit, IsWhole}
 use Rattle.cbfs_commands.specs.Outcomes.{print_region}
 use Rattle.cbfs_commands.specs.Printouts.{shows}
 use Rattle.cbfs_commands.specs.Rows.{rows_from}

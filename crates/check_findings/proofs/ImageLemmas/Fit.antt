@@ -15,13 +15,13 @@ use Rattle.cbfs_walk.specs.Shaped.{place_after}
 use Rattle.cbfs_walk.specs.Shapes.{has_bad_size, is_absent, refused_or}
 use Rattle.cbfs_walk.specs.declared.walk.WalkFault.TheVariants as faults
 use Rattle.std.proofs.lemmas.Grind.{common_steps}
-use Rattle.check_findings.specs.Region.Laws.{IsBlankTail}
+use Rattle.check_findings.specs.Laws.{IsBlankTail}
 use Rattle.check_findings.specs.Region.RegionFindings.{all_marked, cell_findings, cells_findings, component_finding, counts_of, end_findings, marked, region_findings, shape_findings, tail_bytes, tail_findings, walk_findings}
 use Rattle.check_findings.specs.declared.region.finding.RegionFinding.{RegionFinding}
 use Rattle.check_findings.specs.declared.region.finding.RegionFinding.TheVariants as findings
 use Rattle.check_findings.proofs.MapLemmas.Sound.{none_of}
 use Rattle.check_findings.proofs.RegionLemmas.Tails.{none_filled}
-use Rattle.check_findings.specs.Image.Laws.{IsIntact, IsWhole}
+use Rattle.check_findings.specs.Laws.{IsIntact, IsWhole}
 use Rattle.check_findings.specs.Image.Verdicts.{is_bad_region}
 
 -- a bad finding makes the list bad

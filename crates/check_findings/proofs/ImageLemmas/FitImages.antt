@@ -23,7 +23,7 @@ use Rattle.check_findings.specs.declared.image.finding.ImageFinding.{ImageFindin
 use Rattle.check_findings.specs.declared.image.finding.ImageFinding.TheVariants.{Map, NotChecked}
 use Rattle.check_findings.specs.Region.RegionFindings.{region_findings}
 use Rattle.check_findings.specs.Image.ImageFindings.{areas_findings, bytes_of, expected_names, has_one_of, image_findings, is_wanted, left_after, range_of}
-use Rattle.check_findings.specs.Image.Laws.{InFitImages, InFitRegions, IsFit, LosesNothing}
+use Rattle.check_findings.specs.Laws.{InFitImages, InFitRegions, IsFit, LosesNothing}
 use Rattle.check_findings.specs.Image.RegionAreas.{region_areas}
 use Rattle.check_findings.specs.Image.Verdicts.{is_bad, is_bad_map, is_bad_region}
 use Rattle.check_findings.proofs.ImageLemmas.Fit.{fit_region}

@@ -11,11 +11,11 @@ use Rattle.cbfs_walk.specs.Shapes.{shape_fault, refused_or}
 use Rattle.cbfs_walk.specs.Shaped.{place_after}
 use Rattle.cbfs_walk.specs.declared.walk.WalkFault.{WalkFault}
 use Rattle.cbfs_walk.specs.declared.walk.WalkFault.TheVariants as walk
-use Rattle.check_findings.specs.Region.Counts.{free_bytes, largest_room}
+use Rattle.check_findings.specs.Region.RegionFindings.{free_bytes, largest_room}
 use Rattle.check_findings.specs.Region.RegionFindings.{all_marked, cells_findings, component_content, counts_of, end_findings, marked, region_findings, shape_findings, walk_findings}
 use Rattle.flash_format.specs.Flashmap.{is_area}
 use Rattle.check_findings.specs.Image.Needs.{Wish, content_named, first_content, unmet, unmet_by}
-use Rattle.check_findings.specs.Image.Laws.{IsMet, NeedsAreThere}
+use Rattle.check_findings.specs.Laws.{IsMet, NeedsAreThere}
 use Rattle.check_findings.specs.Image.ImageFindings.{areas_findings, bytes_of, expected_names, has_one_of, image_findings, left_after, names_findings, wanted_areas}
 use Rattle.check_findings.specs.Image.RegionAreas.{region_areas}
 use Rattle.check_findings.specs.Map.MapFindings.{map_findings}

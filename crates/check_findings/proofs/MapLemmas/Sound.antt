@@ -5,7 +5,7 @@ use Rattle.std.specs.List.{find, flat_map, list_any}
 use Rattle.std.specs.Option.{option_map, option_map_or, option_to_list}
 use Rattle.std.specs.Str.{is_utf8}
 use Rattle.std.proofs.lemmas.Bool.{not-false, or_parts, eqb-true}
-use Rattle.std.proofs.lemmas.List.Elements.{All-nil, All-cons, All-contains, All-weaker}
+use Rattle.std.proofs.lemmas.List.Elements.{All-nil, All-cons, All-contains, All-contains_itself, All-weaker}
 use Rattle.std.proofs.lemmas.Grind.{common_steps}
 use Rattle.std.proofs.lemmas.List.Folds.{list_any-append}
 use Rattle.std.proofs.lemmas.Slice.Eq.{bytes_eq-Decides}
@@ -18,9 +18,9 @@ use Rattle.flash_map.specs.declared.areas.NumberedArea.{NumberedArea}
 use Rattle.check_findings.specs.Lists.{only_if}
 use Rattle.check_findings.specs.declared.map.finding.MapFinding.{MapFinding}
 use Rattle.check_findings.specs.declared.map.finding.MapFinding.TheVariants as findings
-use Rattle.check_findings.specs.Map.MapFindings.{area_findings, ends_inside, findings_of, map_area_findings, map_findings, name_findings, overlap, overlap_findings, overlap_with}
+use Rattle.check_findings.specs.Map.MapFindings.{area_findings, ends_inside, findings_of, map_area_findings, map_findings, name_findings, namesake, overlap, overlap_findings, overlap_with}
 use Rattle.flash_map.specs.Areas.{has_name, map_areas, numbered_from}
-use Rattle.check_findings.specs.Map.Laws.{HoldsMap, IsInside, IsSound, Nest, CleanMapsAreSound}
+use Rattle.check_findings.specs.Laws.{HoldsMap, IsInside, IsSound, Nest, CleanMapsAreSound}
 
 -- ---- no findings
 
@@ -123,7 +123,7 @@ sound_of image map found e =
       only = uncaused findings.OtherMap next a.0;
       inside = All-weaker Is (λ a. IsInside n a.area) (λ a none. (sound_area n a none).0) areas each;
       text = All-weaker Is (λ a. is_utf8 (text_of a.area.name) ≡ true) (λ a none. (sound_area n a none).1) areas each;
-      named = λ x. named every _ x (λ first. refl) d.0;
+      named = All-weaker (Contains areas) (λ a. namesake a areas ≡ Some a) (λ a. named every _ a (λ first. refl) d.0) areas (All-contains_itself areas);
       nested = nested areas f.0;
       held = held map (find (has_name (codes "FMAP")) areas) f.1;
     }

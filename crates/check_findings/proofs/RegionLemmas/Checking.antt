@@ -20,7 +20,7 @@ use Rattle.cbfs_walk.specs.declared.walk.WalkFault.TheVariants as walk
 use Rattle.cbfs_walk.proofs.Shapes.{shaped_step}
 use Rattle.flash_format.specs.Head.{head_of, is_free}
 use Rattle.flash_format.specs.declared.head.DamageKind.{DamageKind}
-use Rattle.check_findings.specs.Region.Counts.{IsCountBefore, nothing, count_after}
+use Rattle.check_findings.specs.Region.Reports.{IsCountBefore, nothing, count_after}
 use Rattle.check_findings.specs.Region.RegionFindings.{cell_findings, cells_findings, counts_of, end_findings, tail_findings, shape_findings, walk_findings}
 use Rattle.check_findings.specs.Region.Reports.{counted}
 use Rattle.check_findings.specs.declared.region.finding.RegionFinding.{RegionFinding}

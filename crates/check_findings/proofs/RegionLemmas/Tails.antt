@@ -12,7 +12,7 @@ use Rattle.flash_device.specs.Pages.{Pages, HasRead}
 use Rattle.flash_device.specs.Regions.{LiesOn, Range, bytes_in}
 use Rattle.flash_device.proofs.DeviceLemmas.{honest_still, length-bytes_in}
 use Rattle.cbfs_walk.proofs.Parts.{length-range, part-in, range_is, range-after}
-use Rattle.check_findings.specs.Region.Laws.{BlankTailsAreKnown}
+use Rattle.check_findings.specs.Laws.{BlankTailsAreKnown}
 use Rattle.check_findings.specs.Region.RegionFindings.{entries_findings, entry_findings, is_filled, tail_bytes, tail_findings}
 
 -- ---- the first filled byte

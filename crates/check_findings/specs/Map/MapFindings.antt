@@ -23,12 +23,16 @@ area_findings n a =
     ++ (only_if (a.area.size == 0) (findings.AreaEmpty a)
     ++ only_if (not (is_utf8 (text_of a.area.name))) (findings.AreaNameNotText a))
 
+-- the first area with this area's name
+abbrev pub namesake : NumberedArea → List NumberedArea → Option NumberedArea
+namesake a areas = find (has_name (text_of a.area.name)) areas
+
 -- of an area in `all`, if it isn't the first area of its name
 abbrev pub name_findings : List NumberedArea → NumberedArea → List MapFinding
 name_findings all a =
     option_map_or (λ (first : NumberedArea).
     only_if (nat_lt first.number a.number) (findings.SameName a first))
-    (find (has_name (text_of a.area.name)) all) []
+    (namesake a all) []
 
 -- area `a` begins before area `b` and ends inside it
 abbrev pub ends_inside : Area → Area → Bool

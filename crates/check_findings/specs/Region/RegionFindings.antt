@@ -1,8 +1,8 @@
 -- Findings of a region.
 use Rattle.std.specs.Prelude.{ℕ, zero, suc, ◌+◌, ◌-◌, ◌/◌, Bool, false, not, ◌||◌}
-use Rattle.std.specs.Prelude.{List, [], ◌∷◌, ◌++◌, drop, length, slice_range}
+use Rattle.std.specs.Prelude.{List, [], ◌∷◌, ◌++◌, drop, filter, length, max, slice_range}
 use Rattle.std.specs.Prelude.{nat_le, is_some, ◌==◌, if◌then◌else◌}
-use Rattle.std.specs.List.{list_any, position_from, scan}
+use Rattle.std.specs.List.{list_any, position_from, scan, sum_by}
 use Rattle.std.specs.Option.{option_map_or}
 use Rattle.std.specs.Str.{bytes_eq}
 use Rattle.flash_format.specs.Head.{head_of, is_free}
@@ -19,7 +19,6 @@ use Rattle.cbfs_walk.specs.Shaped.{place_after}
 use Rattle.cbfs_walk.specs.declared.walk.WalkFault.{WalkFault}
 use Rattle.cbfs_walk.specs.declared.walk.WalkFault.TheVariants as walk
 use Rattle.check_findings.specs.Lists.{only_if}
-use Rattle.check_findings.specs.Region.Counts.{free_bytes, largest_room}
 use Rattle.check_findings.specs.declared.region.finding.Content.{Content}
 use Rattle.check_findings.specs.declared.region.finding.HashFinding.{HashFinding}
 use Rattle.check_findings.specs.declared.region.finding.HashFinding.TheVariants as hashes
@@ -96,6 +95,23 @@ shape_findings walk.RegionShape = findings.BadSize ∷ []
 shape_findings walk.NotCbfs = findings.NotCbfs ∷ []
 shape_findings _ = []
 
+-- ---- counts
+
+unfoldable pub free_bytes : List (List ℕ) → ℕ
+free_bytes cells = sum_by length (filter (λ x. is_free (head_of x)) cells)
+
+-- the usable bytes of an empty run: four less at the end of the region
+abbrev pub usable : ℕ → ℕ → ℕ → ℕ
+usable size start end = end - start - (if end == size then 4 else 0)
+
+-- the most usable bytes of an empty run; the first run begins at `start`, the list at `at`
+unfoldable pub largest_room : ℕ → ℕ → ℕ → List (List ℕ) → ℕ
+largest_room size start at [] = usable size start at
+largest_room size start at (x ∷ cells) =
+    let end = at + length x in
+    if is_free (head_of x) then largest_room size start end cells
+    else max (usable size start at) (largest_room size end end cells)
+
 -- In `room` bytes, 28 bytes hold the header and a name of at most 3 bytes with its NUL.
 abbrev pub count_findings : ℕ → ℕ → ℕ → List RegionFinding
 count_findings components free room =
@@ -108,6 +124,8 @@ abbrev pub counts_of : ℕ → List (List ℕ) → List RegionFinding
 counts_of size cells =
     count_findings (length (components_from 0 cells)) (free_bytes cells)
     (largest_room size 0 0 cells)
+
+-- ---- the region
 
 -- a bad shape alone, or the findings of the entries, of their end, and of the counts
 unfoldable pub walk_findings : List ℕ → List RegionFinding

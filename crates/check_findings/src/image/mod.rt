@@ -3,7 +3,6 @@
 
 mod finding;
 mod image;
-mod laws;
 mod names;
 mod needs;
 mod starts;
@@ -12,9 +11,6 @@ mod wanted;
 
 pub use finding::{ImageFinding, RegionFindings};
 pub use image::{CheckedImage, check_image};
-pub use laws::{
-    fit_images_are_whole, fit_regions_are_whole, fit_regions_lose_nothing, needs_are_there,
-};
 pub use needs::{Need, NeedFinding, NeededPlace, unmet};
 pub use verdict::{is_bad_hash, is_bad_map};
 pub use wanted::cbfs_areas;

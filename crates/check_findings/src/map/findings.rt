@@ -8,7 +8,7 @@ ghost use Rattle.check_findings.specs.Map.MapFindings.{area_findings, findings_o
 ghost use Rattle.check_findings.specs.Map.MapFindings.{holds_map, map_area_findings};
 ghost use Rattle.flash_map.specs.Areas.{has_name};
 
-use crate::lists::{Pushed, push_if};
+use crate::lists::{Pushed, push, push_if};
 use crate::map::finding::{MapFinding, MapFindings};
 use crate::map::names::push_name_findings;
 use crate::map::overlaps::push_overlap_findings;
@@ -66,7 +66,7 @@ fn push_map_area_findings(
         ++ map_area_findings map.now (find (has_name (codes "FMAP")) areas.now)) }
 {
     let Some(a) = map_area(areas) else {
-        return push_if(findings, true, MapFinding::NoMapArea);
+        return push(findings, MapFinding::NoMapArea);
     };
     let misses = !holds_map(map, &a.area);
     push_if(findings, misses, MapFinding::MapAreaMisses(a))

@@ -1,7 +1,7 @@
 //! Sums over entries.
 ghost use Rattle.std.specs.Prelude.{◌≡◌, ◌+◌, ◌^◌, ◌<◌, ◌++◌, IfOk};
 ghost use Rattle.flash_format.specs.Head.{is_free};
-ghost use Rattle.check_findings.specs.Region.Counts.{usable};
+ghost use Rattle.check_findings.specs.Region.RegionFindings.{usable};
 
 use crate::region::finding::RegionFinding;
 use cbfs_walk::Cell;
@@ -11,7 +11,7 @@ use std::alloc::AllocError;
 const METADATA: u64 = 28;
 
 /// The sums over the entries before an offset.
-#[derive(Clone, Copy)]
+#[derive(Clone, Copy, Default)]
 pub struct Count {
     /// The region's size in bytes.
     pub size: u64,
@@ -33,20 +33,15 @@ fn usable(size: u64, start: u64, end: u64) -> u64
 }
 
 impl Count {
-    ghost use Rattle.check_findings.specs.Region.Counts.{IsCountBefore, count_after};
-    ghost use Rattle.check_findings.specs.Region.Counts.{nothing, room_to};
-    ghost use Rattle.check_findings.specs.Region.Reports.{counted};
+    ghost use Rattle.check_findings.specs.Region.Reports.{IsCountBefore, count_after, counted};
+    ghost use Rattle.check_findings.specs.Region.Reports.{nothing, room_to};
 
     pub fn new(size: u64) -> Count
         ensures { result ≡ nothing size }
     {
-        Count {
-            size,
-            components: 0,
-            free: 0,
-            start: 0,
-            room: 0,
-        }
+        let mut count = Count::default();
+        count.size = size;
+        count
     }
 
     /// Returns the most usable bytes of an empty run, if the entries end here.
