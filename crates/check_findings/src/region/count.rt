@@ -39,9 +39,10 @@ impl Count {
     pub fn new(size: u64) -> Count
         ensures { result ≡ nothing size }
     {
-        let mut count = Count::default();
-        count.size = size;
-        count
+        Count {
+            size,
+            ..Count::default()
+        }
     }
 
     /// Returns the most usable bytes of an empty run, if the entries end here.
