@@ -12,7 +12,7 @@ use crate::areas::names::{NamedAreas, NamedBoth};
 use crate::areas::pairs::{AreaPair, pairs, push_gone};
 use crate::fault::ChangeFault;
 use crate::images::{Both, Images, taken, whole};
-use crate::lists::push_if;
+use check_findings::{push, push_if};
 use flash_device::Flash;
 use flash_map::NumberedArea;
 use std::alloc::{AllocError, Global};
@@ -26,7 +26,7 @@ fn push_entry_changes(changes: &mut Vec<AreaChange>, pair: AreaPair) -> Result<(
 {
     let new = pair.new;
     let Some(old) = pair.old else {
-        return push_if(changes, true, AreaChange::Added(new));
+        return push(changes, AreaChange::Added(new));
     };
     let is_moved = old.area.offset != new.area.offset;
     push_if(changes, is_moved, AreaChange::Moved { old, new })?;
@@ -55,14 +55,12 @@ fn push_content_changes<F: Flash, G: Flash>(
 {
     let area = pair.new;
     let Some(regions) = taken(left, pair.regions(images.lengths())) else {
-        push_if(changes, pair.is_same_size(), AreaChange::NotCompared(area))?;
-        return Ok(());
+        return Ok(push_if(changes, pair.is_same_size(), AreaChange::NotCompared(area))?);
     };
     let len = blocks_of(regions.old.size());
     let Differing { blocks, own } = different_in(images, &regions, pairs, len)?;
     let change = AreaChange::Differs { area, blocks, own };
-    push_if(changes, blocks > 0, change)?;
-    Ok(())
+    Ok(push_if(changes, blocks > 0, change)?)
 }
 
 fn push_changes<F: Flash, G: Flash>(
