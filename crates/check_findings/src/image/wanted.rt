@@ -76,11 +76,6 @@ fn is_wanted<F: Flash>(
     let Some(region) = Region::within(start, size, paged.len()) else {
         return Ok(false);
     };
-    if expected.contains(area) {
-        return Ok(true);
-    }
-    if starts.has_smaller(area) {
-        return Ok(false);
-    }
-    has_entry_at(paged, region, 0)
+    Ok(expected.contains(area)
+        || (!starts.has_smaller(area) && has_entry_at(paged, region, 0)?))
 }

@@ -1,7 +1,6 @@
 //! Sums over entries.
 ghost use Rattle.std.specs.Prelude.{◌≡◌, ◌+◌, ◌^◌, ◌<◌, ◌++◌, IfOk};
 ghost use Rattle.flash_format.specs.Head.{is_free};
-ghost use Rattle.check_findings.specs.Region.RegionFindings.{usable};
 
 use crate::region::finding::RegionFinding;
 use cbfs_walk::Cell;
@@ -24,14 +23,6 @@ pub struct Count {
     pub room: u64,
 }
 
-/// Returns the usable bytes of an empty run: all but the region's last four.
-fn usable(size: u64, start: u64, end: u64) -> u64
-    ensures { result ≡ usable size start end }
-{
-    let kept = if end == size { 4 } else { 0 };
-    end.saturating_sub(start).saturating_sub(kept)
-}
-
 impl Count {
     ghost use Rattle.check_findings.specs.Region.Reports.{IsCountBefore, count_after, counted};
     ghost use Rattle.check_findings.specs.Region.Reports.{nothing, room_to};
@@ -45,11 +36,14 @@ impl Count {
         }
     }
 
-    /// Returns the most usable bytes of an empty run, if the entries end here.
+    /// Returns the most usable bytes of an empty run, if the entries end here: all but the region's
+    /// last four.
     fn room_to(self, end: u64) -> u64
         ensures { result ≡ room_to self end }
     {
-        self.room.max(usable(self.size, self.start, end))
+        let kept = if end == self.size { 4 } else { 0 };
+        let usable = end.saturating_sub(self.start).saturating_sub(kept);
+        self.room.max(usable)
     }
 
     pub fn with(self, cell: &Cell) -> Count

@@ -10,10 +10,8 @@ use std::alloc::{AllocError, Global};
 use std::collections::HashSet;
 use std::hash::RandomState;
 
-/// Names, hashed with random keys, since an image's author chooses names.
-type Names<'a> = HashSet<&'a [u8], RandomState>;
-
-/// Returns the indices of components with the name of an earlier component.
+/// Returns the indices of components with the name of an earlier component. Random keys hash the
+/// names, since an image's author chooses them.
 fn shadowed(
     alloc: Global,
     keys: RandomState,
@@ -22,7 +20,7 @@ fn shadowed(
     ensures { IfOk result (λ indices.
         fold mark_at findings.now indices.items ≡ all_marked [] findings.now) }
 {
-    let mut names: Names = HashSet::with_capacity_and_hasher(alloc, findings.len(), keys)?;
+    let mut names = HashSet::with_capacity_and_hasher(alloc, findings.len(), keys)?;
     let mut indices = Vec::new(alloc);
     for i in 0..findings.len() {
         if let RegionFinding::Component { name, .. } = &findings[i] {
