@@ -1,10 +1,10 @@
 -- Images without bad findings.
+use Rattle.std.proofs.lemmas.List.Folds.{list_any-append}
 use Rattle.check_findings.specs.declared.image.finding.ImageFinding.TheVariants.{Region}
-use Rattle.check_findings.specs.Lists.{only_if}
-use Rattle.std.proofs.Common.{arith, ◌≡◌, ◌∙◌, ℕ, ◌+◌, ◌≤◌, Bool, true, false, not, ◌||◌, cond, All, Contains, List, [], ◌∷◌, ◌++◌, ◌*◌, drop, length, nat_eq, nat_le, Option, Some, None, Ok, refl, sym, ap, subst}
+use Rattle.std.proofs.Common.{arith, ◌≡◌, ◌∙◌, ℕ, ◌+◌, ◌≤◌, Bool, true, false, ◌||◌, cond, All, Contains, List, [], ◌∷◌, ◌++◌, ◌*◌, drop, length, nat_le, Option, Some, None, Ok, refl, sym, ap, subst}
 use Rattle.std.specs.Prelude.{filter, map}
 use Rattle.std.specs.List.{find, flat_map, list_any}
-use Rattle.std.specs.Option.{option_map, option_map_or, option_to_list}
+use Rattle.std.specs.Option.{option_map, option_map_or}
 use Rattle.std.proofs.lemmas.Bool.{and_parts, le-ltb, leb-true, or_parts}
 use Rattle.std.proofs.lemmas.List.Elements.{All-nil, All-cons, All-head, All-tail, All-filter, All-weaker, All-contains_itself, filter_passes}
 use Rattle.std.proofs.lemmas.Grind.{common_steps}
@@ -14,9 +14,9 @@ use Rattle.flash_map.specs.declared.search.FoundMap.{FoundMap}
 use Rattle.flash_map.specs.Fmap.{found_from, found_in}
 use Rattle.flash_map.specs.Regions.{region_of, region_under}
 use Rattle.check_findings.specs.declared.map.finding.MapFinding.{MapFinding}
-use Rattle.check_findings.specs.declared.map.finding.MapFinding.TheVariants.{NoMap, OtherMap, OtherSize}
+use Rattle.check_findings.specs.declared.map.finding.MapFinding.TheVariants.{NoMap}
 use Rattle.flash_map.specs.declared.areas.NumberedArea.{NumberedArea}
-use Rattle.check_findings.specs.Map.MapFindings.{area_findings, findings_of, map_findings, name_findings}
+use Rattle.check_findings.specs.Map.MapFindings.{findings_of, map_findings, name_findings}
 use Rattle.flash_map.specs.Areas.{area_end, has_name, image_areas, map_areas, numbered_from}
 use Rattle.check_findings.proofs.MapLemmas.Sound.{named, none_of}
 use Rattle.check_findings.specs.declared.image.finding.ImageFinding.{ImageFinding}
@@ -32,11 +32,7 @@ use Rattle.check_findings.proofs.ImageLemmas.Regions.{regions_of}
 -- ---- names of areas are different
 
 fit_names : (n : ℕ) (map : FoundMap) (next : Option FoundMap) (areas : List NumberedArea) → list_any is_bad_map (findings_of n map next areas) ≡ false → list_any is_bad_map (flat_map (name_findings areas) areas) ≡ false
-fit_names n map next areas fit =
-    let other = none_of is_bad_map (option_to_list (option_map OtherMap next)) _ fit in
-    let size = none_of is_bad_map (only_if (not (nat_eq map.head.size n)) OtherSize) _ other.1 in
-    let each = none_of is_bad_map (flat_map (area_findings n) areas) _ size.1 in
-    (none_of is_bad_map (flat_map (name_findings areas) areas) _ each.1).0
+fit_names n map next areas fit = grind (arith, common_steps, list_any-append, fit)
 
 -- ---- a name finds its first area
 

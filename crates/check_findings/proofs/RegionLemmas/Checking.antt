@@ -1,12 +1,12 @@
 -- The findings so far, and of the rest of a region.
-use Rattle.std.proofs.Common.{◌≡◌, ℕ, ◌+◌, ◌*◌, ◌/◌, ◌%◌, ◌≤◌, ◌⊎◌, inl, inr, IsTrue, List, [], ◌∷◌, ◌++◌, length, Option, Some, None, Ok, Err, refl, sym, ap, subst, ◌∙◌, arith, append_assoc}
+use Rattle.std.proofs.Common.{◌≡◌, ℕ, ◌+◌, ◌*◌, ◌/◌, ◌%◌, ◌≤◌, IsTrue, List, [], ◌∷◌, ◌++◌, length, Option, Some, None, Ok, Err, refl, sym, ap, subst, ◌∙◌, arith, append_assoc}
 use Rattle.std.specs.Prelude.{IsErrOf}
 use Rattle.std.proofs.lemmas.Grind.{common_steps}
 use mathlib.Core.Path.{fun_ext}
 use Rattle.flash_format.specs.Cut.{Cut, End, after, cut}
 use Rattle.flash_device.specs.Device.{Device}
 use Rattle.flash_device.specs.Pages.{Pages, HasRead, OnHonestIn}
-use Rattle.flash_device.proofs.WindowLemmas.{HasRead-none, HasRead-then, HasRead-within}
+use Rattle.flash_device.proofs.WindowLemmas.{HasRead-then}
 use Rattle.flash_device.specs.Regions.{Range, LiesOn, bytes_in}
 use Rattle.flash_device.proofs.DeviceLemmas.{honest_still, length-bytes_in}
 use Rattle.cbfs_walk.specs.Cells.{IsCellIn, cell_in}
@@ -77,18 +77,6 @@ by_step : (x : List ℕ) (n : Count) (at : ℕ) → at ≤ length x → at % 64 
 unfolding findings_from findings_by
 by_step x n at inside aligned = ap (λ (f : Count → List RegionFinding). f n) (shaped_step fault_findings (cut_findings x) cell_step (law x) x at inside aligned)
 
-by_end : (x : List ℕ) (n : Count) → findings_by x n (Ok steps.End) ≡ findings.Complete ∷ counted n (length x)
-unfolding findings_by cut_findings cells_findings last
-by_end x n = ap (λ m. findings.Complete ∷ m) (count_none n (length x))
-
-by_tail : (x : List ℕ) (n : Count) (at : ℕ) → findings_by x n (Ok (steps.Tail at)) ≡ tail_findings at x ++ counted n at
-unfolding findings_by cut_findings cells_findings last
-by_tail x n at = ap (λ m. tail_findings at x ++ m) (count_none n at)
-
-by_damage : (x : List ℕ) (n : Count) (at : ℕ) (kind : DamageKind) → findings_by x n (Err (walk.Damaged at kind)) ≡ findings.Damaged at kind ∷ counted n at
-unfolding findings_by cut_findings cells_findings last
-by_damage x n at kind = ap (λ m. findings.Damaged at kind ∷ m) (count_none n at)
-
 -- a tail begins at the walk's offset
 tail_place : (x : List ℕ) (place at : ℕ) → (let a : Answer = Ok (steps.Tail at) in a) ≡ answer_at x place → at ≡ place
 unfolding answer_at
@@ -156,25 +144,28 @@ module _ {F : Type 0} (facts : F → Device) (r : Range) (w : Walking) (found : 
 
   pub checking_end : (end : ℕ) (next all : List RegionFinding) → Answers facts w now (Ok steps.End) → end ≡ r.size → next ≡ found ++ findings.Complete ∷ [] → all ≡ next ++ counted count end
       → IsTrue (facts old.device).honest → all ≡ walk_findings x
+  unfolding findings_by cut_findings cells_findings last
   checking_end end next all answer place pushed is_all =
       let same : end ≡ length x = place ∙ sym (length-bytes_in r (facts old.device).content lies.inside) in
       stopped (Ok steps.End) (findings.Complete ∷ counted count end) all answer (λ e. cc) (with_counts (findings.Complete ∷ []) next all end pushed is_all)
-      (by_end x count ∙ ap (λ p. findings.Complete ∷ counted count p) (sym same))
+      (ap (λ m. findings.Complete ∷ m) (count_none count (length x)) ∙ ap (λ p. findings.Complete ∷ counted count p) (sym same))
 
   pub checking_tail : (at here n : ℕ) (mid : Pages F) (next all : List RegionFinding) → Answers facts w now (Ok (steps.Tail at)) → here ≡ w.at → HasRead facts n 0 now mid
       → OnHonestIn facts mid.device r (λ y. next ≡ found ++ tail_findings here y) → all ≡ next ++ counted count here → IsTrue (facts old.device).honest → all ≡ walk_findings x
+  unfolding findings_by cut_findings cells_findings last
   checking_tail at here n mid next all answer place reads pushed is_all h =
       let k = honest_still i.reached.read.device.calls.same_honesty h in
       let content : (facts mid.device).content ≡ (facts old.device).content = reads.device.unchanged k ∙ i.reached.read.device.unchanged h in
       let same : at ≡ here = tail_place x w.at at (answered (Ok (steps.Tail at)) answer (λ e. cc) h).0 ∙ sym place in
       stopped (Ok (steps.Tail at)) (tail_findings here x ++ counted count here) all answer (λ e. cc)
       (with_counts (tail_findings here x) next all here (rw content at (pushed (honest_still reads.device.calls.same_honesty k))) is_all)
-      (by_tail x count at ∙ ap (λ p. tail_findings p x ++ counted count p) same) h
+      (ap (λ m. tail_findings at x ++ m) (count_none count at) ∙ ap (λ p. tail_findings p x ++ counted count p) same) h
 
   pub checking_damage : (at : ℕ) (kind : DamageKind) (next all : List RegionFinding) → Answers facts w now (Err (walk.Damaged at kind)) → next ≡ found ++ findings.Damaged at kind ∷ [] → all ≡ next ++ counted count at
       → IsTrue (facts old.device).honest → all ≡ walk_findings x
+  unfolding findings_by cut_findings cells_findings last
   checking_damage at kind next all answer pushed is_all =
-      stopped (Err (walk.Damaged at kind)) (findings.Damaged at kind ∷ counted count at) all answer (λ e. cc) (with_counts (findings.Damaged at kind ∷ []) next all at pushed is_all) (by_damage x count at kind)
+      stopped (Err (walk.Damaged at kind)) (findings.Damaged at kind ∷ counted count at) all answer (λ e. cc) (with_counts (findings.Damaged at kind ∷ []) next all at pushed is_all) (ap (λ m. findings.Damaged at kind ∷ m) (count_none count at))
 
   pub checking_size : (all : List RegionFinding) → Answers facts w now (Err walk.RegionShape) → all ≡ found ++ findings.BadSize ∷ [] → IsTrue (facts old.device).honest → all ≡ walk_findings x
   unfolding findings_by fault_findings

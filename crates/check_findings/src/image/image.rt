@@ -54,8 +54,7 @@ fn area_finding<F: Flash>(
     match Region::within(start, size, paged.len()) {
         Some(region) if size <= *left => {
             *left -= size;
-            let findings = check_region(alloc, keys, paged, region)?;
-            let findings = RegionFindings::new(findings);
+            let findings = RegionFindings::new(check_region(alloc, keys, paged, region)?);
             Ok(ImageFinding::Region { area, findings })
         }
         _ => Ok(ImageFinding::NotChecked { area, is_named }),

@@ -54,13 +54,12 @@ fn push_cell<F: Flash>(
         compression,
         hash: HashFinding::of(state),
     };
-    findings.push(RegionFinding::Component {
+    Ok(findings.push(RegionFinding::Component {
         at: cell.at,
         name: Name::copied(alloc, &field[..len])?,
         is_shadowed: false,
         content,
-    })?;
-    Ok(())
+    })?)
 }
 
 /// Returns the findings of a region, entry by entry, without marks of shadowed components.
