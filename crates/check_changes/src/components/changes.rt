@@ -9,7 +9,7 @@ ghost use Rattle.check_changes.specs.Components.Pairs.{regions_of};
 ghost use Rattle.check_changes.specs.Images.{HasCompared, HasReadFor, LieOn, OnBothIn};
 
 use crate::components::change::{ComponentChange, Difference};
-use crate::components::compare::difference;
+use crate::components::comparison::difference;
 use crate::components::first::{Listing, with_firsts};
 use crate::components::listing::{Listed, components};
 use crate::fault::ChangeFault;

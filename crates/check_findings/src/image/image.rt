@@ -17,7 +17,7 @@ ghost use Rattle.check_findings.specs.Image.RegionAreas.{sum_sizes};
 
 use crate::image::finding::{ImageFinding, RegionFindings};
 use crate::image::names::{NameSet, push_missing};
-use crate::image::wanted::wanted_areas;
+use crate::image::choice::wanted_areas;
 use crate::map::{MapFinding, check_map};
 use crate::region::check_region;
 use flash_device::{Flash, Paged, Region};

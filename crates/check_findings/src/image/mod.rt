@@ -7,10 +7,10 @@ mod names;
 mod needs;
 mod starts;
 mod verdict;
-mod wanted;
+mod choice;
 
 pub use finding::{ImageFinding, RegionFindings};
 pub use image::{CheckedImage, check_image};
 pub use needs::{Need, NeedFinding, NeededPlace, unmet};
 pub use verdict::{is_bad_hash, is_bad_map};
-pub use wanted::cbfs_areas;
+pub use choice::cbfs_areas;

@@ -4,7 +4,7 @@ use Rattle.flash_device.proofs.WindowLemmas.{HasRead-then}
 use Rattle.flash_map.specs.Areas.{area_end}
 use Rattle.check_findings.specs.Image.ImageFindings.{is_wanted}
 use Rattle.check_findings.proofs.ImageLemmas.Regions.{filtered, wanted_more}
-use Rattle.check_findings.proofs.image.wanted.wanted_areas.Goals as goal
+use Rattle.check_findings.proofs.image.choice.wanted_areas.Goals as goal
 
 pub loop-area-preserved : goal.loop-area-preserved
 loop-area-preserved g c =

@@ -3,7 +3,7 @@ use Rattle.flash_device.proofs.DeviceLemmas.{length-bytes_in}
 use Rattle.check_changes.specs.Areas.AreaChanges.{is_difference}
 use Rattle.check_changes.proofs.ComponentLemmas.Reading.{differ-all, same-all, same-more}
 use Rattle.check_changes.proofs.ImageLemmas.{both-then, OnBoth-before}
-use Rattle.check_changes.proofs.components.compare.same_bytes.Goals as goal
+use Rattle.check_changes.proofs.components.comparison.same_bytes.Goals as goal
 
 pub returns-then-branch-clause-same : goal.returns-then-branch-clause-same
 returns-then-branch-clause-same g c = λ h k.

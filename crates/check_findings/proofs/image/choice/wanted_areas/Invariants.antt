@@ -4,7 +4,7 @@ use Rattle.flash_device.specs.Pages.{HasRead, OnHonest}
 use Rattle.flash_map.specs.Areas.{area_end}
 use Rattle.check_findings.specs.Image.ImageFindings.{is_wanted}
 use Rattle.check_findings.specs.Image.Lookups.{HasNames}
-use Rattle.check_findings.proofs.image.wanted.wanted_areas.Given as goal
+use Rattle.check_findings.proofs.image.choice.wanted_areas.Given as goal
 
 abbrev pub invariant-loop-area : goal.invariant-loop-area
 invariant-loop-area g l =

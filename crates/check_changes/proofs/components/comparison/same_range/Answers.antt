@@ -1,6 +1,6 @@
 use Rattle.std.proofs.Common.{◌-◌, arith}
 use Rattle.check_changes.proofs.ComponentLemmas.Reading.{bytes_in-part}
-use Rattle.check_changes.proofs.components.compare.same_range.Goals as goal
+use Rattle.check_changes.proofs.components.comparison.same_range.Goals as goal
 
 pub returns-clause-same : goal.returns-clause-same
 returns-clause-same g c = λ h k.
