@@ -3,9 +3,8 @@ use Rattle.std.specs.Prelude.{is_none}
 use Rattle.std.specs.List.{enumerate_from, find}
 use Rattle.flash_map.specs.Areas.{has_name}
 use Rattle.check_findings.specs.declared.image.finding.ImageFinding.TheVariants.{NoArea}
-use Rattle.std.proofs.Common.{◌≡◌, ◌∙◌, ℕ, ◌+◌, ◌-◌, ◌*◌, ◌<◌, ◌≤◌, Bool, true, false, cond, All, IsTrue, List, [], ◌∷◌, ◌++◌, length, get_or, drop, take, nat_le, refl, sym, ap, arith, add-one, append_assoc, append-nil, drop-cons, length-append}
+use Rattle.std.proofs.Common.{◌≡◌, ℕ, ◌+◌, ◌-◌, ◌*◌, ◌<◌, ◌≤◌, Bool, true, false, cond, All, IsTrue, List, [], ◌∷◌, ◌++◌, length, get_or, drop, take, nat_le, refl, sym, arith, add-one, append_assoc, append-nil, drop-cons, length-append}
 use Rattle.std.specs.Prelude.{filter, map}
-use Rattle.std.proofs.Math.Seq.{drop-length}
 use Rattle.std.proofs.lemmas.Bool.{leb-true}
 use Rattle.std.proofs.lemmas.Grind.{flat_map-append}
 use Rattle.std.proofs.lemmas.List.Elements.{All-append, All-cons, All-nil, All-push, filter_more}
@@ -47,10 +46,6 @@ checked_more n i left a f findings fits is had = rw (flat_map-append region_area
 pub found_more : (image : List ℕ) (names : List (List ℕ)) (left i : ℕ) (areas : List NumberedArea) (d : NumberedArea) (f : ImageFinding) (before after all : List ImageFinding) → i < length areas → after ≡ before ++ f ∷ [] → f ≡ area_finding image names left (get_or areas i d)
     → before ++ areas_findings image names left (drop i areas) ≡ all → after ++ areas_findings image names (left_after left (get_or areas i d)) (drop (i + 1) areas) ≡ all
 found_more image names left i areas d f before after all lt pushed is so_far = grind (arith, common_steps, append_assoc, drop-cons areas i d lt, add-one i, pushed, is, so_far)
-
-pub found_all : (image : List ℕ) (names : List (List ℕ)) (left i : ℕ) (areas : List NumberedArea) (before all : List ImageFinding) → i ≡ length areas → before ++ areas_findings image names left (drop i areas) ≡ all → before ≡ all
-found_all image names left i areas before all is so_far =
-    sym (append-nil before) ∙ ap (λ (l : List NumberedArea). before ++ areas_findings image names left l) (sym (ap (λ k. drop k areas) is ∙ drop-length areas)) ∙ so_far
 
 -- ---- the whole
 
