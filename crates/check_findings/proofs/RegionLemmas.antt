@@ -1,6 +1,5 @@
 pub mod Marks
 pub mod CountLemmas
-pub mod Reporting
 pub mod Tails
 pub mod Walked
 pub mod Checking
