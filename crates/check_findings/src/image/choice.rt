@@ -76,6 +76,5 @@ fn is_wanted<F: Flash>(
     let Some(region) = Region::within(start, size, paged.len()) else {
         return Ok(false);
     };
-    Ok(expected.contains(area)
-        || (!starts.has_smaller(area) && has_entry_at(paged, region, 0)?))
+    Ok(expected.contains(area) || (!starts.has_smaller(area) && has_entry_at(paged, region, 0)?))
 }

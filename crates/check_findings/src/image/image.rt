@@ -15,9 +15,9 @@ ghost use Rattle.check_findings.specs.Image.Lookups.{HasNames};
 ghost use Rattle.check_findings.specs.Image.RegionAreas.{AreChecked, region_area, region_areas};
 ghost use Rattle.check_findings.specs.Image.RegionAreas.{sum_sizes};
 
+use crate::image::choice::wanted_areas;
 use crate::image::finding::{ImageFinding, RegionFindings};
 use crate::image::names::{NameSet, push_missing};
-use crate::image::choice::wanted_areas;
 use crate::map::{MapFinding, check_map};
 use crate::region::check_region;
 use flash_device::{Flash, Paged, Region};
@@ -92,7 +92,8 @@ fn areas_findings<F: Flash>(
 fn map_part(alloc: Global, found: &[MapFinding]) -> Result<Vec<ImageFinding>, AllocError>
     ensures { IfOk result (λ findings. findings.items ≡ map Map found.now) }
 {
-    found.iter().map(|finding| ImageFinding::Map(*finding)).collect(alloc)
+    let findings = found.iter().map(|finding| ImageFinding::Map(*finding));
+    findings.collect(alloc)
 }
 
 /// An image's findings, map and areas.

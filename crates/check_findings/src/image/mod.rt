@@ -1,16 +1,16 @@
 //! Checks an image: its flash map and CBFS regions. A check allocates memory for findings, and
 //! never writes to the device.
 
+mod choice;
 mod finding;
 mod image;
 mod names;
 mod needs;
 mod starts;
 mod verdict;
-mod choice;
 
+pub use choice::cbfs_areas;
 pub use finding::{ImageFinding, RegionFindings};
 pub use image::{CheckedImage, check_image};
 pub use needs::{Need, NeedFinding, NeededPlace, unmet};
 pub use verdict::{is_bad_hash, is_bad_map};
-pub use choice::cbfs_areas;
