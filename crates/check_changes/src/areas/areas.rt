@@ -82,24 +82,6 @@ fn push_changes<F: Flash, G: Flash>(
     Ok(())
 }
 
-fn area_changes<'a, F: Flash, G: Flash>(
-    alloc: Global,
-    images: &mut Images<F, G>,
-    areas: &NamedBoth<'a>,
-) -> Result<Vec<AreaChange>, ChangeFault>
-    ensures after { HasCompared F.facts G.facts
-        (8 * (lengths F.facts G.facts images.old).new / 4096 + length areas.now.new.all.now)
-        images.old images.new result }
-    ensures changes { OnBoth F.facts G.facts images.old (λ x y. IfOk result (λ changes.
-        changes.items ≡ area_changes x areas.now.old.all.now y areas.now.new.all.now)) }
-{
-    let pairs = pairs(alloc, areas)?;
-    let mut changes = Vec::new(alloc);
-    push_changes(&mut changes, images, &pairs)?;
-    push_gone(&mut changes, areas)?;
-    Ok(changes)
-}
-
 fn different_blocks<F: Flash, G: Flash>(images: &mut Images<F, G>) -> Result<u32, ChangeFault>
     ensures after { HasCompared F.facts G.facts
         (blocks_of (lengths F.facts G.facts images.old).new) images.old images.new result }
@@ -148,10 +130,13 @@ pub fn image_changes<'a, F: Flash, G: Flash>(
         changes.areas.items ≡ area_changes x areas.entry.old.now y areas.entry.new.now)) }
 {
     let blocks = different_blocks(images)?;
-    let areas = NamedBoth {
+    let named = NamedBoth {
         old: NamedAreas::of(alloc, areas.old)?,
         new: NamedAreas::of(alloc, areas.new)?,
     };
-    let areas = area_changes(alloc, images, &areas)?;
+    let pairs = pairs(alloc, &named)?;
+    let mut areas = Vec::new(alloc);
+    push_changes(&mut areas, images, &pairs)?;
+    push_gone(&mut areas, &named)?;
     Ok(ImageChanges { blocks, areas })
 }
