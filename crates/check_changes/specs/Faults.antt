@@ -15,12 +15,7 @@ abbrev pub by_new : ChangeFault → ℕ
 by_new faults.NewDevice = 1
 by_new _ = 0
 
--- the fault of a check of the old image
-abbrev pub of_old : CheckFault → ChangeFault
-of_old check.Device = faults.OldDevice
-of_old check.Memory = faults.Memory
-
--- of the new image
-abbrev pub of_new : CheckFault → ChangeFault
-of_new check.Device = faults.NewDevice
-of_new check.Memory = faults.Memory
+-- the fault of a check of an image on this device
+abbrev pub of_check : ChangeFault → CheckFault → ChangeFault
+of_check device check.Device = device
+of_check device check.Memory = faults.Memory

@@ -1,4 +1,3 @@
-pub mod Lists
 pub mod Faults
 pub mod Images
 pub mod Areas

@@ -16,11 +16,11 @@ pub enum ChangeFault {
 }
 
 impl ChangeFault {
-    ghost use Rattle.check_changes.specs.Faults.{of_old, of_new};
+    ghost use Rattle.check_changes.specs.Faults.{of_check};
 
     /// Returns the fault of a check of the old image.
     pub fn of_old(fault: CheckFault) -> ChangeFault
-        ensures { result ≡ of_old fault }
+        ensures { result ≡ of_check faults.OldDevice fault }
     {
         match fault {
             CheckFault::Device => ChangeFault::OldDevice,
@@ -30,7 +30,7 @@ impl ChangeFault {
 
     /// Returns the fault of a check of the new image.
     pub fn of_new(fault: CheckFault) -> ChangeFault
-        ensures { result ≡ of_new fault }
+        ensures { result ≡ of_check faults.NewDevice fault }
     {
         match fault {
             CheckFault::Device => ChangeFault::NewDevice,

@@ -6,7 +6,6 @@ mod components;
 mod fault;
 mod images;
 mod laws;
-mod lists;
 mod regions;
 
 pub use areas::{AreaChange, Areas, ImageChanges, MapChange, image_changes, map_changes};

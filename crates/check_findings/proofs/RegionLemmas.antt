@@ -1,7 +1,7 @@
 pub mod Marks
 pub mod CountLemmas
-pub mod Reporting
 pub mod Tails
+pub mod Walked
 pub mod Checking
 pub mod Unshadowed
 pub mod Parts

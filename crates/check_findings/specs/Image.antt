@@ -3,4 +3,3 @@ pub mod RegionAreas
 pub mod Lookups
 pub mod Verdicts
 pub mod Needs
-pub mod Laws

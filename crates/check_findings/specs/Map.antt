@@ -1,2 +1,1 @@
 pub mod MapFindings
-pub mod Laws

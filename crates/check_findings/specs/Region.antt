@@ -1,4 +1,2 @@
-pub mod Counts
 pub mod RegionFindings
 pub mod Reports
-pub mod Laws

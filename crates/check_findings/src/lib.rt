@@ -2,6 +2,7 @@
 #![tactic(auto)]
 
 mod image;
+mod laws;
 mod lists;
 mod map;
 mod region;
@@ -9,12 +10,13 @@ mod text;
 
 pub use image::{
     CheckedImage, ImageFinding, Need, NeedFinding, NeededPlace, RegionFindings, cbfs_areas,
-    check_image, fit_images_are_whole, fit_regions_are_whole, fit_regions_lose_nothing,
-    is_bad_hash, is_bad_map, needs_are_there, unmet,
+    check_image, is_bad_hash, is_bad_map, unmet,
 };
-pub use map::{CheckedMap, MapFinding, check_map, clean_maps_are_sound};
-pub use region::{
-    Content, HashFinding, Name, RegionFinding, blank_tails_are_known, check_region,
-    unshadowed_components_are_found,
+pub use laws::{
+    blank_tails_are_known, clean_maps_are_sound, fit_images_are_whole, fit_regions_are_whole,
+    fit_regions_lose_nothing, needs_are_there, unshadowed_components_are_found,
 };
+pub use lists::{Elements, push, push_if};
+pub use map::{CheckedMap, MapFinding, check_map};
+pub use region::{Content, HashFinding, Name, RegionFinding, check_region};
 pub use text::is_text;

@@ -1,16 +1,54 @@
-//! Growing lists.
-ghost use Rattle.std.specs.Prelude.{◌≡◌, [], ◌∷◌, ◌++◌, OnOk, if◌then◌else◌};
+//! Lists.
+ghost use Rattle.std.specs.Prelude.{◌≡◌, [], ◌∷◌, ◌++◌, OnOk};
+ghost use Rattle.check_findings.specs.Lists.{only_if};
 
 use std::alloc::AllocError;
+use std::marker::Model;
 
 pub type Pushed = Result<(), AllocError>;
 
+pub fn push<T: Drop>(list: &mut Vec<T>, element: T) -> Pushed
+    ensures { OnOk result (list.new.items ≡ list.old.items ++ element ∷ []) }
+{
+    list.push(element)?;
+    Ok(())
+}
+
 pub fn push_if<T: Drop>(list: &mut Vec<T>, condition: bool, element: T) -> Pushed
-    ensures { OnOk result (list.new.items
-        ≡ list.old.items ++ (if condition then element ∷ [] else [])) }
+    ensures { OnOk result (list.new.items ≡ list.old.items ++ only_if condition element) }
 {
     if condition {
         list.push(element)?;
     }
     Ok(())
+}
+
+/// Elements of an enum's variant. Contracts see only the elements.
+#[derive(Drop)]
+pub struct Elements<T: Drop> {
+    elements: Vec<T>,
+}
+
+impl<T: Drop> Model for Elements<T> {
+    ghost use Rattle.std.specs.Prelude.{List};
+
+    ghost Value = { List T };
+
+    ghost view = { λ n. n.elements.items };
+}
+
+impl<T: Drop> Elements<T> {
+    /// Wraps these elements.
+    pub fn new(elements: Vec<T>) -> Elements<T>
+        ensures { result ≡ elements.items }
+    {
+        Elements { elements }
+    }
+
+    /// Returns the elements in order.
+    pub fn as_slice(&self) -> &[T]
+        ensures { result.now ≡ self.now }
+    {
+        self.elements.as_slice()
+    }
 }

@@ -13,7 +13,7 @@ use Rattle.cbfs_edit.specs.Removals.{by_rows}
 use Rattle.cbfs_edit.specs.Runs.{add_run, runs_from}
 use Rattle.cbfs_edit.specs.declared.group.CellRange.{CellRange}
 use Rattle.cbfs_edit.specs.declared.place.Place.{Place}
-use Rattle.check_findings.specs.Region.Counts.{largest_room, usable}
+use Rattle.check_findings.specs.Region.RegionFindings.{largest_room, usable}
 use Rattle.check_findings.specs.Region.RegionFindings.{all_marked, cells_findings, counts_of, end_findings, marked, region_findings, walk_findings}
 use Rattle.check_findings.specs.declared.region.finding.RegionFinding.{RegionFinding}
 use Rattle.check_findings.specs.declared.region.finding.RegionFinding.TheVariants.{Component, LargestContent}

@@ -1,15 +1,12 @@
 -- Laws about commands without bad findings, and about `add`.
-use Rattle.std.specs.Prelude.{◌≡◌, ◌↔◌, ◌≤◌, Bool, true, false, All, Contains, List, ℕ, None}
+use Rattle.std.specs.Prelude.{◌≡◌, ◌↔◌, ◌≤◌, Bool, true, Contains, List, ℕ, None}
 use Rattle.std.specs.Prelude.{is_some, length}
-use Rattle.std.specs.List.{list_any}
 use Rattle.flash_format.specs.Components.{Component, components}
 use Rattle.flash_format.specs.Cut.{cut}
 use Rattle.flash_format.specs.Flashmap.{text_of}
 use Rattle.flash_map.specs.declared.areas.NumberedArea.{NumberedArea}
 use Rattle.check_findings.specs.Region.RegionFindings.{region_findings}
-use Rattle.check_findings.specs.Image.ImageFindings.{bytes_of, image_findings}
-use Rattle.check_findings.specs.Image.RegionAreas.{region_areas}
-use Rattle.check_findings.specs.Image.Verdicts.{is_bad, is_bad_region}
+use Rattle.check_findings.specs.Image.ImageFindings.{bytes_of}
 use Rattle.check_findings.specs.declared.region.finding.RegionFinding.TheVariants.{LargestContent}
 use Rattle.cbfs_walk.specs.Shapes.{shape_fault}
 use Rattle.cbfs_edit.specs.Places.{first_place}
@@ -20,12 +17,9 @@ use Rattle.cbfs_commands.specs.Rows.{rows_from}
 use Rattle.cbfs_commands.specs.Outcomes.{extract_region, print_region, printed_component, printed_in}
 use Rattle.cbfs_commands.specs.Printouts.{shows}
 
--- `print` of a region without bad findings lists all cells, and succeeds
-abbrev pub FitRegionsAreListed : Type 0
-FitRegionsAreListed =
-    (needs : Bool) (x : List ℕ) (verbose : Bool)
-    → list_any (is_bad_region needs) (region_findings x) ≡ false
-    → print_region x verbose ≡ shows (rows_from verbose 0 (cut x).cells)
+-- `print` of the region lists all cells, and succeeds
+abbrev pub IsPrinted : List ℕ → Type 0
+IsPrinted x = (verbose : Bool) → print_region x verbose ≡ shows (rows_from verbose 0 (cut x).cells)
 
 -- `print` of the area by name lists all cells, and succeeds
 abbrev pub IsListed : List ℕ → NumberedArea → Type 0
@@ -37,13 +31,6 @@ IsListed image a = (verbose : Bool)
 abbrev pub IsExtracted : List ℕ → NumberedArea → Type 0
 IsExtracted image a = (c : Component) → Contains (components (bytes_of image a)) c
     → printed_in image (text_of a.area.name) (λ x. extract_region x c.name) ≡ printed_component c
-
--- P holds for each checked area of an image without bad findings
-abbrev pub InFitImages : (List ℕ → NumberedArea → Type 0) → Type 0
-InFitImages P =
-    (needs : Bool) (image : List ℕ) (names expected : List (List ℕ))
-    → list_any (is_bad needs) (image_findings image names expected) ≡ false
-    → All (P image) (region_areas (image_findings image names expected))
 
 -- ---- the largest content
 

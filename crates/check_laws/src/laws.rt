@@ -1,13 +1,13 @@
 //! Laws about commands without bad findings, and about `add`, as contracts of functions without
 //! effect.
-ghost use Rattle.check_laws.specs.Laws.{FitRegionsAreListed, InFitImages, IsExtracted, IsListed};
-ghost use Rattle.check_laws.specs.Laws.{LargestContentIsTaken};
+ghost use Rattle.check_findings.specs.Laws.{InFitImages, InFitRegions};
+ghost use Rattle.check_laws.specs.Laws.{IsExtracted, IsListed, IsPrinted, LargestContentIsTaken};
 
 use check_findings::{fit_images_are_whole, fit_regions_are_whole};
 
 /// `print` lists all entries of a region without bad findings, and succeeds.
 pub fn fit_regions_are_listed()
-    ensures { FitRegionsAreListed }
+    ensures { InFitRegions IsPrinted }
 {
     fit_regions_are_whole();
 }

@@ -1,5 +1,5 @@
 -- The components of a region, cell by cell.
-use Rattle.std.proofs.Common.{◌≡◌, ℕ, ◌+◌, ◌/◌, ◌%◌, ◌≤◌, ◌⊎◌, inl, inr, IsTrue, Bool, true, false, cond, List, [], ◌∷◌, ◌++◌, length, map, None, Ok, Err, refl, sym, ap, ◌∙◌, arith, append_assoc}
+use Rattle.std.proofs.Common.{◌≡◌, ℕ, ◌+◌, ◌/◌, ◌%◌, ◌≤◌, IsTrue, Bool, true, false, cond, List, [], ◌∷◌, ◌++◌, length, map, Ok, Err, refl, sym, ap, ◌∙◌, arith, append_assoc}
 use Rattle.std.specs.Prelude.{All, IsErrOf, Vec, slice_range}
 use Rattle.std.specs.declared.alloc.Global.{Global}
 use Rattle.std.proofs.lemmas.List.{map-append, append-nil}
@@ -10,18 +10,19 @@ use Rattle.flash_format.specs.Cut.{Cut}
 use Rattle.flash_format.specs.Components.{component_at, components_from, cell_name}
 use Rattle.flash_device.specs.Device.{Device}
 use Rattle.flash_device.specs.Pages.{Pages, HasRead, OnHonestIn}
-use Rattle.flash_device.proofs.WindowLemmas.{HasRead-none, HasRead-then, HasRead-within}
+use Rattle.flash_device.proofs.WindowLemmas.{HasRead-then}
 use Rattle.flash_device.specs.Regions.{Range, LiesOn, bytes_in}
-use Rattle.flash_device.proofs.DeviceLemmas.{honest_still, length-bytes_in}
+use Rattle.flash_device.proofs.DeviceLemmas.{honest_still}
 use Rattle.cbfs_walk.specs.Cells.{IsCellIn, cell_in}
 use Rattle.cbfs_walk.specs.Hashes.{content_at}
-use Rattle.cbfs_walk.specs.Walks.{reads_over, StepResult, Walking, walk_of, answer_at, StandsIn}
-use Rattle.cbfs_walk.specs.CellReadings.{reading_of, ReadsCells, by_answer}
+use Rattle.cbfs_walk.specs.Walks.{reads_over, Answer, Walking, walk_of, answer_at, StandsIn}
+use Rattle.cbfs_walk.specs.Shaped.{reading_of, ReadsCells, by_answer}
 use Rattle.cbfs_walk.specs.declared.cell.Cell.{Cell}
 use Rattle.cbfs_walk.specs.declared.walk.Step.TheVariants as steps
 use Rattle.cbfs_walk.specs.declared.walk.WalkFault.TheVariants as walk
 use Rattle.cbfs_walk.proofs.Parts.{range-inner}
 use Rattle.cbfs_walk.proofs.Shapes.{shaped_step}
+use Rattle.check_findings.proofs.RegionLemmas.Walked.{Answers, Reached, reached_answer, reached_more, reached_start}
 use Rattle.check_changes.specs.Components.ComponentChanges.{ComponentState, state_of, states}
 use Rattle.check_changes.specs.Components.Listings.{IsListedIn, Lists, cell_states, spans, state_in, states_in}
 use Rattle.check_changes.specs.declared.components.listing.Listed.{Listed}
@@ -70,17 +71,17 @@ unfolding states states_from reading_of rest_read
 states_whole x = refl
 
 -- the same by the result of a walk
-states_by : List ℕ → StepResult → List ComponentState
+states_by : List ℕ → Answer → List ComponentState
 states_by x answer = by_answer (λ fault. []) rest_read rest_cell x answer
 
 states_step : (x : List ℕ) (at : ℕ) → at ≤ length x → at % 64 ≡ 0 → states_from x at ≡ states_by x (answer_at x at)
 unfolding states_from states_by
 states_step x at inside aligned = shaped_step (λ fault. []) rest_read rest_cell law x at inside aligned
 
-abbrev pub IsNoCell : StepResult → Type 0
+abbrev pub IsNoCell : Answer → Type 0
 IsNoCell a = (c : Cell) → a ≡ Ok (steps.Cell c) → ⊥
 
-states_end : (x : List ℕ) (a : StepResult) → IsNoCell a → states_by x a ≡ []
+states_end : (x : List ℕ) (a : Answer) → IsNoCell a → states_by x a ≡ []
 unfolding states_by rest_read components_from
 states_end x (Ok (steps.Cell c)) none = absurd (none c refl)
 states_end x (Ok step) none = refl
@@ -91,22 +92,14 @@ states_end x (Err fault) none = refl
 
 -- the listing has reached the walk's offset
 pub record ListedSoFar {F : Type 0} (facts : F → Device) (r : Range) (w : Walking) (all : Vec Listed Global) (old now : Pages F) : Type 0 where
-  pub region : w.region ≡ r
-  pub going : w.ended ≡ None
-  pub inside : w.at ≤ r.size
-  pub aligned : w.at % 64 ≡ 0
-  pub read : HasRead facts (w.at / 24) 0 old now
+  pub reached : Reached facts r w (w.at / 24) old now
   pub cells : All (IsListedIn r.size) all.items
   pub room : spans all.items ≤ w.at
   pub so_far : IsTrue (facts old.device).honest → states_in (bytes_in r (facts old.device).content) all.items ++ states_from (bytes_in r (facts old.device).content) w.at ≡ states (bytes_in r (facts old.device).content)
 
 pub listing_start : {F : Type 0} (facts : F → Device) (r : Range) (all : Vec Listed Global) (old : Pages F) → all.items ≡ [] → ListedSoFar facts r (walk_of r) all old old
 listing_start facts r all old none = record {
-  region = refl;
-  going = refl;
-  inside = omega arith;
-  aligned = refl;
-  read = HasRead-within facts 0 (0 / 24) 0 old old (omega arith) (HasRead-none facts old);
+  reached = reached_start facts r (0 / 24) old;
   cells = rw none (All-nil (IsListedIn r.size));
   room = rw none (omega arith);
   so_far = λ h. rw none (sym (states_whole (bytes_in r (facts old.device).content)));
@@ -116,41 +109,28 @@ module _ {F : Type 0} (facts : F → Device) (r : Range) (w : Walking) (all : Ve
   abbrev x : List ℕ
   x = bytes_in r (facts old.device).content
 
-  -- the results of the walk on an honest device
-  abbrev pub Answers : StepResult → Type 0
-  Answers a = IsTrue (facts now.device).honest → w.ended ≡ None → IsErrOf a walk.Device ⊎ (a ≡ answer_at (bytes_in w.region (facts now.device).content) w.at)
-
-  answered : (a : StepResult) → (IsErrOf a walk.Device → ⊥) → Answers a → IsTrue (facts old.device).honest → (a ≡ answer_at x w.at) × (states_in x all.items ++ states_by x a ≡ states x)
-  answered a other answer h = go (answer (honest_still i.read.device.calls.same_honesty h) i.going)
-    where
-      go : IsErrOf a walk.Device ⊎ (a ≡ answer_at (bytes_in w.region (facts now.device).content) w.at) → (a ≡ answer_at x w.at) × (states_in x all.items ++ states_by x a ≡ states x)
-      go (inl fault) = absurd (other fault)
-      go (inr is) =
-          let len : length x ≡ r.size = length-bytes_in r (facts old.device).content lies.inside in
-          let here : a ≡ answer_at x w.at = is ∙ ap (λ (k : Range). answer_at (bytes_in k (facts now.device).content) w.at) i.region ∙ ap (λ (l : List ℕ). answer_at (bytes_in r l) w.at) (i.read.device.unchanged h) in
-          let step : states_by x a ≡ states_from x w.at = ap (λ (b : StepResult). states_by x b) here ∙ sym (states_step x w.at (omega (arith, len, i.inside)) i.aligned) in
-          (here, ap (λ (l : List ComponentState). states_in x all.items ++ l) step ∙ i.so_far h)
+  answered : (a : Answer) → (IsErrOf a walk.Device → ⊥) → Answers facts w now a → IsTrue (facts old.device).honest → (a ≡ answer_at x w.at) × (states_in x all.items ++ states_by x a ≡ states x)
+  answered a other answer h =
+      let here = reached_answer facts i.reached a lies answer other h in
+      let step : states_by x a ≡ states_from x w.at = ap (λ (b : Answer). states_by x b) here.0 ∙ sym (states_step x w.at here.1 i.reached.aligned) in
+      (here.0, ap (λ (l : List ComponentState). states_in x all.items ++ l) step ∙ i.so_far h)
 
   -- a cell is listed
   pub listing_more : (c : Cell) (v : Walking) (next : Vec Listed Global) (mid new : Pages F) (n : ℕ) → IsCellIn w.region.size c × (c.at ≡ w.at)
       → HasRead facts n 0 now mid → n ≡ reads_over c.span → HasRead facts 1 0 mid new
-      → Answers (Ok (steps.Cell c))
+      → Answers facts w now (Ok (steps.Cell c))
       → v ≡ record w { at = w.at + c.span; steps = w.steps + 1 }
       → (All (IsListedIn r.size) all.items → All (IsListedIn r.size) next.items) → spans next.items ≤ spans all.items + c.span
       → OnHonestIn facts mid.device r (λ x. StandsIn x c → states_in x next.items ≡ states_in x all.items ++ cell_states x c)
       → ListedSoFar facts r v next old new
   unfolding states_by states_from rest_cell
   listing_more c v next mid new n given reads few more answer moved cells room listed = rw moved (record {
-    region = i.region;
-    going = i.going;
-    inside = omega (arith, cell_of_region.inside, given.1);
-    aligned = omega (arith, i.aligned, given.0.whole);
-    read = HasRead-within facts (w.at / 24 + (n + 1)) ((w.at + c.span) / 24) 0 old new (omega (arith, few, given.0.positive, given.0.whole, i.aligned)) (HasRead-then facts (w.at / 24) (n + 1) 0 old now new i.read (HasRead-then facts n 1 0 now mid new reads more));
+    reached = reached_more facts i.reached c (n + 1) ((w.at + c.span) / 24) new given (HasRead-then facts n 1 0 now mid new reads more) (omega (arith, few, given.0.positive, given.0.whole, i.reached.aligned));
     cells = cells i.cells;
     room = omega (arith, room, i.room);
     so_far = λ h.
-        let k = honest_still i.read.device.calls.same_honesty h in
-        let same : (facts mid.device).content ≡ (facts old.device).content = reads.device.unchanged k ∙ i.read.device.unchanged h in
+        let k = honest_still i.reached.read.device.calls.same_honesty h in
+        let same : (facts mid.device).content ≡ (facts old.device).content = reads.device.unchanged k ∙ i.reached.read.device.unchanged h in
         let told = answered (Ok (steps.Cell c)) (λ e. absurd cc) answer h in
         let stands : StandsIn x c = ap (λ p. answer_at x p) given.1 ∙ sym told.0 in
         let here : states_in x next.items ≡ states_in x all.items ++ cell_states x c = (rw same at (listed (honest_still reads.device.calls.same_honesty k))) stands in
@@ -159,14 +139,11 @@ module _ {F : Type 0} (facts : F → Device) (r : Range) (w : Walking) (all : Ve
         ∙ ap (λ p. states_in x all.items ++ (cell_states x c ++ states_from x (p + c.span))) (sym given.1)
         ∙ told.1;
   })
-    where
-      cell_of_region : IsCellIn r.size c
-      cell_of_region = rw i.region at given.0
 
   -- the walk ended
-  pub listing_lists : (a : StepResult) → IsNoCell a → (IsErrOf a walk.Device → ⊥) → Answers a → Lists facts r old all
+  pub listing_lists : (a : Answer) → IsNoCell a → (IsErrOf a walk.Device → ⊥) → Answers facts w now a → Lists facts r old all
   listing_lists a none other answer = record {
     cells = i.cells;
-    room = omega (arith, i.room, i.inside);
+    room = omega (arith, i.room, i.reached.inside);
     shown = λ h. sym (append-nil (states_in x all.items)) ∙ ap (λ (l : List ComponentState). states_in x all.items ++ l) (sym (states_end x a none)) ∙ (answered a other answer h).1;
   }

@@ -1,22 +1,17 @@
 -- Changes of areas. This project defines their choice and order.
 use Rattle.std.specs.Prelude.{ℕ, ◌+◌, ◌-◌, ◌*◌, Bool, false, not, ◌&&◌, List, [], ◌∷◌, ◌++◌, length, min, nat_lt, nat_le, Option, Some, None, is_none, ◌==◌, if◌then◌else◌}
-use Rattle.std.specs.List.{find, flat_map, list_any}
+use Rattle.std.specs.List.{flat_map, list_any, scan}
 use Rattle.std.specs.Option.{option_map_or, option_and_then}
-use Rattle.flash_format.specs.Flashmap.{text_of}
 use Rattle.flash_device.specs.Regions.{Range, bytes_in}
 use Rattle.flash_map.specs.declared.areas.NumberedArea.{NumberedArea}
-use Rattle.flash_map.specs.Areas.{has_name}
+use Rattle.check_findings.specs.Map.MapFindings.{namesake}
 use Rattle.check_changes.specs.declared.areas.change.AreaChange.{AreaChange}
 use Rattle.check_changes.specs.declared.areas.change.AreaChange.TheVariants.{Added, Gone, Moved, Resized, FlagsChanged, Differs, NotCompared}
 use Rattle.check_changes.specs.declared.areas.pairs.AreaPair.{AreaPair}
 use Rattle.check_changes.specs.declared.images.Both.{Both}
 use Rattle.check_changes.specs.Images.{lengths_of, regions_within}
-use Rattle.check_changes.specs.Lists.{only_if}
+use Rattle.check_findings.specs.Lists.{only_if}
 use Rattle.check_changes.specs.Areas.Blocks.{blocks_of, count_below, differs}
-
--- the first area with this area's name
-abbrev pub namesake : NumberedArea → List NumberedArea → Option NumberedArea
-namesake a areas = find (has_name (text_of a.area.name)) areas
 
 -- the area is the first of its name
 abbrev pub is_reached : List NumberedArea → NumberedArea → Bool
@@ -88,10 +83,9 @@ left_after left regions =
 -- the changes by the regions of each element, which have at most `left` bytes
 abbrev pub changes_by : {A C : Type 0} → (A → Option (Both Range))
     → (A → Option (Both Range) → List C) → ℕ → List A → List C
-changes_by regions changes left [] = []
-changes_by regions changes left (a ∷ rest) =
-    changes a (compared left (regions a))
-    ++ changes_by regions changes (left_after left (regions a)) rest
+changes_by regions changes left all = flat_map (λ some. some)
+    (scan (λ left a. left_after left (regions a))
+    (λ left a. changes a (compared left (regions a))) left all)
 
 -- the change of an area's bytes, by the compared regions
 abbrev pub content_changes : List ℕ → List ℕ → List AreaPair → AreaPair → Option (Both Range)

@@ -3,7 +3,7 @@ use Rattle.std.specs.Prelude.{not, List, [], ◌∷◌, ◌++◌, Option, Some, 
 use Rattle.std.specs.Str.{bytes_eq}
 use Rattle.flash_format.specs.Flashmap.{text_of}
 use Rattle.flash_map.specs.declared.search.FoundMap.{FoundMap}
-use Rattle.check_changes.specs.Lists.{only_if}
+use Rattle.check_findings.specs.Lists.{only_if}
 use Rattle.check_changes.specs.declared.areas.change.MapChange.{MapChange}
 use Rattle.check_changes.specs.declared.areas.change.MapChange.TheVariants.{NoOldMap, MovedFrom, BaseChanged, NameChanged}
 

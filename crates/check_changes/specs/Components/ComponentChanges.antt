@@ -1,13 +1,13 @@
 -- Changes of components.
 use Rattle.std.specs.Prelude.{ℕ, Bool, not, false, ◌&&◌, List, [], ◌∷◌, ◌++◌, length, slice_range, map, is_none, Option, Some, None, ◌==◌, if◌then◌else◌}
 use Rattle.std.specs.List.{find, flat_map}
-use Rattle.std.specs.Option.{option_map_or}
+use Rattle.std.specs.Option.{option_map, option_map_or, option_to_list}
 use Rattle.std.specs.Str.{bytes_eq}
 use Rattle.flash_format.specs.Head.{head_of}
 use Rattle.flash_format.specs.Entry.{name_end}
 use Rattle.flash_format.specs.Components.{Component, components}
 use Rattle.cbfs_walk.specs.Shapes.{shape_fault, refused_or}
-use Rattle.check_changes.specs.Lists.{only_if}
+use Rattle.check_findings.specs.Lists.{only_if}
 use Rattle.check_changes.specs.declared.components.change.Difference.{Difference}
 use Rattle.check_changes.specs.declared.components.change.Difference.TheVariants.{«Type», Length, Content, Attributes}
 use Rattle.check_changes.specs.declared.components.change.ComponentChange.{ComponentChange}
@@ -53,8 +53,8 @@ difference old new =
 -- the difference and the move, by both offsets
 abbrev pub pair_change : Option Difference → ℕ → ℕ → List ℕ → List ComponentChange
 pair_change what old new name =
-    option_map_or (λ (what : Difference). Changed old new name what ∷ []) what []
-    ++ (if old == new then [] else Moved old new name ∷ [])
+    option_to_list (option_map (Changed old new name) what)
+    ++ only_if (not (old == new)) (Moved old new name)
 
 -- the changes of a new component, by the first old namesake
 abbrev pub change_by : Option ComponentState → ComponentState → List ComponentChange

@@ -8,10 +8,11 @@ use Rattle.check_findings.specs.Image.RegionAreas.{region_areas}
 use Rattle.check_changes.specs.declared.images.Both.{Both}
 use Rattle.check_changes.specs.declared.regions.change.RegionChange.{RegionChange}
 use Rattle.check_changes.specs.declared.regions.change.RegionChange.TheVariants.{Compared, NotCompared}
-use Rattle.check_changes.specs.Areas.AreaChanges.{changes_by, namesake}
+use Rattle.check_changes.specs.Areas.AreaChanges.{changes_by}
+use Rattle.check_findings.specs.Map.MapFindings.{namesake}
 use Rattle.check_changes.specs.Components.ComponentChanges.{component_changes}
 use Rattle.check_changes.specs.Images.{lengths_of, regions_within}
-use Rattle.check_changes.specs.Lists.{only_if}
+use Rattle.check_findings.specs.Lists.{only_if}
 
 -- an area and its first old namesake as regions
 abbrev pub regions_of : Both ℕ → List NumberedArea → NumberedArea → Option (Both Range)

@@ -12,7 +12,7 @@ use crate::areas::names::{NamedAreas, NamedBoth};
 use crate::areas::pairs::{AreaPair, pairs, push_gone};
 use crate::fault::ChangeFault;
 use crate::images::{Both, Images, taken, whole};
-use crate::lists::push_if;
+use check_findings::{push, push_if};
 use flash_device::Flash;
 use flash_map::NumberedArea;
 use std::alloc::{AllocError, Global};
@@ -26,7 +26,7 @@ fn push_entry_changes(changes: &mut Vec<AreaChange>, pair: AreaPair) -> Result<(
 {
     let new = pair.new;
     let Some(old) = pair.old else {
-        return push_if(changes, true, AreaChange::Added(new));
+        return push(changes, AreaChange::Added(new));
     };
     let is_moved = old.area.offset != new.area.offset;
     push_if(changes, is_moved, AreaChange::Moved { old, new })?;
@@ -55,14 +55,12 @@ fn push_content_changes<F: Flash, G: Flash>(
 {
     let area = pair.new;
     let Some(regions) = taken(left, pair.regions(images.lengths())) else {
-        push_if(changes, pair.is_same_size(), AreaChange::NotCompared(area))?;
-        return Ok(());
+        return Ok(push_if(changes, pair.is_same_size(), AreaChange::NotCompared(area))?);
     };
     let len = blocks_of(regions.old.size());
     let Differing { blocks, own } = different_in(images, &regions, pairs, len)?;
     let change = AreaChange::Differs { area, blocks, own };
-    push_if(changes, blocks > 0, change)?;
-    Ok(())
+    Ok(push_if(changes, blocks > 0, change)?)
 }
 
 fn push_changes<F: Flash, G: Flash>(
@@ -82,24 +80,6 @@ fn push_changes<F: Flash, G: Flash>(
         push_content_changes(changes, &mut left, images, pairs, pair)?;
     }
     Ok(())
-}
-
-fn area_changes<'a, F: Flash, G: Flash>(
-    alloc: Global,
-    images: &mut Images<F, G>,
-    areas: &NamedBoth<'a>,
-) -> Result<Vec<AreaChange>, ChangeFault>
-    ensures after { HasCompared F.facts G.facts
-        (8 * (lengths F.facts G.facts images.old).new / 4096 + length areas.now.new.all.now)
-        images.old images.new result }
-    ensures changes { OnBoth F.facts G.facts images.old (λ x y. IfOk result (λ changes.
-        changes.items ≡ area_changes x areas.now.old.all.now y areas.now.new.all.now)) }
-{
-    let pairs = pairs(alloc, areas)?;
-    let mut changes = Vec::new(alloc);
-    push_changes(&mut changes, images, &pairs)?;
-    push_gone(&mut changes, areas)?;
-    Ok(changes)
 }
 
 fn different_blocks<F: Flash, G: Flash>(images: &mut Images<F, G>) -> Result<u32, ChangeFault>
@@ -150,10 +130,13 @@ pub fn image_changes<'a, F: Flash, G: Flash>(
         changes.areas.items ≡ area_changes x areas.entry.old.now y areas.entry.new.now)) }
 {
     let blocks = different_blocks(images)?;
-    let areas = NamedBoth {
+    let named = NamedBoth {
         old: NamedAreas::of(alloc, areas.old)?,
         new: NamedAreas::of(alloc, areas.new)?,
     };
-    let areas = area_changes(alloc, images, &areas)?;
+    let pairs = pairs(alloc, &named)?;
+    let mut areas = Vec::new(alloc);
+    push_changes(&mut areas, images, &pairs)?;
+    push_gone(&mut areas, &named)?;
     Ok(ImageChanges { blocks, areas })
 }

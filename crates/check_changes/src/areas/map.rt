@@ -3,7 +3,7 @@ ghost use Rattle.std.specs.Prelude.{◌≡◌, IfOk};
 ghost use Rattle.check_changes.specs.Areas.MapChanges as maps;
 
 use crate::areas::change::MapChange;
-use crate::lists::push_if;
+use check_findings::{push, push_if};
 use flash_map::FoundMap;
 use std::alloc::{AllocError, Global};
 

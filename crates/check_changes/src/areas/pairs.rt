@@ -7,7 +7,7 @@ ghost use Rattle.check_changes.specs.Images.{LieWithin};
 use crate::areas::change::AreaChange;
 use crate::areas::names::NamedBoth;
 use crate::images::{Lengths, RegionPair, regions_within};
-use crate::lists::push_if;
+use check_findings::push_if;
 use flash_device::PIECE;
 use flash_map::NumberedArea;
 use std::alloc::{AllocError, Global};

@@ -9,12 +9,12 @@ ghost use Rattle.check_changes.specs.Components.Pairs.{regions_of};
 ghost use Rattle.check_changes.specs.Images.{HasCompared, HasReadFor, LieOn, OnBothIn};
 
 use crate::components::change::{ComponentChange, Difference};
-use crate::components::compare::difference;
+use crate::components::comparison::difference;
 use crate::components::first::{Listing, with_firsts};
 use crate::components::listing::{Listed, components};
 use crate::fault::ChangeFault;
 use crate::images::{Both, Images, RegionPair};
-use crate::lists::push;
+use check_findings::push;
 use flash_device::Flash;
 use std::alloc::{AllocError, Global};
 use std::hash::RandomState;
@@ -71,16 +71,14 @@ fn push_changes_of<'a, F: Flash, G: Flash>(
     }
     let Some(old) = lists.old.namesake(listed) else {
         let (at, name) = (listed.cell.at, listed.copied_name(alloc)?);
-        push(changes, ComponentChange::Added { at, name })?;
-        return Ok(());
+        return Ok(push(changes, ComponentChange::Added { at, name })?);
     };
     let regions = RegionPair {
         old: lists.old.region,
         new: lists.new.region,
     };
     let what = difference(images, regions, old, listed)?;
-    push_pair(alloc, changes, old.cell.at, listed, what)?;
-    Ok(())
+    Ok(push_pair(alloc, changes, old.cell.at, listed, what)?)
 }
 
 fn push_changes<'a, F: Flash, G: Flash>(

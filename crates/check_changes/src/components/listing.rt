@@ -9,9 +9,8 @@ ghost use Rattle.check_changes.specs.Components.Listings.{IsListedIn, Lists, cel
 ghost use Rattle.check_changes.specs.Components.Listings.{spans, states_in};
 ghost use Rattle.flash_map.specs.Faults.{by_device};
 
-use crate::lists::push;
 use cbfs_walk::{Cell, Step, Walk, WalkFault, cells_stand_in_their_image, name};
-use check_findings::Name;
+use check_findings::{Name, push};
 use flash_device::{Flash, Paged, Region};
 use flash_map::CheckFault;
 use std::alloc::{AllocError, Global};
@@ -57,8 +56,7 @@ fn list_cell<F: Flash>(
     let mut field = [0; 256];
     let len = name(paged, region, cell, &mut field)?;
     let name = Name::copied(alloc, &field[..len])?;
-    push(all, Listed { name, cell: *cell })?;
-    Ok(())
+    Ok(push(all, Listed { name, cell: *cell })?)
 }
 
 /// Returns the components of a region in order, up to a damage; none without a valid shape.

@@ -2,7 +2,7 @@
 
 mod change;
 mod changes;
-mod compare;
+mod comparison;
 mod first;
 mod listing;
 

@@ -1,40 +1,10 @@
 //! The changes of a region.
-ghost use Rattle.std.specs.Prelude.{◌≡◌};
-
 use crate::components::ComponentChange;
+use check_findings::Elements;
 use flash_map::NumberedArea;
-use std::marker::Model;
 
 /// The changes between the components of two regions.
-#[derive(Drop)]
-pub struct ComponentChanges {
-    changes: Vec<ComponentChange>,
-}
-
-impl Model for ComponentChanges {
-    ghost use Rattle.std.specs.Prelude.{List};
-    ghost use Rattle.check_changes.specs.declared.components.change.ComponentChange.{ComponentChange};
-
-    ghost Value = { List ComponentChange };
-
-    ghost view = { λ n. n.changes.items };
-}
-
-impl ComponentChanges {
-    /// Wraps these changes.
-    pub fn new(changes: Vec<ComponentChange>) -> ComponentChanges
-        ensures { result ≡ changes.items }
-    {
-        ComponentChanges { changes }
-    }
-
-    /// Returns the changes in order.
-    pub fn as_slice(&self) -> &[ComponentChange]
-        ensures { result.now ≡ self.now }
-    {
-        self.changes.as_slice()
-    }
-}
+pub type ComponentChanges = Elements<ComponentChange>;
 
 /// The changes of components in an area.
 #[derive(Drop)]

@@ -9,9 +9,8 @@ use crate::areas::NamedAreas;
 use crate::components::component_changes;
 use crate::fault::ChangeFault;
 use crate::images::{Images, regions_within, taken};
-use crate::lists::push;
 use crate::regions::change::{ComponentChanges, RegionChange};
-use check_findings::ImageFinding;
+use check_findings::{ImageFinding, push};
 use flash_device::Flash;
 use flash_map::NumberedArea;
 use std::alloc::Global;
@@ -46,16 +45,14 @@ fn push_changes<'a, F: Flash, G: Flash>(
         return Ok(());
     };
     let Some(regions) = taken(left, regions_within(images.lengths(), old, *area)) else {
-        push(changes, RegionChange::NotCompared(*area))?;
-        return Ok(());
+        return Ok(push(changes, RegionChange::NotCompared(*area))?);
     };
     let found = component_changes(alloc, keys, images, regions)?;
     let change = RegionChange::Compared {
         area: *area,
         changes: ComponentChanges::new(found),
     };
-    push(changes, change)?;
-    Ok(())
+    Ok(push(changes, change)?)
 }
 
 /// Returns the changes of components for each region in these findings, in order, from the first

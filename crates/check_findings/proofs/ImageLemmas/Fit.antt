@@ -1,4 +1,6 @@
 -- Regions without bad findings.
+use Rattle.std.proofs.Common.{◌==◌}
+use Rattle.check_findings.specs.Lists.{only_if}
 use Rattle.std.proofs.Common.{arith, ◌≡◌, ◌≢◌, ℕ, ◌+◌, Bool, true, false, cond, List, [], ◌∷◌, ◌++◌, Some, None, Contains, All, length, sym, ap, ◌∙◌}
 use Rattle.std.specs.List.{list_any}
 use Rattle.std.proofs.lemmas.Bool.{false≢true, or_parts}
@@ -13,13 +15,13 @@ use Rattle.cbfs_walk.specs.CellReadings.{place_after}
 use Rattle.cbfs_walk.specs.Shapes.{has_bad_size, is_absent, refused_or}
 use Rattle.cbfs_walk.specs.declared.walk.WalkFault.TheVariants as faults
 use Rattle.std.proofs.lemmas.Grind.{common_steps}
-use Rattle.check_findings.specs.Region.Laws.{IsBlankTail}
-use Rattle.check_findings.specs.Region.RegionFindings.{all_marked, cell_findings, cells_findings, component_finding, counts_of, end_findings, free_findings, marked, region_findings, shape_findings, tail_bytes, tail_findings, walk_findings}
+use Rattle.check_findings.specs.Laws.{IsBlankTail}
+use Rattle.check_findings.specs.Region.RegionFindings.{all_marked, cell_findings, cells_findings, component_finding, counts_of, end_findings, marked, region_findings, shape_findings, tail_bytes, tail_findings, walk_findings}
 use Rattle.check_findings.specs.declared.region.finding.RegionFinding.{RegionFinding}
 use Rattle.check_findings.specs.declared.region.finding.RegionFinding.TheVariants as findings
 use Rattle.check_findings.proofs.MapLemmas.Sound.{none_of}
 use Rattle.check_findings.proofs.RegionLemmas.Tails.{none_filled}
-use Rattle.check_findings.specs.Image.Laws.{IsIntact, IsWhole}
+use Rattle.check_findings.specs.Laws.{IsIntact, IsWhole}
 use Rattle.check_findings.specs.Image.Verdicts.{is_bad_region}
 
 -- a bad finding makes the list bad
@@ -35,7 +37,7 @@ undamaged : (needs : Bool) (bytes : List ℕ) (at : ℕ) (end : End) (rest : Lis
 undamaged needs bytes at end rest fit kind is = false≢true (sym (rw is at fit))
 
 intact_cell : (needs : Bool) (at : ℕ) (x : List ℕ) (others : List Component) (free : Bool)
-    → list_any (is_bad_region needs) (cond free (free_findings at (head_of x)) (component_finding false (component_at at x) ∷ [])) ≡ false → All IsIntact others
+    → list_any (is_bad_region needs) (cond free (only_if ((head_of x).kind == 0) (findings.Deleted at)) (component_finding false (component_at at x) ∷ [])) ≡ false → All IsIntact others
     → All IsIntact (cond free others (component_at at x ∷ others))
 intact_cell needs at x others true fit rest = rest
 intact_cell needs at x others false fit rest = All-cons IsIntact (component_at at x) others (λ stored is. grind (arith, common_steps, is, fit)) rest

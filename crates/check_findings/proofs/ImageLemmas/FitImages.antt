@@ -1,8 +1,10 @@
 -- Images without bad findings.
-use Rattle.std.proofs.Common.{arith, ◌≡◌, ◌∙◌, ℕ, ◌+◌, ◌≤◌, Bool, true, false, not, ◌||◌, cond, All, Contains, List, [], ◌∷◌, ◌++◌, ◌*◌, drop, length, nat_eq, nat_le, Option, Some, None, Ok, refl, sym, ap, subst}
+use Rattle.std.proofs.lemmas.List.Folds.{list_any-append}
+use Rattle.check_findings.specs.declared.image.finding.ImageFinding.TheVariants.{Region}
+use Rattle.std.proofs.Common.{arith, ◌≡◌, ◌∙◌, ℕ, ◌+◌, ◌≤◌, Bool, true, false, ◌||◌, cond, All, Contains, List, [], ◌∷◌, ◌++◌, ◌*◌, drop, length, nat_le, Option, Some, None, Ok, refl, sym, ap, subst}
 use Rattle.std.specs.Prelude.{filter, map}
 use Rattle.std.specs.List.{find, flat_map, list_any}
-use Rattle.std.specs.Option.{option_map, option_map_or, option_to_list}
+use Rattle.std.specs.Option.{option_map, option_map_or}
 use Rattle.std.proofs.lemmas.Bool.{and_parts, le-ltb, leb-true, or_parts}
 use Rattle.std.proofs.lemmas.List.Elements.{All-nil, All-cons, All-head, All-tail, All-filter, All-weaker, All-contains_itself, filter_passes}
 use Rattle.std.proofs.lemmas.Grind.{common_steps}
@@ -12,16 +14,16 @@ use Rattle.flash_map.specs.declared.search.FoundMap.{FoundMap}
 use Rattle.flash_map.specs.Fmap.{found_from, found_in}
 use Rattle.flash_map.specs.Regions.{region_of, region_under}
 use Rattle.check_findings.specs.declared.map.finding.MapFinding.{MapFinding}
-use Rattle.check_findings.specs.declared.map.finding.MapFinding.TheVariants.{NoMap, OtherMap, OtherSize}
+use Rattle.check_findings.specs.declared.map.finding.MapFinding.TheVariants.{NoMap}
 use Rattle.flash_map.specs.declared.areas.NumberedArea.{NumberedArea}
-use Rattle.check_findings.specs.Map.MapFindings.{area_findings, finding_if, findings_of, map_findings, name_findings}
+use Rattle.check_findings.specs.Map.MapFindings.{findings_of, map_findings, name_findings}
 use Rattle.flash_map.specs.Areas.{area_end, has_name, image_areas, map_areas, numbered_from}
 use Rattle.check_findings.proofs.MapLemmas.Sound.{named, none_of}
 use Rattle.check_findings.specs.declared.image.finding.ImageFinding.{ImageFinding}
 use Rattle.check_findings.specs.declared.image.finding.ImageFinding.TheVariants.{Map, NotChecked}
 use Rattle.check_findings.specs.Region.RegionFindings.{region_findings}
-use Rattle.check_findings.specs.Image.ImageFindings.{areas_findings, bytes_of, expected_names, has_one_of, image_findings, is_wanted, left_after, range_of, region_finding, regions_findings}
-use Rattle.check_findings.specs.Image.Laws.{FitImagesAreWhole, FitRegionsLoseNothing, IsFit}
+use Rattle.check_findings.specs.Image.ImageFindings.{areas_findings, bytes_of, expected_names, has_one_of, image_findings, is_wanted, left_after, range_of}
+use Rattle.check_findings.specs.Laws.{InFitImages, InFitRegions, IsFit, LosesNothing}
 use Rattle.check_findings.specs.Image.RegionAreas.{region_areas}
 use Rattle.check_findings.specs.Image.Verdicts.{is_bad, is_bad_map, is_bad_region}
 use Rattle.check_findings.proofs.ImageLemmas.Fit.{fit_region}
@@ -30,11 +32,7 @@ use Rattle.check_findings.proofs.ImageLemmas.Regions.{regions_of}
 -- ---- names of areas are different
 
 fit_names : (n : ℕ) (map : FoundMap) (next : Option FoundMap) (areas : List NumberedArea) → list_any is_bad_map (findings_of n map next areas) ≡ false → list_any is_bad_map (flat_map (name_findings areas) areas) ≡ false
-fit_names n map next areas fit =
-    let other = none_of is_bad_map (option_to_list (option_map OtherMap next)) _ fit in
-    let size = none_of is_bad_map (finding_if (not (nat_eq map.head.size n)) OtherSize) _ other.1 in
-    let each = none_of is_bad_map (flat_map (area_findings n) areas) _ size.1 in
-    (none_of is_bad_map (flat_map (name_findings areas) areas) _ each.1).0
+fit_names n map next areas fit = grind (arith, common_steps, list_any-append, fit)
 
 -- ---- a name finds its first area
 
@@ -71,10 +69,9 @@ fit_areas image (Some map) found fit =
 -- ---- checked areas
 
 -- without bad findings, the checked areas are fit
-module _ (lossless : FitRegionsLoseNothing) (needs : Bool) (image : List ℕ) (names : List (List ℕ)) where
+module _ (lossless : InFitRegions LosesNothing) (needs : Bool) (image : List ℕ) (names : List (List ℕ)) where
   fit_areas_of : (left : ℕ) (areas : List NumberedArea) → All (λ (a : NumberedArea). region_of image (text_of a.area.name) ≡ Ok (range_of a)) areas
       → list_any (is_bad needs) (areas_findings image names left areas) ≡ false → All (IsFit image) (region_areas (areas_findings image names left areas))
-  unfolding areas_findings
   fit_areas_of left [] each fit = All-nil (IsFit image)
   fit_areas_of left (a ∷ areas) each fit =
       let Is : NumberedArea → Type 0 = λ b. region_of image (text_of b.area.name) ≡ Ok (range_of b) in
@@ -83,13 +80,13 @@ module _ (lossless : FitRegionsLoseNothing) (needs : Bool) (image : List ℕ) (n
       rest : List ImageFinding
       rest = areas_findings image names (left_after left a) areas
 
-      go : (checked : Bool) → region_of image (text_of a.area.name) ≡ Ok (range_of a) → list_any (is_bad needs) (cond checked (region_finding image a) (NotChecked a (has_one_of names a)) ∷ rest) ≡ false
-          → (list_any (is_bad needs) rest ≡ false → All (IsFit image) (region_areas rest)) → All (IsFit image) (region_areas (cond checked (region_finding image a) (NotChecked a (has_one_of names a)) ∷ rest))
+      go : (checked : Bool) → region_of image (text_of a.area.name) ≡ Ok (range_of a) → list_any (is_bad needs) (cond checked (Region a (region_findings (bytes_of image a))) (NotChecked a (has_one_of names a)) ∷ rest) ≡ false
+          → (list_any (is_bad needs) rest ≡ false → All (IsFit image) (region_areas rest)) → All (IsFit image) (region_areas (cond checked (Region a (region_findings (bytes_of image a))) (NotChecked a (has_one_of names a)) ∷ rest))
       go false is fit later = later (or_parts (has_one_of names a) _ fit).1
       go true is fit later =
           let x = bytes_of image a in
           let good = or_parts (list_any (is_bad_region needs) (region_findings x)) _ fit in
-          All-cons (IsFit image) a (region_areas rest) (record { reached = is; whole = fit_region needs x good.0; found = λ c there. lossless needs x c good.0 there }) (later good.1)
+          All-cons (IsFit image) a (region_areas rest) (record { reached = is; whole = fit_region needs x good.0; found = lossless needs x good.0 }) (later good.1)
 
 -- ---- the image
 
@@ -97,13 +94,13 @@ of_map : (needs : Bool) (all : List MapFinding) → list_any (is_bad needs) (map
 of_map needs [] = refl
 of_map needs (finding ∷ all) = ap (λ b. is_bad_map finding || b) (of_map needs all)
 
-pub fit_image : FitRegionsLoseNothing → FitImagesAreWhole
+pub fit_image : InFitRegions LosesNothing → InFitImages IsFit
 unfolding image_findings image_areas map_findings IsReached
 fit_image lossless needs image names expected fit =
     let all = expected_names names expected in
     let areas = image_areas image in
     let wanted = is_wanted image all areas in
-    let regions = regions_findings image all in
+    let regions = areas_findings image all (2 * length image) (filter wanted areas) in
     let parts = none_of (is_bad needs) (map Map (map_findings image) ++ regions) _ fit in
     let both = none_of (is_bad needs) (map Map (map_findings image)) regions parts.0 in
     let each = All-filter wanted (IsReached image) areas (fit_areas image (found_in image) refl (sym (of_map needs (map_findings image)) ∙ both.0)) in

@@ -11,12 +11,12 @@ use Rattle.cbfs_walk.specs.Shapes.{shape_fault, refused_or}
 use Rattle.cbfs_walk.specs.CellReadings.{place_after}
 use Rattle.cbfs_walk.specs.declared.walk.WalkFault.{WalkFault}
 use Rattle.cbfs_walk.specs.declared.walk.WalkFault.TheVariants as walk
-use Rattle.check_findings.specs.Region.Counts.{free_bytes, largest_room}
+use Rattle.check_findings.specs.Region.RegionFindings.{free_bytes, largest_room}
 use Rattle.check_findings.specs.Region.RegionFindings.{all_marked, cells_findings, component_content, counts_of, end_findings, marked, region_findings, shape_findings, walk_findings}
 use Rattle.flash_format.specs.Flashmap.{is_area}
 use Rattle.check_findings.specs.Image.Needs.{Wish, content_named, first_content, unmet, unmet_by}
-use Rattle.check_findings.specs.Image.Laws.{IsMet, NeedsAreThere}
-use Rattle.check_findings.specs.Image.ImageFindings.{areas_findings, bytes_of, expected_names, has_one_of, image_findings, left_after, names_findings, region_finding, regions_findings, wanted_areas}
+use Rattle.check_findings.specs.Laws.{IsMet, NeedsAreThere}
+use Rattle.check_findings.specs.Image.ImageFindings.{areas_findings, bytes_of, expected_names, has_one_of, image_findings, left_after, names_findings, wanted_areas}
 use Rattle.check_findings.specs.Image.RegionAreas.{region_areas}
 use Rattle.check_findings.specs.Map.MapFindings.{map_findings}
 use Rattle.flash_map.specs.Areas.{image_areas}
@@ -56,7 +56,7 @@ of_mark name earlier other = refl
 of_marks : (name : List ℕ) (earlier all : List RegionFinding) → first_content name (all_marked earlier all) ≡ first_content name all
 unfolding all_marked
 of_marks name earlier [] = refl
-of_marks name earlier (f ∷ all) = rw (of_mark name earlier f, of_marks name (f ∷ earlier) all) refl
+of_marks name earlier (f ∷ all) = grind (arith, common_steps, of_mark name earlier f, of_marks name (f ∷ earlier) all)
 
 of_shape : (name : List ℕ) (fault : WalkFault) → first_content name (shape_findings fault) ≡ None
 of_shape name walk.RegionShape = refl
@@ -107,15 +107,14 @@ module _ (image : List ℕ) (wish : Wish) where
   -- the first area with the name meets the need
   met_in : (all : List NumberedArea) (names : List (List ℕ)) (last : List ImageFinding) → unmet last wish ≡ Some Missing → (left : ℕ) (areas : List NumberedArea)
       → ((a : NumberedArea) → Contains (region_areas (areas_findings image names left areas)) a → Contains all a) → unmet (areas_findings image names left areas ++ last) wish ≡ None → IsMet image all wish
-  unfolding areas_findings
   met_in all names last missing left [] listed none = absurd cc
   met_in all names last missing left (a ∷ areas) listed none = go (nat_le a.area.size left) (is_area wish.area a.area) refl listed none (met_in all names last missing (left_after left a) areas)
     where
       rest : List ImageFinding
       rest = areas_findings image names (left_after left a) areas
 
-      go : (checked named : Bool) → is_area wish.area a.area ≡ named → ((b : NumberedArea) → Contains (region_areas (cond checked (region_finding image a) (NotChecked a (has_one_of names a)) ∷ rest)) b → Contains all b)
-          → unmet (cond checked (region_finding image a) (NotChecked a (has_one_of names a)) ∷ (rest ++ last)) wish ≡ None → (((b : NumberedArea) → Contains (region_areas rest) b → Contains all b) → unmet (rest ++ last) wish ≡ None → IsMet image all wish) → IsMet image all wish
+      go : (checked named : Bool) → is_area wish.area a.area ≡ named → ((b : NumberedArea) → Contains (region_areas (cond checked (Region a (region_findings (bytes_of image a))) (NotChecked a (has_one_of names a)) ∷ rest)) b → Contains all b)
+          → unmet (cond checked (Region a (region_findings (bytes_of image a))) (NotChecked a (has_one_of names a)) ∷ (rest ++ last)) wish ≡ None → (((b : NumberedArea) → Contains (region_areas rest) b → Contains all b) → unmet (rest ++ last) wish ≡ None → IsMet image all wish) → IsMet image all wish
       go false named is listed e later = later listed e
       go true true is listed e later = met_here all a (first_content wish.name (region_findings (bytes_of image a))) (listed a (0, omega arith, refl)) is refl (rw is at e)
       go true false is listed e later = later (λ b there. listed b (Contains-append_right (a ∷ []) (region_areas rest) b there)) (rw is at e)
@@ -132,7 +131,7 @@ needs_met image names expected wish none =
     let all = expected_names names expected in
     let areas = image_areas image in
     let last = names_findings areas 0 names in
-    let regions = regions_findings image all in
+    let regions = areas_findings image all (2 * length image) (wanted_areas image all areas) in
     let found = map Map (map_findings image) in
     subst (λ l. IsMet image l wish) (sym (regions_of (map_findings image) areas names _ regions _ _ refl refl refl))
     (met_in image wish (region_areas regions) all last (ap (λ l. unmet l wish) (sym (append-nil last)) ∙ passed last [] wish (no_name_areas areas 0 names)) (2 * length image) (wanted_areas image all areas) (λ a there. there)

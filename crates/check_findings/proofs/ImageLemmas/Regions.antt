@@ -1,7 +1,10 @@
 -- The checked areas in order, and all findings.
-use Rattle.std.proofs.Common.{◌≡◌, ◌∙◌, ℕ, ◌+◌, ◌-◌, ◌*◌, ◌<◌, ◌≤◌, Bool, true, false, cond, All, IsTrue, List, [], ◌∷◌, ◌++◌, length, get_or, drop, take, nat_le, refl, sym, ap, arith, add-one, append_assoc, append-nil, drop-cons, length-append}
+use Rattle.std.specs.Prelude.{is_none}
+use Rattle.std.specs.List.{enumerate_from, find}
+use Rattle.flash_map.specs.Areas.{has_name}
+use Rattle.check_findings.specs.declared.image.finding.ImageFinding.TheVariants.{NoArea}
+use Rattle.std.proofs.Common.{◌≡◌, ℕ, ◌+◌, ◌-◌, ◌*◌, ◌<◌, ◌≤◌, Bool, true, false, cond, All, IsTrue, List, [], ◌∷◌, ◌++◌, length, get_or, drop, take, nat_le, refl, sym, arith, add-one, append_assoc, append-nil, drop-cons, length-append}
 use Rattle.std.specs.Prelude.{filter, map}
-use Rattle.std.proofs.Math.Seq.{drop-length}
 use Rattle.std.proofs.lemmas.Bool.{leb-true}
 use Rattle.std.proofs.lemmas.Grind.{flat_map-append}
 use Rattle.std.proofs.lemmas.List.Elements.{All-append, All-cons, All-nil, All-push, filter_more}
@@ -42,23 +45,20 @@ checked_more n i left a f findings fits is had = rw (flat_map-append region_area
 
 pub found_more : (image : List ℕ) (names : List (List ℕ)) (left i : ℕ) (areas : List NumberedArea) (d : NumberedArea) (f : ImageFinding) (before after all : List ImageFinding) → i < length areas → after ≡ before ++ f ∷ [] → f ≡ area_finding image names left (get_or areas i d)
     → before ++ areas_findings image names left (drop i areas) ≡ all → after ++ areas_findings image names (left_after left (get_or areas i d)) (drop (i + 1) areas) ≡ all
-unfolding areas_findings
 found_more image names left i areas d f before after all lt pushed is so_far = grind (arith, common_steps, append_assoc, drop-cons areas i d lt, add-one i, pushed, is, so_far)
-
-pub found_all : (image : List ℕ) (names : List (List ℕ)) (left i : ℕ) (areas : List NumberedArea) (before all : List ImageFinding) → i ≡ length areas → before ++ areas_findings image names left (drop i areas) ≡ all → before ≡ all
-unfolding areas_findings
-found_all image names left i areas before all is so_far =
-    sym (append-nil before) ∙ ap (λ (l : List NumberedArea). before ++ areas_findings image names left l) (sym (ap (λ k. drop k areas) is ∙ drop-length areas)) ∙ so_far
 
 -- ---- the whole
 
+none_checked : {X : Type 0} (h : X → ImageFinding) (xs : List X) → ((x : X) → region_area (h x) ≡ []) → region_areas (map h xs) ≡ []
+none_checked h [] none = refl
+none_checked h (x ∷ xs) none = rw (none x) (none_checked h xs none)
+
 pub no_map_areas : (found : List MapFinding) → region_areas (map Map found) ≡ []
-no_map_areas [] = refl
-no_map_areas (finding ∷ found) = no_map_areas found
+no_map_areas found = none_checked Map found (λ finding. refl)
 
 pub no_name_areas : (areas : List NumberedArea) (number : ℕ) (names : List (List ℕ)) → region_areas (names_findings areas number names) ≡ []
-no_name_areas areas number [] = refl
-no_name_areas areas number (name ∷ names) = grind (arith, common_steps, flat_map-append, no_name_areas areas (number + 1) names)
+no_name_areas areas number names =
+    none_checked (λ (n : ℕ × List ℕ). NoArea n.0) (filter (λ (n : ℕ × List ℕ). is_none (find (has_name n.1) areas)) (enumerate_from number names)) (λ n. refl)
 
 -- the areas of all findings are the areas of the regions
 pub regions_of : (found : List MapFinding) (areas : List NumberedArea) (names : List (List ℕ)) (first regions second all : List ImageFinding) → first ≡ map Map found → second ≡ first ++ regions → all ≡ second ++ names_findings areas 0 names → region_areas all ≡ region_areas regions

@@ -5,7 +5,7 @@ use Rattle.std.specs.List.{find, flat_map, list_any}
 use Rattle.std.specs.Option.{option_map, option_map_or, option_to_list}
 use Rattle.std.specs.Str.{is_utf8}
 use Rattle.std.proofs.lemmas.Bool.{not-false, or_parts, eqb-true}
-use Rattle.std.proofs.lemmas.List.Elements.{All-nil, All-cons, All-contains}
+use Rattle.std.proofs.lemmas.List.Elements.{All-nil, All-cons, All-contains, All-contains_itself, All-weaker}
 use Rattle.std.proofs.lemmas.Grind.{common_steps}
 use Rattle.std.proofs.lemmas.List.Folds.{list_any-append}
 use Rattle.std.proofs.lemmas.Slice.Eq.{bytes_eq-Decides}
@@ -15,11 +15,12 @@ use Rattle.flash_format.specs.Flashmap.{text_of}
 use Rattle.flash_map.specs.declared.search.FoundMap.{FoundMap}
 use Rattle.flash_map.specs.Fmap.{found_from, found_in}
 use Rattle.flash_map.specs.declared.areas.NumberedArea.{NumberedArea}
+use Rattle.check_findings.specs.Lists.{only_if}
 use Rattle.check_findings.specs.declared.map.finding.MapFinding.{MapFinding}
 use Rattle.check_findings.specs.declared.map.finding.MapFinding.TheVariants as findings
-use Rattle.check_findings.specs.Map.MapFindings.{area_findings, ends_inside, finding_if, findings_of, map_area_findings, map_findings, name_findings, overlap, overlap_findings, overlap_with}
+use Rattle.check_findings.specs.Map.MapFindings.{area_findings, ends_inside, findings_of, map_area_findings, map_findings, name_findings, namesake, overlap, overlap_findings, overlap_with}
 use Rattle.flash_map.specs.Areas.{has_name, map_areas, numbered_from}
-use Rattle.check_findings.specs.Map.Laws.{HoldsMap, IsInside, IsSound, Nest, CleanMapsAreSound}
+use Rattle.check_findings.specs.Laws.{HoldsMap, IsInside, IsSound, Nest, CleanMapsAreSound}
 
 -- ---- no findings
 
@@ -37,7 +38,7 @@ module _ (test : MapFinding → Bool) where
   none_each f (a ∷ areas) none =
       let parts = none_of test (f a) (flat_map f areas) none in All-cons (λ (b : NumberedArea). list_any test (f b) ≡ false) a areas parts.0 (none_each f areas parts.1)
 
-  untold : (b : Bool) (finding : MapFinding) → test finding ≡ true → list_any test (finding_if b finding) ≡ false → b ≡ false
+  untold : (b : Bool) (finding : MapFinding) → test finding ≡ true → list_any test (only_if b finding) ≡ false → b ≡ false
   untold b finding passes none = grind (arith, common_steps, passes, none)
 
 uncaused : {X : Type 0} (f : X → MapFinding) (cause : Option X) → list_any every (option_to_list (option_map f cause)) ≡ false → cause ≡ None
@@ -106,7 +107,7 @@ sound_of image map found e =
     let n = length image in
     let areas = map_areas image map in
     let next = found_from (map.at + 1) image in
-    let size = finding_if (not (nat_eq map.head.size n)) findings.OtherSize in
+    let size = only_if (not (nat_eq map.head.size n)) findings.OtherSize in
     let later = size ++ (flat_map (area_findings n) areas ++ (flat_map (name_findings areas) areas ++ (overlap_findings areas ++ map_area_findings map (find (has_name (codes "FMAP")) areas)))) in
     let rest : option_to_list (option_map findings.OtherMap next) ++ later ≡ [] = cc in
     let a = none_of every (option_to_list (option_map findings.OtherMap next)) later (ap (list_any every) rest) in
@@ -120,9 +121,9 @@ sound_of image map found e =
       found = found;
       size = eqb-true map.head.size n (not-false (nat_eq map.head.size n) (untold every _ findings.OtherSize refl b.0));
       only = uncaused findings.OtherMap next a.0;
-      inside = λ x there. (sound_area n x (All-contains Is areas x each there)).0;
-      text = λ x there. (sound_area n x (All-contains Is areas x each there)).1;
-      named = λ x. named every _ x (λ first. refl) d.0;
+      inside = All-weaker Is (λ a. IsInside n a.area) (λ a none. (sound_area n a none).0) areas each;
+      text = All-weaker Is (λ a. is_utf8 (text_of a.area.name) ≡ true) (λ a none. (sound_area n a none).1) areas each;
+      named = All-weaker (Contains areas) (λ a. namesake a areas ≡ Some a) (λ a. named every _ a (λ first. refl) d.0) areas (All-contains_itself areas);
       nested = nested areas f.0;
       held = held map (find (has_name (codes "FMAP")) areas) f.1;
     }

@@ -1,18 +1,18 @@
 -- The findings so far, and of the rest of a region.
-use Rattle.std.proofs.Common.{◌≡◌, ℕ, ◌+◌, ◌*◌, ◌/◌, ◌%◌, ◌≤◌, ◌⊎◌, inl, inr, IsTrue, List, [], ◌∷◌, ◌++◌, length, Option, Some, None, Ok, Err, refl, sym, ap, subst, ◌∙◌, arith, append_assoc}
+use Rattle.std.proofs.Common.{◌≡◌, ℕ, ◌+◌, ◌*◌, ◌/◌, ◌%◌, ◌≤◌, IsTrue, List, [], ◌∷◌, ◌++◌, length, Option, Some, None, Ok, Err, refl, sym, ap, subst, ◌∙◌, arith, append_assoc}
 use Rattle.std.specs.Prelude.{IsErrOf}
 use Rattle.std.proofs.lemmas.Grind.{common_steps}
 use mathlib.Core.Path.{fun_ext}
 use Rattle.flash_format.specs.Cut.{Cut, End, after, cut}
 use Rattle.flash_device.specs.Device.{Device}
 use Rattle.flash_device.specs.Pages.{Pages, HasRead, OnHonestIn}
-use Rattle.flash_device.proofs.WindowLemmas.{HasRead-none, HasRead-then, HasRead-within}
+use Rattle.flash_device.proofs.WindowLemmas.{HasRead-then}
 use Rattle.flash_device.specs.Regions.{Range, LiesOn, bytes_in}
 use Rattle.flash_device.proofs.DeviceLemmas.{honest_still, length-bytes_in}
 use Rattle.cbfs_walk.specs.Cells.{IsCellIn, cell_in}
-use Rattle.cbfs_walk.specs.Walks.{reads_over, StepResult, Walking, walk_of, answer_at, StandsIn}
+use Rattle.cbfs_walk.specs.Walks.{reads_over, Answer, Walking, walk_of, answer_at, StandsIn}
 use Rattle.cbfs_walk.specs.Shapes.{shape_fault, refused_or}
-use Rattle.cbfs_walk.specs.CellReadings.{reading_of, ReadsCells, by_answer, place_after}
+use Rattle.cbfs_walk.specs.Shaped.{reading_of, ReadsCells, by_answer, place_after}
 use Rattle.cbfs_walk.specs.declared.cell.Cell.{Cell}
 use Rattle.cbfs_walk.specs.declared.walk.Step.TheVariants as steps
 use Rattle.cbfs_walk.specs.declared.walk.WalkFault.{WalkFault}
@@ -20,12 +20,13 @@ use Rattle.cbfs_walk.specs.declared.walk.WalkFault.TheVariants as walk
 use Rattle.cbfs_walk.proofs.Shapes.{shaped_step}
 use Rattle.flash_format.specs.Head.{head_of, is_free}
 use Rattle.flash_format.specs.declared.head.DamageKind.{DamageKind}
-use Rattle.check_findings.specs.Region.Counts.{IsCountBefore, nothing, count_after}
+use Rattle.check_findings.specs.Region.Reports.{IsCountBefore, nothing, count_after}
 use Rattle.check_findings.specs.Region.RegionFindings.{cell_findings, cells_findings, counts_of, end_findings, tail_findings, shape_findings, walk_findings}
 use Rattle.check_findings.specs.Region.Reports.{counted}
 use Rattle.check_findings.specs.declared.region.finding.RegionFinding.{RegionFinding}
 use Rattle.check_findings.specs.declared.region.finding.RegionFinding.TheVariants as findings
 use Rattle.check_findings.specs.declared.region.count.Count.{Count}
+use Rattle.check_findings.proofs.RegionLemmas.Walked.{Answers, Reached, reached_answer, reached_more, reached_start}
 use Rattle.check_findings.proofs.RegionLemmas.CountLemmas.{count_all, count_more, count_none, count_whole}
 
 -- ---- by the cut
@@ -69,27 +70,15 @@ whole_findings x = go (shape_fault x)
     go (Some fault) = refl
 
 -- the same by the result of the walk
-findings_by : List ℕ → Count → StepResult → List RegionFinding
+findings_by : List ℕ → Count → Answer → List RegionFinding
 findings_by x n answer = by_answer fault_findings (cut_findings x) cell_step x answer n
 
 by_step : (x : List ℕ) (n : Count) (at : ℕ) → at ≤ length x → at % 64 ≡ 0 → findings_from x n at ≡ findings_by x n (answer_at x at)
 unfolding findings_from findings_by
 by_step x n at inside aligned = ap (λ (f : Count → List RegionFinding). f n) (shaped_step fault_findings (cut_findings x) cell_step (law x) x at inside aligned)
 
-by_end : (x : List ℕ) (n : Count) → findings_by x n (Ok steps.End) ≡ findings.Complete ∷ counted n (length x)
-unfolding findings_by cut_findings cells_findings last
-by_end x n = ap (λ m. findings.Complete ∷ m) (count_none n (length x))
-
-by_tail : (x : List ℕ) (n : Count) (at : ℕ) → findings_by x n (Ok (steps.Tail at)) ≡ tail_findings at x ++ counted n at
-unfolding findings_by cut_findings cells_findings last
-by_tail x n at = ap (λ m. tail_findings at x ++ m) (count_none n at)
-
-by_damage : (x : List ℕ) (n : Count) (at : ℕ) (kind : DamageKind) → findings_by x n (Err (walk.Damaged at kind)) ≡ findings.Damaged at kind ∷ counted n at
-unfolding findings_by cut_findings cells_findings last
-by_damage x n at kind = ap (λ m. findings.Damaged at kind ∷ m) (count_none n at)
-
 -- a tail begins at the walk's offset
-tail_place : (x : List ℕ) (place at : ℕ) → (let a : StepResult = Ok (steps.Tail at) in a) ≡ answer_at x place → at ≡ place
+tail_place : (x : List ℕ) (place at : ℕ) → (let a : Answer = Ok (steps.Tail at) in a) ≡ answer_at x place → at ≡ place
 unfolding answer_at
 tail_place x place at is = grind (arith, common_steps, is)
 
@@ -97,81 +86,55 @@ tail_place x place at is = grind (arith, common_steps, is)
 
 -- the check has reached the walk's offset
 pub record Checking {F : Type 0} (facts : F → Device) (r : Range) (w : Walking) (found : List RegionFinding) (count : Count) (old now : Pages F) : Type 0 where
-  pub region : w.region ≡ r
-  pub going : w.ended ≡ None
-  pub inside : w.at ≤ r.size
-  pub aligned : w.at % 64 ≡ 0
-  pub read : HasRead facts (w.at / 16) 0 old now
+  pub reached : Reached facts r w (w.at / 16) old now
   pub before : IsCountBefore w.at count
   pub so_far : OnHonestIn facts old.device r (λ x. walk_findings x ≡ found ++ findings_from x count w.at)
 
 pub checking_start : {F : Type 0} (facts : F → Device) (r : Range) (old : Pages F) → LiesOn r (facts old.device) → Checking facts r (walk_of r) [] (nothing r.size) old old
 checking_start facts r old lies = record {
-  region = refl;
-  going = refl;
-  inside = omega arith;
-  aligned = refl;
-  read = HasRead-within facts 0 (0 / 16) 0 old old (omega arith) (HasRead-none facts old);
+  reached = reached_start facts r (0 / 16) old;
   before = (omega arith, omega arith);
   so_far = λ h.
       let x = bytes_in r (facts old.device).content in
       whole_findings x ∙ ap (λ n. findings_from x (nothing n) 0) (length-bytes_in r (facts old.device).content lies.inside);
 }
 
--- a result without a device fault
-no_fault : (a b : StepResult) → (IsErrOf a walk.Device → ⊥) → IsErrOf a walk.Device ⊎ (a ≡ b) → a ≡ b
-no_fault a b other (inl e) = absurd (other e)
-no_fault a b other (inr e) = e
-
 module _ {F : Type 0} (facts : F → Device) (r : Range) (w : Walking) (found : List RegionFinding) (count : Count) (old now : Pages F) (lies : LiesOn r (facts old.device)) (i : Checking facts r w found count old now) where
   abbrev x : List ℕ
   x = bytes_in r (facts old.device).content
 
-  -- the results of the walk on an honest device
-  abbrev pub Answers : StepResult → Type 0
-  Answers a = IsTrue (facts now.device).honest → w.ended ≡ None → IsErrOf a walk.Device ⊎ (a ≡ answer_at (bytes_in w.region (facts now.device).content) w.at)
-
-  answered : (a : StepResult) → Answers a → (IsErrOf a walk.Device → ⊥) → IsTrue (facts old.device).honest → (a ≡ answer_at x w.at) × (walk_findings x ≡ found ++ findings_by x count a)
+  answered : (a : Answer) → Answers facts w now a → (IsErrOf a walk.Device → ⊥) → IsTrue (facts old.device).honest → (a ≡ answer_at x w.at) × (walk_findings x ≡ found ++ findings_by x count a)
   answered a answer other h =
-      let is = no_fault a _ other (answer (honest_still i.read.device.calls.same_honesty h) i.going) in
-      let len : length x ≡ r.size = length-bytes_in r (facts old.device).content lies.inside in
-      let here : a ≡ answer_at x w.at = is ∙ ap (λ (k : Range). answer_at (bytes_in k (facts now.device).content) w.at) i.region ∙ ap (λ (l : List ℕ). answer_at (bytes_in r l) w.at) (i.read.device.unchanged h) in
-      let step = by_step x count w.at (omega (arith, len, i.inside)) i.aligned ∙ ap (λ (b : StepResult). findings_by x count b) (sym here) in
-      (here, i.so_far h ∙ ap (λ (l : List RegionFinding). found ++ l) step)
+      let here = reached_answer facts i.reached a lies answer other h in
+      let step = by_step x count w.at here.1 i.reached.aligned ∙ ap (λ (b : Answer). findings_by x count b) (sym here.0) in
+      (here.0, i.so_far h ∙ ap (λ (l : List RegionFinding). found ++ l) step)
 
   -- another cell
   pub checking_more : (c : Cell) (v : Walking) (next : List RegionFinding) (more : Count) (mid new : Pages F) (n m : ℕ) → IsCellIn w.region.size c × (c.at ≡ w.at)
       → HasRead facts n 0 now mid → n ≡ reads_over c.span → HasRead facts m 0 mid new → m ≡ 3 + 2 * (c.span / 3840)
-      → Answers (Ok (steps.Cell c))
+      → Answers facts w now (Ok (steps.Cell c))
       → v ≡ record w { at = w.at + c.span; steps = w.steps + 1 }
       → IsCountBefore (c.at + c.span) more → more ≡ count_after count (is_free c.head) c.at c.span
       → OnHonestIn facts mid.device r (λ y. StandsIn y c → next ≡ found ++ cell_findings c.at (cell_in y c))
       → Checking facts r v next more old new
   unfolding findings_by cell_step findings_from
   checking_more c v next more mid new n m given reads few over fewer answer moved before is_more gains = rw moved (record {
-    region = i.region;
-    going = i.going;
-    inside = omega (arith, cell_of_region.inside, given.1);
-    aligned = omega (arith, i.aligned, given.0.whole);
-    read = HasRead-within facts (w.at / 16 + (n + m)) ((w.at + c.span) / 16) 0 old new (omega (arith, few, fewer, given.0.positive, given.0.whole, i.aligned)) (HasRead-then facts (w.at / 16) (n + m) 0 old now new i.read (HasRead-then facts n m 0 now mid new reads over));
+    reached = reached_more facts i.reached c (n + m) ((w.at + c.span) / 16) new given (HasRead-then facts n m 0 now mid new reads over) (omega (arith, few, fewer, given.0.positive, given.0.whole, i.reached.aligned));
     before = subst (λ k. IsCountBefore (k + c.span) more) given.1 before;
     so_far = λ h.
-        let k = honest_still i.read.device.calls.same_honesty h in
-        let same : (facts mid.device).content ≡ (facts old.device).content = reads.device.unchanged k ∙ i.read.device.unchanged h in
+        let k = honest_still i.reached.read.device.calls.same_honesty h in
+        let same : (facts mid.device).content ≡ (facts old.device).content = reads.device.unchanged k ∙ i.reached.read.device.unchanged h in
         let known = answered (Ok (steps.Cell c)) answer (λ e. cc) h in
         let stands : StandsIn x c = ap (λ p. answer_at x p) given.1 ∙ sym known.0 in
         let cells = cell_findings c.at (cell_in x c) in
         let gained = (rw same at (gains (honest_still reads.device.calls.same_honesty k))) stands in
         known.1 ∙ sym (append_assoc found cells _) ∙ ap (λ p. (found ++ cells) ++ findings_from x (count_after count (is_free c.head) c.at c.span) (p + c.span)) given.1 ∙ rw (gained, is_more) refl;
   })
-    where
-      cell_of_region : IsCellIn r.size c
-      cell_of_region = rw i.region at given.0
 
   -- ---- the walk ended
 
   -- the last findings follow
-  stopped : (a : StepResult) (more all : List RegionFinding) → Answers a → (IsErrOf a walk.Device → ⊥) → all ≡ found ++ more → findings_by x count a ≡ more → IsTrue (facts old.device).honest → all ≡ walk_findings x
+  stopped : (a : Answer) (more all : List RegionFinding) → Answers facts w now a → (IsErrOf a walk.Device → ⊥) → all ≡ found ++ more → findings_by x count a ≡ more → IsTrue (facts old.device).honest → all ≡ walk_findings x
   stopped a more all answer other is_all is h =
       is_all ∙ sym ((answered a answer other h).1 ∙ ap (λ (l : List RegionFinding). found ++ l) is)
 
@@ -179,32 +142,35 @@ module _ {F : Type 0} (facts : F → Device) (r : Range) (w : Walking) (found : 
   with_counts : (more next all : List RegionFinding) (end : ℕ) → next ≡ found ++ more → all ≡ next ++ counted count end → all ≡ found ++ (more ++ counted count end)
   with_counts more next all end pushed is_all = is_all ∙ ap (λ (l : List RegionFinding). l ++ counted count end) pushed ∙ append_assoc found more (counted count end)
 
-  pub checking_end : (end : ℕ) (next all : List RegionFinding) → Answers (Ok steps.End) → end ≡ r.size → next ≡ found ++ findings.Complete ∷ [] → all ≡ next ++ counted count end
+  pub checking_end : (end : ℕ) (next all : List RegionFinding) → Answers facts w now (Ok steps.End) → end ≡ r.size → next ≡ found ++ findings.Complete ∷ [] → all ≡ next ++ counted count end
       → IsTrue (facts old.device).honest → all ≡ walk_findings x
+  unfolding findings_by cut_findings cells_findings last
   checking_end end next all answer place pushed is_all =
       let same : end ≡ length x = place ∙ sym (length-bytes_in r (facts old.device).content lies.inside) in
       stopped (Ok steps.End) (findings.Complete ∷ counted count end) all answer (λ e. cc) (with_counts (findings.Complete ∷ []) next all end pushed is_all)
-      (by_end x count ∙ ap (λ p. findings.Complete ∷ counted count p) (sym same))
+      (ap (λ m. findings.Complete ∷ m) (count_none count (length x)) ∙ ap (λ p. findings.Complete ∷ counted count p) (sym same))
 
-  pub checking_tail : (at here n : ℕ) (mid : Pages F) (next all : List RegionFinding) → Answers (Ok (steps.Tail at)) → here ≡ w.at → HasRead facts n 0 now mid
+  pub checking_tail : (at here n : ℕ) (mid : Pages F) (next all : List RegionFinding) → Answers facts w now (Ok (steps.Tail at)) → here ≡ w.at → HasRead facts n 0 now mid
       → OnHonestIn facts mid.device r (λ y. next ≡ found ++ tail_findings here y) → all ≡ next ++ counted count here → IsTrue (facts old.device).honest → all ≡ walk_findings x
+  unfolding findings_by cut_findings cells_findings last
   checking_tail at here n mid next all answer place reads pushed is_all h =
-      let k = honest_still i.read.device.calls.same_honesty h in
-      let content : (facts mid.device).content ≡ (facts old.device).content = reads.device.unchanged k ∙ i.read.device.unchanged h in
+      let k = honest_still i.reached.read.device.calls.same_honesty h in
+      let content : (facts mid.device).content ≡ (facts old.device).content = reads.device.unchanged k ∙ i.reached.read.device.unchanged h in
       let same : at ≡ here = tail_place x w.at at (answered (Ok (steps.Tail at)) answer (λ e. cc) h).0 ∙ sym place in
       stopped (Ok (steps.Tail at)) (tail_findings here x ++ counted count here) all answer (λ e. cc)
       (with_counts (tail_findings here x) next all here (rw content at (pushed (honest_still reads.device.calls.same_honesty k))) is_all)
-      (by_tail x count at ∙ ap (λ p. tail_findings p x ++ counted count p) same) h
+      (ap (λ m. tail_findings at x ++ m) (count_none count at) ∙ ap (λ p. tail_findings p x ++ counted count p) same) h
 
-  pub checking_damage : (at : ℕ) (kind : DamageKind) (next all : List RegionFinding) → Answers (Err (walk.Damaged at kind)) → next ≡ found ++ findings.Damaged at kind ∷ [] → all ≡ next ++ counted count at
+  pub checking_damage : (at : ℕ) (kind : DamageKind) (next all : List RegionFinding) → Answers facts w now (Err (walk.Damaged at kind)) → next ≡ found ++ findings.Damaged at kind ∷ [] → all ≡ next ++ counted count at
       → IsTrue (facts old.device).honest → all ≡ walk_findings x
+  unfolding findings_by cut_findings cells_findings last
   checking_damage at kind next all answer pushed is_all =
-      stopped (Err (walk.Damaged at kind)) (findings.Damaged at kind ∷ counted count at) all answer (λ e. cc) (with_counts (findings.Damaged at kind ∷ []) next all at pushed is_all) (by_damage x count at kind)
+      stopped (Err (walk.Damaged at kind)) (findings.Damaged at kind ∷ counted count at) all answer (λ e. cc) (with_counts (findings.Damaged at kind ∷ []) next all at pushed is_all) (ap (λ m. findings.Damaged at kind ∷ m) (count_none count at))
 
-  pub checking_size : (all : List RegionFinding) → Answers (Err walk.RegionShape) → all ≡ found ++ findings.BadSize ∷ [] → IsTrue (facts old.device).honest → all ≡ walk_findings x
+  pub checking_size : (all : List RegionFinding) → Answers facts w now (Err walk.RegionShape) → all ≡ found ++ findings.BadSize ∷ [] → IsTrue (facts old.device).honest → all ≡ walk_findings x
   unfolding findings_by fault_findings
   checking_size all answer pushed = stopped (Err walk.RegionShape) (findings.BadSize ∷ []) all answer (λ e. cc) pushed refl
 
-  pub checking_absent : (all : List RegionFinding) → Answers (Err walk.NotCbfs) → all ≡ found ++ findings.NotCbfs ∷ [] → IsTrue (facts old.device).honest → all ≡ walk_findings x
+  pub checking_absent : (all : List RegionFinding) → Answers facts w now (Err walk.NotCbfs) → all ≡ found ++ findings.NotCbfs ∷ [] → IsTrue (facts old.device).honest → all ≡ walk_findings x
   unfolding findings_by fault_findings
   checking_absent all answer pushed = stopped (Err walk.NotCbfs) (findings.NotCbfs ∷ []) all answer (λ e. cc) pushed refl

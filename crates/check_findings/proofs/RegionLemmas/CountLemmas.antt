@@ -8,7 +8,8 @@ use Rattle.check_findings.specs.declared.region.count.Count.{Count}
 use Rattle.check_findings.specs.declared.region.finding.RegionFinding.{RegionFinding}
 use Rattle.check_findings.specs.Region.RegionFindings.{count_findings, counts_of}
 use Rattle.check_findings.specs.Region.Reports.{counted}
-use Rattle.check_findings.specs.Region.Counts.{free_bytes, largest_room, nothing, count_after}
+use Rattle.check_findings.specs.Region.RegionFindings.{free_bytes, largest_room}
+use Rattle.check_findings.specs.Region.Reports.{nothing, count_after}
 
 -- the findings of the counts after entries from this offset on
 abbrev pub count_all : Count → ℕ → List (List ℕ) → List RegionFinding

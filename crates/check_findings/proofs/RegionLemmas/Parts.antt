@@ -1,4 +1,6 @@
 -- The parts of the findings of a region with a good shape.
+use Rattle.std.specs.Option.{option_map_or}
+use Rattle.check_findings.specs.Lists.{only_if}
 use Rattle.std.proofs.Common.{◌≡◌, ℕ, ◌+◌, ◌-◌, ◌/◌, ◌==◌, Bool, true, false, cond, zero, suc, List, [], ◌∷◌, length, drop, Option, Some, None, All, refl}
 use Rattle.std.specs.Prelude.{nat_le}
 use Rattle.std.specs.List.{position_from}
@@ -7,7 +9,7 @@ use Rattle.std.proofs.lemmas.List.Elements.{All-nil, All-cons, All-append}
 use Rattle.flash_format.specs.Cut.{End, complete, tail, damage}
 use Rattle.flash_format.specs.Head.{head_of, is_free}
 use Rattle.flash_format.specs.Components.{component_at}
-use Rattle.check_findings.specs.Region.RegionFindings.{begins_with_entry, cell_findings, cells_findings, component_finding, count_findings, end_findings, entries_findings, entry_findings, filled_findings, free_findings, is_filled, room_finding, tail_bytes, tail_findings}
+use Rattle.check_findings.specs.Region.RegionFindings.{begins_with_entry, cell_findings, cells_findings, component_finding, count_findings, end_findings, entries_findings, entry_findings, is_filled, tail_bytes, tail_findings}
 use Rattle.check_findings.specs.declared.region.finding.RegionFinding.{RegionFinding}
 use Rattle.check_findings.specs.declared.region.finding.RegionFinding.TheVariants.{Component, Deleted, Complete, Tail, TailFilled, TailEntry, Damaged, Components, NoComponents, FreeBytes, LargestContent, NoRoom}
 
@@ -34,7 +36,7 @@ if_so : (part : Part) (f : RegionFinding) → IsIn part f → (b : Bool) → All
 if_so part f is true = All-cons (IsIn part) f [] is (All-nil (IsIn part))
 if_so part f is false = All-nil (IsIn part)
 
-of_cell : (at : ℕ) (x : List ℕ) (free : Bool) → All (IsIn cell_part) (cond free (free_findings at (head_of x)) (component_finding false (component_at at x) ∷ []))
+of_cell : (at : ℕ) (x : List ℕ) (free : Bool) → All (IsIn cell_part) (cond free (only_if ((head_of x).kind == 0) (Deleted at)) (component_finding false (component_at at x) ∷ []))
 of_cell at x true = if_so cell_part (Deleted at) refl ((head_of x).kind == 0)
 of_cell at x false = All-cons (IsIn cell_part) _ [] refl (All-nil (IsIn cell_part))
 
@@ -53,7 +55,7 @@ of_tail : (at : ℕ) (x : List ℕ) → All (IsIn end_part) (tail_findings at x)
 unfolding tail_findings
 of_tail at x = All-cons (IsIn end_part) (Tail at) _ refl (go (position_from is_filled at (tail_bytes at x)))
   where
-    go : (o : Option ℕ) → All (IsIn end_part) (filled_findings at x o)
+    go : (o : Option ℕ) → All (IsIn end_part) (option_map_or (λ place. TailFilled place ∷ entries_findings ((length x - at) / 64) at x) o [])
     go None = All-nil (IsIn end_part)
     go (Some place) = All-cons (IsIn end_part) (TailFilled place) _ refl (of_entries ((length x - at) / 64) at x)
 
@@ -65,5 +67,6 @@ of_end x at (damage kind) = All-cons (IsIn end_part) (Damaged at kind) [] refl (
 pub of_counts : (components free room : ℕ) → All (IsIn count_part) (count_findings components free room)
 of_counts components free room =
     let first = cond_both (components == 0) NoComponents (Components components) (IsIn count_part) (λ e. refl) (λ e. refl) in
+    let room_finding : RegionFinding = cond (nat_le 28 room) (LargestContent (room - 28)) NoRoom in
     let last = cond_both (nat_le 28 room) (LargestContent (room - 28)) NoRoom (IsIn count_part) (λ e. refl) (λ e. refl) in
-    All-cons (IsIn count_part) _ (FreeBytes free ∷ room_finding room ∷ []) first (All-cons (IsIn count_part) (FreeBytes free) (room_finding room ∷ []) refl (All-cons (IsIn count_part) _ [] last (All-nil (IsIn count_part))))
+    All-cons (IsIn count_part) _ (FreeBytes free ∷ room_finding ∷ []) first (All-cons (IsIn count_part) (FreeBytes free) (room_finding ∷ []) refl (All-cons (IsIn count_part) _ [] last (All-nil (IsIn count_part))))

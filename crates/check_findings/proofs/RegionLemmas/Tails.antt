@@ -12,9 +12,8 @@ use Rattle.flash_device.specs.Pages.{Pages, HasRead}
 use Rattle.flash_device.specs.Regions.{LiesOn, Range, bytes_in}
 use Rattle.flash_device.proofs.DeviceLemmas.{honest_still, length-bytes_in}
 use Rattle.cbfs_walk.proofs.Parts.{length-range, part-in, range_is, range-after}
-use Rattle.check_findings.specs.Region.Laws.{BlankTailsAreKnown}
-use Rattle.check_findings.specs.Region.RegionFindings.{entries_findings, entry_findings, filled_findings, is_filled, tail_bytes, tail_findings}
-use Rattle.check_findings.specs.declared.region.finding.RegionFinding.TheVariants.{Tail}
+use Rattle.check_findings.specs.Laws.{BlankTailsAreKnown}
+use Rattle.check_findings.specs.Region.RegionFindings.{entries_findings, entry_findings, is_filled, tail_bytes, tail_findings}
 
 -- ---- the first filled byte
 
@@ -84,6 +83,6 @@ all_blank at (b ∷ xs) blank = rw (All-head (λ b. is_filled b ≡ false) b xs 
 pub blank_tails : BlankTailsAreKnown
 unfolding tail_findings
 blank_tails at x = (
-  λ blank. ap (λ o. Tail at ∷ filled_findings at x o) (all_blank at (tail_bytes at x) blank),
+  λ blank. rw (all_blank at (tail_bytes at x) blank) refl,
   λ only. none_filled at (tail_bytes at x) (grind (arith, common_steps, only)),
 )

@@ -13,7 +13,7 @@ use Rattle.cbfs_walk.specs.Search.{component_in, first_named}
 use Rattle.cbfs_walk.specs.Shapes.{refused_or}
 use Rattle.cbfs_walk.specs.CellReadings.{place_after}
 use Rattle.cbfs_walk.specs.declared.walk.WalkFault.{WalkFault}
-use Rattle.check_findings.specs.Region.Laws.{UnshadowedAreFound}
+use Rattle.check_findings.specs.Laws.{UnshadowedAreFound}
 use Rattle.check_findings.specs.Region.RegionFindings.{all_marked, component_finding, cells_findings, counts_of, end_findings, is_named, shape_findings, region_findings, walk_findings}
 use Rattle.check_findings.specs.declared.region.finding.RegionFinding.{RegionFinding}
 use Rattle.check_findings.specs.declared.region.finding.RegionFinding.TheVariants.{Deleted}

@@ -1,7 +1,7 @@
 -- Findings of an image. This project defines their order and the choice of regions.
-use Rattle.std.specs.Prelude.{ℕ, ◌+◌, ◌-◌, ◌*◌, Bool, not, ◌&&◌, ◌||◌, List, [], ◌∷◌, ◌++◌, filter}
-use Rattle.std.specs.Prelude.{length, map, is_some, nat_le, nat_lt, ◌==◌, if◌then◌else◌}
-use Rattle.std.specs.List.{find, list_any}
+use Rattle.std.specs.Prelude.{ℕ, ◌-◌, ◌*◌, Bool, not, ◌&&◌, ◌||◌, List, [], ◌∷◌, ◌++◌, filter}
+use Rattle.std.specs.Prelude.{length, map, is_none, nat_le, nat_lt, ◌==◌, if◌then◌else◌}
+use Rattle.std.specs.List.{enumerate_from, find, list_any, scan}
 use lib.Chars.{codes}
 use Rattle.flash_format.specs.Flashmap.{is_area}
 use Rattle.flash_device.specs.Regions.{Range, bytes_in}
@@ -51,43 +51,31 @@ wanted_areas image names areas = filter (is_wanted image names areas) areas
 abbrev pub cbfs_areas : List ℕ → List NumberedArea → List NumberedArea
 cbfs_areas image areas = wanted_areas image [] areas
 
--- of a checked area
-abbrev pub region_finding : List ℕ → NumberedArea → ImageFinding
-region_finding image a = Region a (region_findings (bytes_of image a))
-
 -- of an area, with `left` bytes for checks
 abbrev pub area_finding : List ℕ → List (List ℕ) → ℕ → NumberedArea → ImageFinding
 area_finding image names left a =
-    if nat_le a.area.size left then region_finding image a
+    if nat_le a.area.size left then Region a (region_findings (bytes_of image a))
     else NotChecked a (has_one_of names a)
 
 -- the remaining bytes for checks
 abbrev pub left_after : ℕ → NumberedArea → ℕ
 left_after left a = if nat_le a.area.size left then left - a.area.size else left
 
-unfoldable pub areas_findings :
-    List ℕ → List (List ℕ) → ℕ → List NumberedArea → List ImageFinding
-areas_findings image names left [] = []
-areas_findings image names left (a ∷ areas) =
-    area_finding image names left a
-    ∷ areas_findings image names (left_after left a) areas
+-- of the areas to check, with `left` bytes for checks
+abbrev pub areas_findings : List ℕ → List (List ℕ) → ℕ → List NumberedArea → List ImageFinding
+areas_findings image names left areas = scan left_after (area_finding image names) left areas
 
 -- of names without an area, with indices from `number`
 abbrev pub names_findings : List NumberedArea → ℕ → List (List ℕ) → List ImageFinding
-names_findings areas number [] = []
-names_findings areas number (name ∷ names) =
-    (if is_some (find (has_name name) areas) then [] else NoArea number ∷ [])
-    ++ names_findings areas (number + 1) names
-
--- of the areas to check
-abbrev pub regions_findings : List ℕ → List (List ℕ) → List ImageFinding
-regions_findings image names =
-    areas_findings image names (2 * length image)
-    (wanted_areas image names (image_areas image))
+names_findings areas number names =
+    map (λ (n : ℕ × List ℕ). NoArea n.0)
+    (filter (λ (n : ℕ × List ℕ). is_none (find (has_name n.1) areas)) (enumerate_from number names))
 
 -- of the map, regions, and names without an area
 unfoldable pub image_findings : List ℕ → List (List ℕ) → List (List ℕ) → List ImageFinding
 image_findings image names expected =
+    let areas = image_areas image in
+    let all = expected_names names expected in
     (map Map (map_findings image)
-    ++ regions_findings image (expected_names names expected))
-    ++ names_findings (image_areas image) 0 names
+    ++ areas_findings image all (2 * length image) (wanted_areas image all areas))
+    ++ names_findings areas 0 names

@@ -1,7 +1,7 @@
 -- Required components.
 use Rattle.std.specs.Prelude.{ℕ, ◌+◌, ◌==◌, Bool, true, List, [], ◌∷◌, Option, Some, None}
 use Rattle.std.specs.Prelude.{if◌then◌else◌}
-use Rattle.std.specs.Option.{option_or}
+use Rattle.std.specs.List.{filter_map, slice_get}
 use Rattle.std.specs.Str.{bytes_eq}
 use Rattle.flash_format.specs.Flashmap.{is_area}
 use Rattle.flash_map.specs.declared.areas.NumberedArea.{NumberedArea}
@@ -38,9 +38,7 @@ content_named name _ = None
 
 -- the first content of this name
 abbrev pub first_content : List ℕ → List RegionFinding → Option Content
-first_content name [] = None
-first_content name (finding ∷ findings) =
-    option_or (content_named name finding) (first_content name findings)
+first_content name findings = slice_get (filter_map (content_named name) findings) 0
 
 -- the reason if the content doesn't meet the need
 abbrev pub unmet_by : NumberedArea → Wish → Option Content → Option NeedFinding

@@ -12,25 +12,27 @@ use Rattle.flash_map.specs.declared.search.FoundMap.{FoundMap}
 use Rattle.flash_map.specs.Areas.{area_end, has_name, map_areas}
 use Rattle.flash_map.specs.Fmap.{found_from, found_in}
 use Rattle.flash_map.specs.declared.areas.NumberedArea.{NumberedArea}
+use Rattle.check_findings.specs.Lists.{only_if}
 use Rattle.check_findings.specs.declared.map.finding.MapFinding.{MapFinding}
 use Rattle.check_findings.specs.declared.map.finding.MapFinding.TheVariants as findings
-
-abbrev pub finding_if : Bool → MapFinding → List MapFinding
-finding_if found finding = if found then finding ∷ [] else []
 
 -- of a single area, in an image of n bytes
 abbrev pub area_findings : ℕ → NumberedArea → List MapFinding
 area_findings n a =
-    finding_if (nat_lt n (area_end a.area)) (findings.AreaOutside a)
-    ++ (finding_if (a.area.size == 0) (findings.AreaEmpty a)
-    ++ finding_if (not (is_utf8 (text_of a.area.name))) (findings.AreaNameNotText a))
+    only_if (nat_lt n (area_end a.area)) (findings.AreaOutside a)
+    ++ (only_if (a.area.size == 0) (findings.AreaEmpty a)
+    ++ only_if (not (is_utf8 (text_of a.area.name))) (findings.AreaNameNotText a))
+
+-- the first area with this area's name
+abbrev pub namesake : NumberedArea → List NumberedArea → Option NumberedArea
+namesake a areas = find (has_name (text_of a.area.name)) areas
 
 -- of an area in `all`, if it isn't the first area of its name
 abbrev pub name_findings : List NumberedArea → NumberedArea → List MapFinding
 name_findings all a =
     option_map_or (λ (first : NumberedArea).
-    finding_if (nat_lt first.number a.number) (findings.SameName a first))
-    (find (has_name (text_of a.area.name)) all) []
+    only_if (nat_lt first.number a.number) (findings.SameName a first))
+    (namesake a all) []
 
 -- area `a` begins before area `b` and ends inside it
 abbrev pub ends_inside : Area → Area → Bool
@@ -56,14 +58,14 @@ holds_map map area = nat_le area.offset map.at && nat_le (map.at + map_len map.h
 -- of the first area `FMAP`
 abbrev pub map_area_findings : FoundMap → Option NumberedArea → List MapFinding
 map_area_findings map None = findings.NoMapArea ∷ []
-map_area_findings map (Some a) = finding_if (not (holds_map map a.area)) (findings.MapAreaMisses a)
+map_area_findings map (Some a) = only_if (not (holds_map map a.area)) (findings.MapAreaMisses a)
 
 -- of a map, the next map and the areas, in an image of n bytes
 abbrev pub findings_of : ℕ → FoundMap → Option FoundMap → List NumberedArea → List MapFinding
 findings_of n map next areas =
     findings.Map map
     ∷ (option_to_list (option_map findings.OtherMap next)
-    ++ (finding_if (not (map.head.size == n)) findings.OtherSize
+    ++ (only_if (not (map.head.size == n)) findings.OtherSize
     ++ (flat_map (area_findings n) areas
     ++ (flat_map (name_findings areas) areas
     ++ (overlap_findings areas

@@ -1,10 +1,10 @@
 -- Findings of a region.
 use Rattle.std.specs.Prelude.{ℕ, zero, suc, ◌+◌, ◌-◌, ◌/◌, Bool, false, not, ◌||◌}
-use Rattle.std.specs.Prelude.{List, [], ◌∷◌, ◌++◌, drop, length, slice_range}
-use Rattle.std.specs.Prelude.{nat_le, is_some, ◌==◌, if◌then◌else◌, Option, Some, None}
-use Rattle.std.specs.List.{list_any, position_from}
+use Rattle.std.specs.Prelude.{List, [], ◌∷◌, ◌++◌, drop, filter, length, max, slice_range}
+use Rattle.std.specs.Prelude.{nat_le, is_some, ◌==◌, if◌then◌else◌}
+use Rattle.std.specs.List.{list_any, position_from, scan, sum_by}
+use Rattle.std.specs.Option.{option_map_or}
 use Rattle.std.specs.Str.{bytes_eq}
-use Rattle.flash_format.specs.declared.head.Head.{Head}
 use Rattle.flash_format.specs.Head.{head_of, is_free}
 use Rattle.flash_format.specs.Made.{algorithm}
 use Rattle.flash_format.specs.Entry.{front}
@@ -18,7 +18,7 @@ use Rattle.cbfs_walk.specs.Shapes.{shape_fault, refused_or}
 use Rattle.cbfs_walk.specs.CellReadings.{place_after}
 use Rattle.cbfs_walk.specs.declared.walk.WalkFault.{WalkFault}
 use Rattle.cbfs_walk.specs.declared.walk.WalkFault.TheVariants as walk
-use Rattle.check_findings.specs.Region.Counts.{free_bytes, largest_room}
+use Rattle.check_findings.specs.Lists.{only_if}
 use Rattle.check_findings.specs.declared.region.finding.Content.{Content}
 use Rattle.check_findings.specs.declared.region.finding.HashFinding.{HashFinding}
 use Rattle.check_findings.specs.declared.region.finding.HashFinding.TheVariants as hashes
@@ -31,32 +31,22 @@ hash_finding (states.Valid digest) = hashes.Valid (algorithm digest)
 hash_finding (states.Invalid digest) = hashes.Invalid (algorithm digest)
 hash_finding states.Unsupported = hashes.Unsupported
 
--- the content of a component at this offset
-abbrev pub content_of : ℕ → Head → ℕ → HashState → Content
-content_of at h compression state =
-    record {
-      start = at + h.offset;
-      kind = h.kind;
-      len = h.len;
-      compression = compression;
-      hash = hash_finding state;
-    }
-
 abbrev pub component_content : Component → Content
-component_content c =
-    content_of c.at (head_of c.bytes) (packing c.attributes) (hash_state c.attributes c.content)
+component_content c = let h = head_of c.bytes in record {
+  start = c.at + h.offset;
+  kind = h.kind;
+  len = h.len;
+  compression = packing c.attributes;
+  hash = hash_finding (hash_state c.attributes c.content);
+}
 
 abbrev pub component_finding : Bool → Component → RegionFinding
 component_finding shadowed c = findings.Component c.at c.name shadowed (component_content c)
 
--- of an empty entry: a deleted component
-abbrev pub free_findings : ℕ → Head → List RegionFinding
-free_findings at h = if h.kind == 0 then findings.Deleted at ∷ [] else []
-
--- of an entry
+-- of an entry; an empty entry of type 0 is a deleted component
 abbrev pub cell_findings : ℕ → List ℕ → List RegionFinding
 cell_findings at x =
-    if is_free (head_of x) then free_findings at (head_of x)
+    if is_free (head_of x) then only_if ((head_of x).kind == 0) (findings.Deleted at)
     else component_finding false (component_at at x) ∷ []
 
 -- of entries from this offset on
@@ -79,23 +69,19 @@ tail_bytes at x = slice_range x at (length x - 4)
 
 -- of an entry in the tail
 abbrev pub entry_findings : ℕ → List ℕ → List RegionFinding
-entry_findings at x = if begins_with_entry (drop at x) then findings.TailEntry at ∷ [] else []
+entry_findings at x = only_if (begins_with_entry (drop at x)) (findings.TailEntry at)
 
 -- of n offsets in steps of 64
 unfoldable pub entries_findings : ℕ → ℕ → List ℕ → List RegionFinding
 entries_findings zero at x = []
 entries_findings (suc n) at x = entry_findings at x ++ entries_findings n (at + 64) x
 
--- of the tail's first filled byte, and of entries
-abbrev pub filled_findings : ℕ → List ℕ → Option ℕ → List RegionFinding
-filled_findings at x None = []
-filled_findings at x (Some place) =
-    findings.TailFilled place ∷ entries_findings ((length x - at) / 64) at x
-
--- of the tail; a blank tail has no entries
+-- of the tail, its first filled byte, and entries; a blank tail has no entries
 unfoldable pub tail_findings : ℕ → List ℕ → List RegionFinding
 tail_findings at x =
-    findings.Tail at ∷ filled_findings at x (position_from is_filled at (tail_bytes at x))
+    findings.Tail at ∷ option_map_or (λ place.
+    findings.TailFilled place ∷ entries_findings ((length x - at) / 64) at x)
+    (position_from is_filled at (tail_bytes at x)) []
 
 -- of the end of the entries
 abbrev pub end_findings : List ℕ → ℕ → End → List RegionFinding
@@ -109,21 +95,37 @@ shape_findings walk.RegionShape = findings.BadSize ∷ []
 shape_findings walk.NotCbfs = findings.NotCbfs ∷ []
 shape_findings _ = []
 
--- the longest content in `room` bytes, after a header and a name of at most 3 bytes with its NUL
-abbrev pub room_finding : ℕ → RegionFinding
-room_finding room =
-    if nat_le 28 room then findings.LargestContent (room - 28) else findings.NoRoom
+-- ---- counts
 
+unfoldable pub free_bytes : List (List ℕ) → ℕ
+free_bytes cells = sum_by length (filter (λ x. is_free (head_of x)) cells)
+
+-- the usable bytes of an empty run: four less at the end of the region
+abbrev pub usable : ℕ → ℕ → ℕ → ℕ
+usable size start end = end - start - (if end == size then 4 else 0)
+
+-- the most usable bytes of an empty run; the first run begins at `start`, the list at `at`
+unfoldable pub largest_room : ℕ → ℕ → ℕ → List (List ℕ) → ℕ
+largest_room size start at [] = usable size start at
+largest_room size start at (x ∷ cells) =
+    let end = at + length x in
+    if is_free (head_of x) then largest_room size start end cells
+    else max (usable size start at) (largest_room size end end cells)
+
+-- In `room` bytes, 28 bytes hold the header and a name of at most 3 bytes with its NUL.
 abbrev pub count_findings : ℕ → ℕ → ℕ → List RegionFinding
 count_findings components free room =
     (if components == 0 then findings.NoComponents else findings.Components components)
-    ∷ findings.FreeBytes free ∷ room_finding room ∷ []
+    ∷ findings.FreeBytes free
+    ∷ (if nat_le 28 room then findings.LargestContent (room - 28) else findings.NoRoom) ∷ []
 
 -- of the counts in a region of this size
 abbrev pub counts_of : ℕ → List (List ℕ) → List RegionFinding
 counts_of size cells =
     count_findings (length (components_from 0 cells)) (free_bytes cells)
     (largest_room size 0 0 cells)
+
+-- ---- the region
 
 -- a bad shape alone, or the findings of the entries, of their end, and of the counts
 unfoldable pub walk_findings : List ℕ → List RegionFinding
@@ -146,9 +148,7 @@ marked earlier (findings.Component at name shadowed content) =
 marked earlier other = other
 
 unfoldable pub all_marked : List RegionFinding → List RegionFinding → List RegionFinding
-all_marked earlier [] = []
-all_marked earlier (finding ∷ others) =
-    marked earlier finding ∷ all_marked (finding ∷ earlier) others
+all_marked earlier all = scan (λ earlier finding. finding ∷ earlier) marked earlier all
 
 -- of the walk, with marks
 unfoldable pub region_findings : List ℕ → List RegionFinding

@@ -1,41 +1,12 @@
 //! Findings of an image.
-ghost use Rattle.std.specs.Prelude.{◌≡◌};
 
+use crate::lists::Elements;
 use crate::map::MapFinding;
 use crate::region::RegionFinding;
 use flash_map::NumberedArea;
-use std::marker::Model;
 
 /// The findings of a region.
-#[derive(Drop)]
-pub struct RegionFindings {
-    findings: Vec<RegionFinding>,
-}
-
-impl Model for RegionFindings {
-    ghost use Rattle.std.specs.Prelude.{List};
-    ghost use Rattle.check_findings.specs.declared.region.finding.RegionFinding.{RegionFinding};
-
-    ghost Value = { List RegionFinding };
-
-    ghost view = { λ n. n.findings.items };
-}
-
-impl RegionFindings {
-    /// Wraps these findings.
-    pub fn new(findings: Vec<RegionFinding>) -> RegionFindings
-        ensures { result ≡ findings.items }
-    {
-        RegionFindings { findings }
-    }
-
-    /// Returns the findings in order.
-    pub fn as_slice(&self) -> &[RegionFinding]
-        ensures { result.now ≡ self.now }
-    {
-        self.findings.as_slice()
-    }
-}
+pub type RegionFindings = Elements<RegionFinding>;
 
 /// A finding of an image.
 #[derive(Drop)]

@@ -15,9 +15,9 @@ ghost use Rattle.check_findings.specs.Image.Lookups.{HasNames};
 ghost use Rattle.check_findings.specs.Image.RegionAreas.{AreChecked, region_area, region_areas};
 ghost use Rattle.check_findings.specs.Image.RegionAreas.{sum_sizes};
 
+use crate::image::choice::wanted_areas;
 use crate::image::finding::{ImageFinding, RegionFindings};
 use crate::image::names::{NameSet, push_missing};
-use crate::image::wanted::wanted_areas;
 use crate::map::{MapFinding, check_map};
 use crate::region::check_region;
 use flash_device::{Flash, Paged, Region};
@@ -34,29 +34,27 @@ fn area_finding<F: Flash>(
     keys: RandomState,
     paged: &mut Paged<F>,
     expected: &NameSet,
-    area: &NumberedArea,
+    area: NumberedArea,
     left: &mut u64,
 ) -> Result<ImageFinding, CheckFault>
-    requires { area_end area.now.area ≤ length (F.facts paged.old.device).content }
+    requires { area_end area.area ≤ length (F.facts paged.old.device).content }
 
     ensures after { HasRead F.facts ((left.old - left.new) / 16 + 2) (fault_count by_device result)
         paged.old paged.new }
-    ensures left { left.new ≡ left_after left.old area.now }
+    ensures left { left.new ≡ left_after left.old area }
     ensures area { IfOk result (λ finding. region_area finding
-        ≡ (if nat_le area.now.area.size left.old then area.now ∷ [] else [])) }
+        ≡ (if nat_le area.area.size left.old then area ∷ [] else [])) }
     ensures found { OnHonest F.facts paged.old.device (λ image.
         (names : List (List ℕ)) → HasNames expected.now names → IfOk result (λ finding.
-        finding ≡ of.area_finding image names left.old area.now)) }
+        finding ≡ of.area_finding image names left.old area)) }
 {
     let start = u64::from(area.area.offset);
     let size = u64::from(area.area.size);
-    let is_named = expected.contains(area);
-    let area = *area;
+    let is_named = expected.contains(&area);
     match Region::within(start, size, paged.len()) {
         Some(region) if size <= *left => {
             *left -= size;
-            let findings = check_region(alloc, keys, paged, region)?;
-            let findings = RegionFindings::new(findings);
+            let findings = RegionFindings::new(check_region(alloc, keys, paged, region)?);
             Ok(ImageFinding::Region { area, findings })
         }
         _ => Ok(ImageFinding::NotChecked { area, is_named }),
@@ -85,7 +83,7 @@ fn areas_findings<F: Flash>(
     let mut left = MAX_IMAGES * paged.len();
     let mut findings = Vec::new(alloc);
     for area in areas {
-        let finding = area_finding(alloc, keys, paged, expected, area, &mut left)?;
+        let finding = area_finding(alloc, keys, paged, expected, *area, &mut left)?;
         findings.push(finding)?;
     }
     Ok(findings)
@@ -94,11 +92,8 @@ fn areas_findings<F: Flash>(
 fn map_part(alloc: Global, found: &[MapFinding]) -> Result<Vec<ImageFinding>, AllocError>
     ensures { IfOk result (λ findings. findings.items ≡ map Map found.now) }
 {
-    let mut findings = Vec::new(alloc);
-    for finding in found {
-        findings.push(ImageFinding::Map(*finding))?;
-    }
-    Ok(findings)
+    let findings = found.iter().map(|finding| ImageFinding::Map(*finding));
+    findings.collect(alloc)
 }
 
 /// An image's findings, map and areas.

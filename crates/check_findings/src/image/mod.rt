@@ -1,20 +1,16 @@
 //! Checks an image: its flash map and CBFS regions. A check allocates memory for findings, and
 //! never writes to the device.
 
+mod choice;
 mod finding;
 mod image;
-mod laws;
 mod names;
 mod needs;
 mod starts;
 mod verdict;
-mod wanted;
 
+pub use choice::cbfs_areas;
 pub use finding::{ImageFinding, RegionFindings};
 pub use image::{CheckedImage, check_image};
-pub use laws::{
-    fit_images_are_whole, fit_regions_are_whole, fit_regions_lose_nothing, needs_are_there,
-};
 pub use needs::{Need, NeedFinding, NeededPlace, unmet};
 pub use verdict::{is_bad_hash, is_bad_map};
-pub use wanted::cbfs_areas;

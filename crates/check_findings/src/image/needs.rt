@@ -46,17 +46,12 @@ pub enum NeedFinding {
     Elsewhere(u64),
 }
 
-fn first_content(findings: &[RegionFinding], name: &[u8]) -> Option<Content>
-    ensures { result ≡ needs.first_content name.now findings.now }
+fn first_content(findings: &[RegionFinding], wanted: &[u8]) -> Option<Content>
+    ensures { result ≡ needs.first_content wanted.now findings.now }
 {
     for finding in findings {
-        if let RegionFinding::Component {
-            name: other,
-            content,
-            ..
-        } = finding
-        {
-            if other.as_slice() == name {
+        if let RegionFinding::Component { name, content, .. } = finding {
+            if name.as_slice() == wanted {
                 return Some(*content);
             }
         }

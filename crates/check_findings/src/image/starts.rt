@@ -46,9 +46,8 @@ impl Starts {
         ensures { (areas : List NumberedArea) → HasStarts self.now areas →
             result ≡ has_smaller areas area.now }
     {
-        match self.smallest.get(&area.area.offset) {
-            Some(smallest) => *smallest < area.area.size,
-            None => false,
-        }
+        self.smallest
+            .get(&area.area.offset)
+            .is_some_and(|smallest| *smallest < area.area.size)
     }
 }

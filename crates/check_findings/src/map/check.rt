@@ -41,17 +41,13 @@ pub fn check_map<F: Flash>(alloc: Global, paged: &mut Paged<F>) -> Result<Checke
 {
     let len = paged.len();
     let ImageMap { found, areas } = image_map(alloc, paged)?;
-    let Some(map) = found else {
-        let mut findings = Vec::new(alloc);
-        findings.push(MapFinding::NoMap)?;
-        return Ok(CheckedMap {
-            findings,
-            found,
-            areas,
-        });
+    let findings = match found {
+        Some(map) => {
+            let next = find_fmap_from(paged, map.at + 1)?;
+            findings_of(alloc, len, &map, next, &areas)?
+        }
+        None => vec![in alloc; MapFinding::NoMap]?,
     };
-    let next = find_fmap_from(paged, map.at + 1)?;
-    let findings = findings_of(alloc, len, &map, next, &areas)?;
     Ok(CheckedMap {
         findings,
         found,

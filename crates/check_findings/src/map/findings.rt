@@ -2,19 +2,18 @@
 
 ghost use Rattle.std.specs.Prelude.{◌≡◌, ◌+◌, ◌^◌, ◌<◌, ◌≤◌, ◌++◌, IfOk, OnOk};
 ghost use Rattle.std.specs.List.{find, flat_map};
-ghost use Rattle.std.specs.Option.{option_to_list};
 ghost use lib.Chars.{codes};
 ghost use Rattle.flash_format.specs.Flashmap.{map_len};
-ghost use Rattle.check_findings.specs.Map.MapFindings.{area_findings, finding_if, findings_of};
+ghost use Rattle.check_findings.specs.Map.MapFindings.{area_findings, findings_of};
 ghost use Rattle.check_findings.specs.Map.MapFindings.{holds_map, map_area_findings};
 ghost use Rattle.flash_map.specs.Areas.{has_name};
 
-use crate::lists::{Pushed, push_if};
+use crate::lists::{Pushed, push, push_if};
 use crate::map::finding::{MapFinding, MapFindings};
 use crate::map::names::push_name_findings;
 use crate::map::overlaps::push_overlap_findings;
 use crate::text::is_text;
-use flash_format::{Area, FmapHead};
+use flash_format::Area;
 use flash_map::{FoundMap, NumberedArea};
 use std::alloc::{AllocError, Global};
 
@@ -32,22 +31,15 @@ pub fn findings_of(
     let mut findings = Vec::new(alloc);
     let has_other_size = u64::from(map.head.size) != len;
     findings.push(MapFinding::Map(*map))?;
-    push_some(&mut findings, next.map(MapFinding::OtherMap))?;
+    if let Some(next) = next {
+        findings.push(MapFinding::OtherMap(next))?;
+    }
     push_if(&mut findings, has_other_size, MapFinding::OtherSize)?;
     push_area_findings(&mut findings, len, areas)?;
     push_name_findings(alloc, &mut findings, areas)?;
     push_overlap_findings(&mut findings, areas)?;
     push_map_area_findings(&mut findings, map, areas)?;
     Ok(findings)
-}
-
-fn push_some(findings: &mut MapFindings, finding: Option<MapFinding>) -> Pushed
-    ensures { OnOk result (findings.new.items ≡ findings.old.items ++ option_to_list finding) }
-{
-    if let Some(finding) = finding {
-        findings.push(finding)?;
-    }
-    Ok(())
 }
 
 fn push_area_findings(findings: &mut MapFindings, len: u64, areas: &[NumberedArea]) -> Pushed
@@ -74,7 +66,7 @@ fn push_map_area_findings(
         ++ map_area_findings map.now (find (has_name (codes "FMAP")) areas.now)) }
 {
     let Some(a) = map_area(areas) else {
-        return push_if(findings, true, MapFinding::NoMapArea);
+        return push(findings, MapFinding::NoMapArea);
     };
     let misses = !holds_map(map, &a.area);
     push_if(findings, misses, MapFinding::MapAreaMisses(a))
@@ -90,9 +82,7 @@ fn holds_map(map: &FoundMap, area: &Area) -> bool
     requires { map.now.at + map_len map.now.head < 2 ^ 64 }
     ensures { result ≡ holds_map map.now area.now }
 {
-    let map_end = map.at
-        + FmapHead::LENGTH as u64
-        + Area::LENGTH as u64 * u64::from(map.head.nareas);
+    let map_end = map.at + map.head.map_len();
     let area_end = u64::from(area.offset) + u64::from(area.size);
     u64::from(area.offset) <= map.at && map_end <= area_end
 }

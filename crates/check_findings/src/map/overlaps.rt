@@ -4,7 +4,7 @@ ghost use Rattle.std.specs.Prelude.{◌≡◌, ◌++◌, OnOk};
 ghost use Rattle.std.specs.List.{find};
 ghost use Rattle.check_findings.specs.Map.MapFindings.{ends_inside, overlap, overlap_findings};
 
-use crate::lists::{Pushed, push_if};
+use crate::lists::{Pushed, push};
 use crate::map::finding::{MapFinding, MapFindings};
 use flash_format::Area;
 use flash_map::NumberedArea;
@@ -16,7 +16,7 @@ pub fn push_overlap_findings(findings: &mut MapFindings, areas: &[NumberedArea])
     ensures { OnOk result (findings.new.items ≡ findings.old.items ++ overlap_findings areas.now) }
 {
     if areas.len() > MOST_COMPARED {
-        return push_if(findings, true, MapFinding::TooManyAreas);
+        return push(findings, MapFinding::TooManyAreas);
     }
     for a in areas {
         if let Some(other) = first_overlap(areas, a) {

@@ -41,8 +41,7 @@ fn push_cell<F: Flash>(
     cells_stand_in_their_image();
     if cell.head.is_free() {
         let is_deleted = cell.head.kind == 0;
-        push_if(findings, is_deleted, RegionFinding::Deleted { at: cell.at })?;
-        return Ok(());
+        return Ok(push_if(findings, is_deleted, RegionFinding::Deleted { at: cell.at })?);
     }
     let mut field = [0; 256];
     let len = name(paged, region, cell, &mut field)?;
@@ -55,13 +54,12 @@ fn push_cell<F: Flash>(
         compression,
         hash: HashFinding::of(state),
     };
-    findings.push(RegionFinding::Component {
+    Ok(findings.push(RegionFinding::Component {
         at: cell.at,
         name: Name::copied(alloc, &field[..len])?,
         is_shadowed: false,
         content,
-    })?;
-    Ok(())
+    })?)
 }
 
 /// Returns the findings of a region, entry by entry, without marks of shadowed components.

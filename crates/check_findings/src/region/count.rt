@@ -1,7 +1,6 @@
 //! Sums over entries.
 ghost use Rattle.std.specs.Prelude.{◌≡◌, ◌+◌, ◌^◌, ◌<◌, ◌++◌, IfOk};
 ghost use Rattle.flash_format.specs.Head.{is_free};
-ghost use Rattle.check_findings.specs.Region.Counts.{usable};
 
 use crate::region::finding::RegionFinding;
 use cbfs_walk::Cell;
@@ -11,7 +10,7 @@ use std::alloc::AllocError;
 const METADATA: u64 = 28;
 
 /// The sums over the entries before an offset.
-#[derive(Clone, Copy)]
+#[derive(Clone, Copy, Default)]
 pub struct Count {
     /// The region's size in bytes.
     pub size: u64,
@@ -24,36 +23,27 @@ pub struct Count {
     pub room: u64,
 }
 
-/// Returns the usable bytes of an empty run: all but the region's last four.
-fn usable(size: u64, start: u64, end: u64) -> u64
-    ensures { result ≡ usable size start end }
-{
-    let kept = if end == size { 4 } else { 0 };
-    end.saturating_sub(start).saturating_sub(kept)
-}
-
 impl Count {
-    ghost use Rattle.check_findings.specs.Region.Counts.{IsCountBefore, count_after};
-    ghost use Rattle.check_findings.specs.Region.Counts.{nothing, room_to};
-    ghost use Rattle.check_findings.specs.Region.Reports.{counted};
+    ghost use Rattle.check_findings.specs.Region.Reports.{IsCountBefore, count_after, counted};
+    ghost use Rattle.check_findings.specs.Region.Reports.{nothing, room_to};
 
     pub fn new(size: u64) -> Count
         ensures { result ≡ nothing size }
     {
         Count {
             size,
-            components: 0,
-            free: 0,
-            start: 0,
-            room: 0,
+            ..Count::default()
         }
     }
 
-    /// Returns the most usable bytes of an empty run, if the entries end here.
+    /// Returns the most usable bytes of an empty run, if the entries end here: all but the region's
+    /// last four.
     fn room_to(self, end: u64) -> u64
         ensures { result ≡ room_to self end }
     {
-        self.room.max(usable(self.size, self.start, end))
+        let kept = if end == self.size { 4 } else { 0 };
+        let usable = end.saturating_sub(self.start).saturating_sub(kept);
+        self.room.max(usable)
     }
 
     pub fn with(self, cell: &Cell) -> Count

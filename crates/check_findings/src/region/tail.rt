@@ -20,12 +20,10 @@ fn first_filled(bytes: &[u8], at: u64) -> Option<u64>
     requires { at + length bytes.now < 2 ^ 64 }
     ensures { result ≡ position_from is_filled at bytes.now }
 {
-    let mut place = at;
-    for b in bytes {
+    for (i, b) in bytes.iter().enumerate() {
         if !(*b == 0xff || *b == 0x00) {
-            return Some(place);
+            return Some(at + i as u64);
         }
-        place += 1;
     }
     None
 }

@@ -1,6 +1,6 @@
 use Rattle.std.proofs.lemmas.List.Elements.{All-weaker}
 use Rattle.check_findings.specs.Image.ImageFindings.{image_findings}
-use Rattle.check_findings.specs.Image.Laws.{IsFit}
+use Rattle.check_findings.specs.Laws.{IsFit}
 use Rattle.check_findings.specs.Image.RegionAreas.{region_areas}
 use Rattle.check_laws.specs.Laws.{IsExtracted}
 use Rattle.check_laws.proofs.Telling.{extracted_area}

@@ -1,20 +1,25 @@
-use Rattle.std.proofs.Common.{◌≡◌, ap, arith, length}
-use Rattle.check_changes.specs.Areas.AreaChanges.{area_changes}
+use Rattle.std.proofs.Common.{◌≡◌, ◌*◌, ◌++◌, ap, arith, length, sym}
+use Rattle.check_changes.specs.Areas.AreaChanges.{area_changes, changes_in}
+use Rattle.check_changes.proofs.AreaLemmas.Changing.{pushed-both}
 use Rattle.check_changes.proofs.ImageLemmas.{both-handed, both-then, both-within, OnBoth-before}
 use Rattle.check_changes.proofs.areas.areas.image_changes.Goals as goal
 
-pub returns-in_err-areas-clause-after : goal.returns-in_err-areas-clause-after
-returns-in_err-areas-clause-after g c =
+pub returns-in_err-push_changes-clause-after : goal.returns-in_err-push_changes-clause-after
+returns-in_err-push_changes-clause-after g c =
+    let few = c.in_ok-pairs.ensures.count in
+    let same = ap length c.deref.ensures.value in
     let new = ap length c.in_ok-of-2.ensures in
-    both-handed _ _ _ _ c.from_residual-in_err-areas.ensures.1 (both-within _ _ _ _ (omega (arith, new)) (omega (arith, new)) (both-then _ _ c.in_ok-blocks.ensures.after c.in_err-areas.ensures.after))
+    both-handed _ _ _ _ c.from_residual-in_err-push_changes.ensures.1 (both-within _ _ _ _ (omega (arith, few, same, new)) (omega (arith, few, same, new)) (both-then _ _ c.in_ok-blocks.ensures.after c.in_err-push_changes.ensures.after))
 
 pub returns-clause-after : goal.returns-clause-after
 returns-clause-after g c =
+    let few = c.in_ok-pairs.ensures.count in
+    let same = ap length c.deref.ensures.value in
     let new = ap length c.in_ok-of-2.ensures in
-    both-within _ _ _ _ (omega (arith, new)) (omega (arith, new)) (both-then _ _ c.in_ok-blocks.ensures.after c.in_ok-areas.ensures.after)
+    both-within _ _ _ _ (omega (arith, few, same, new)) (omega (arith, few, same, new)) (both-then _ _ c.in_ok-blocks.ensures.after c.in_ok-push_changes.ensures.after)
 
 pub returns-clause-areas : goal.returns-clause-areas
+unfolding area_changes
 returns-clause-areas g c = λ h k.
-    let old = c.in_ok-of.field-0.all.now in
-    let new = c.in_ok-of-2.field-0.all.now in
-    rw (c.in_ok-of.ensures, c.in_ok-of-2.ensures) at (OnBoth-before _ _ (λ x y. c.in_ok-areas.areas.items ≡ area_changes x old y new) c.in_ok-blocks.ensures.after c.in_ok-areas.ensures.changes h k)
+    let pushed = OnBoth-before _ _ (λ x y. c.push_changes.new.changes.items ≡ c.new-areas.result.items ++ changes_in (8 * length y) x y c.deref.result.now c.deref.result.now) c.in_ok-blocks.ensures.after c.in_ok-push_changes.ensures.changes h k in
+    rw (sym c.in_ok-of.ensures, sym c.in_ok-of-2.ensures) (pushed-both _ _ _ _ _ c.new-areas.ensures.items (rw (c.deref.ensures.value, c.in_ok-pairs.ensures.found) at pushed) c.in_ok-push_gone.ensures)

@@ -1,7 +1,8 @@
 use Rattle.std.proofs.Common.{◌≤◌, arith}
+use Rattle.std.proofs.lemmas.List.{append-nil, drop_all}
 use Rattle.flash_device.proofs.DeviceLemmas.{honest_still}
 use Rattle.flash_device.proofs.WindowLemmas.{HasRead-then, HasRead-within}
-use Rattle.check_findings.proofs.ImageLemmas.Regions.{checked_more, found_all, found_more}
+use Rattle.check_findings.proofs.ImageLemmas.Regions.{checked_more, found_more}
 use Rattle.check_findings.proofs.image.image.areas_findings.Goals as goal
 
 pub area_finding-requires : goal.area_finding-requires
@@ -21,4 +22,5 @@ loop-area-preserved g c =
     }
 
 pub returns-clause-found : goal.returns-clause-found
-returns-clause-found g c = λ h names has. found_all _ names c.loop-area.left c.loop-area.area-index c.args.areas.now _ _ (omega arith) (c.loop-area.invariant.found h names has)
+returns-clause-found g c = λ h names has.
+    rw (drop_all c.loop-area.area-index c.args.areas.now c.loop-area-test.false, append-nil) at (c.loop-area.invariant.found h names has)

@@ -5,7 +5,8 @@ use Rattle.flash_device.proofs.DeviceLemmas.{honest_still}
 use Rattle.cbfs_walk.specs.Cells.{cell_in}
 use Rattle.cbfs_walk.specs.Hashes.{hash_state}
 use Rattle.cbfs_walk.specs.Walks.{StandsIn}
-use Rattle.check_findings.proofs.RegionLemmas.Reporting.{component_gained}
+use Rattle.std.proofs.Common.{ap}
+use Rattle.flash_format.specs.Head.{is_free}
 use Rattle.check_findings.proofs.region.check.push_cell.Goals as goal
 
 pub returns-in_err-state-clause-after : goal.returns-in_err-state-clause-after
@@ -46,5 +47,4 @@ returns-clause-found g c = λ h stands.
     let stays = subst (λ (l : List ℕ). StandsIn (bytes_in r l) cell) (sym after) stands in
     let state = subst (λ (l : List ℕ). c.in_ok-state.state ≡ hash_state (cell_attributes (cell_in (bytes_in r l) cell)) (cell_content (cell_in (bytes_in r l) cell))) after
     (c.in_ok-state.ensures.state (honest_still packed.calls.same_honesty still) stays) in
-    component_gained c.args.findings.now.items c.push.new.self.items cell.at x _ cell.head c.in_ok-compression.compression _ (sym c.if-is_free.ensures) (named.name h stands) known.head compressed state
-    (rw (c.in_ok-copied.ensures, c.from.ensures, c.of.ensures) at c.in_ok-push.ensures.items)
+    rw (ap is_free known.head ∙ sym c.if-is_free.ensures) (rw (c.in_ok-copied.ensures, c.from.ensures, c.of.ensures, named.name h stands, sym known.head, compressed, state) at c.in_ok-push.ensures.items)

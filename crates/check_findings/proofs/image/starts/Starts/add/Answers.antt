@@ -1,5 +1,5 @@
-use Rattle.std.proofs.Common.{◌∙◌, sym}
-use Rattle.check_findings.proofs.ImageLemmas.StartLemmas.{start_small, start_known, start_new}
+use Rattle.std.proofs.Common.{◌∙◌, arith, sym}
+use Rattle.check_findings.proofs.ImageLemmas.StartLemmas.{start_new, start_same}
 use Rattle.check_findings.proofs.image.starts.Starts.add.Goals as goal
 use Rattle.check_findings.proofs.image.starts.Starts.add.Goals.{else-size-ge-HEAD-via-then-size-ge-HEAD+else-not-has_smaller, else-size-ge-HEAD-via-else-size-ge-HEAD}
 
@@ -7,8 +7,8 @@ pub returns-else-size-ge-HEAD : goal.returns-else-size-ge-HEAD
 returns-else-size-ge-HEAD c = λ before has.
     let a = c.args.area.now in
     elim c.else-size-ge-HEAD.branch [
-      | else-size-ge-HEAD-via-then-size-ge-HEAD+else-not-has_smaller w ↦ start_known c.args.self.now before a (has a.area.offset a.area.size ∙ sym (w.if-not-has_smaller.ensures before has)) has
-      | else-size-ge-HEAD-via-else-size-ge-HEAD w ↦ start_small c.args.self.now before a w.if-size-ge-HEAD.false has
+      | else-size-ge-HEAD-via-then-size-ge-HEAD+else-not-has_smaller w ↦ start_same c.args.self.now before a (λ fits. has a.area.offset a.area.size ∙ sym (w.if-not-has_smaller.ensures before has)) has
+      | else-size-ge-HEAD-via-else-size-ge-HEAD w ↦ start_same c.args.self.now before a (λ fits. absurd (omega (arith, w.if-size-ge-HEAD.false))) has
     ]
 
 pub returns-in_ok-insert : goal.returns-in_ok-insert

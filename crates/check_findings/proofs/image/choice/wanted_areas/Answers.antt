@@ -1,0 +1,24 @@
+use Rattle.std.proofs.Common.{◌≤◌, length, arith}
+use Rattle.flash_device.proofs.DeviceLemmas.{honest_still}
+use Rattle.flash_device.proofs.WindowLemmas.{HasRead-then}
+use Rattle.flash_map.specs.Areas.{area_end}
+use Rattle.check_findings.specs.Image.ImageFindings.{is_wanted}
+use Rattle.check_findings.proofs.ImageLemmas.Regions.{filtered, wanted_more}
+use Rattle.check_findings.proofs.image.choice.wanted_areas.Goals as goal
+
+pub loop-area-preserved : goal.loop-area-preserved
+loop-area-preserved g c =
+    let had = c.loop-area.invariant in
+    let add = c.in_ok-is_wanted.ensures in
+    let device = had.read.device in
+    let content = (g.F.Flash.facts c.args.paged.now.device).content in
+    let more = wanted_more (λ a. area_end a.area ≤ length content) _ _ _ _ c.in_ok-push_if.ensures had.inside (rw device.calls.same_length at add.inside) in
+    record {
+      read = HasRead-then _ _ 1 0 _ _ _ had.read add.after.read;
+      inside = more.0;
+      count = omega (arith, had.count, more.1);
+      areas = λ h names has.
+          let p = is_wanted content names c.args.areas.now in
+          let is = rw (device.unchanged h) at (add.wanted (honest_still device.calls.same_honesty h) names c.args.areas.now has c.in_ok-starts.ensures) in
+          filtered p c.args.areas.now c.loop-area.area-index _ _ _ c.loop-area-test.true (had.areas h names has) (rw is at c.in_ok-push_if.ensures);
+    }

@@ -1,5 +1,0 @@
-use Rattle.check_findings.proofs.ImageLemmas.Needed.{needs_met}
-use Rattle.check_findings.proofs.image.laws.needs_are_there.Goals as goal
-
-pub returns : goal.returns
-returns c = needs_met

@@ -1,5 +1,0 @@
-use Rattle.check_findings.proofs.RegionLemmas.Tails.{blank_tails}
-use Rattle.check_findings.proofs.region.laws.blank_tails_are_known.Goals as goal
-
-pub returns : goal.returns
-returns c = blank_tails

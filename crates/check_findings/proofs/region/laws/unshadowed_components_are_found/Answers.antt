@@ -1,5 +1,0 @@
-use Rattle.check_findings.proofs.RegionLemmas.Unshadowed.{unshadowed_found}
-use Rattle.check_findings.proofs.region.laws.unshadowed_components_are_found.Goals as goal
-
-pub returns : goal.returns
-returns c = unshadowed_found

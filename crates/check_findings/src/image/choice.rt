@@ -1,0 +1,80 @@
+//! The choice of areas to check.
+ghost use Rattle.std.specs.Prelude.{ℕ, ◌≡◌, ◌≤◌, List, All, IsTrue, length, IfOk};
+ghost use Rattle.flash_device.specs.Device.{fault_count};
+ghost use Rattle.flash_device.specs.Pages.{HasRead, HasAnswered, OnHonest};
+ghost use Rattle.flash_map.specs.declared.areas.NumberedArea.{NumberedArea};
+ghost use Rattle.flash_map.specs.Faults.{by_device};
+ghost use Rattle.flash_map.specs.Areas.{area_end};
+ghost use Rattle.check_findings.specs.Image.ImageFindings.{cbfs_areas, is_wanted, wanted_areas};
+ghost use Rattle.check_findings.specs.Image.Lookups.{HasNames, HasStarts};
+
+use crate::image::names::NameSet;
+use crate::image::starts::Starts;
+use crate::lists::push_if;
+use crate::region::has_entry_at;
+use flash_device::{Flash, FlashFault, Paged, Region};
+use flash_map::{CheckFault, NumberedArea};
+use std::alloc::Global;
+
+/// Returns the CBFS areas: each lies inside the image, begins with an entry, and is the smallest
+/// such area at its offset.
+pub fn cbfs_areas<F: Flash>(
+    alloc: Global,
+    paged: &mut Paged<F>,
+    areas: &[NumberedArea],
+) -> Result<Vec<NumberedArea>, CheckFault>
+    ensures after { HasRead F.facts (length areas.now) (fault_count by_device result)
+        paged.old paged.new }
+    ensures areas { OnHonest F.facts paged.old.device (λ image.
+        IfOk result (λ found. found.items ≡ cbfs_areas image areas.now)) }
+{
+    let none = NameSet::new(alloc);
+    wanted_areas(alloc, paged, &none, areas)
+}
+
+/// Returns the areas to check, in order.
+pub fn wanted_areas<F: Flash>(
+    alloc: Global,
+    paged: &mut Paged<F>,
+    expected: &NameSet,
+    areas: &[NumberedArea],
+) -> Result<Vec<NumberedArea>, CheckFault>
+    ensures after { HasRead F.facts (length areas.now) (fault_count by_device result)
+        paged.old paged.new }
+    ensures inside { IfOk result (λ wanted.
+        All (λ a. area_end a.area ≤ length (F.facts paged.old.device).content) wanted.items) }
+    ensures count { IfOk result (λ wanted. length wanted.items ≤ length areas.now) }
+    ensures areas { OnHonest F.facts paged.old.device (λ image.
+        (names : List (List ℕ)) → HasNames expected.now names →
+        IfOk result (λ wanted. wanted.items ≡ wanted_areas image names areas.now)) }
+{
+    let starts = Starts::of(alloc, areas)?;
+    let mut wanted = Vec::new(alloc);
+    for area in areas {
+        let is_wanted = is_wanted(paged, expected, &starts, area)?;
+        push_if(&mut wanted, is_wanted, *area)?;
+    }
+    Ok(wanted)
+}
+
+fn is_wanted<F: Flash>(
+    paged: &mut Paged<F>,
+    expected: &NameSet,
+    starts: &Starts,
+    area: &NumberedArea,
+) -> Result<bool, FlashFault>
+    ensures after { HasAnswered F.facts 1 paged.old paged.new result }
+    ensures inside { IfOk result (λ wanted. IsTrue wanted →
+        area_end area.now.area ≤ length (F.facts paged.old.device).content) }
+    ensures wanted { OnHonest F.facts paged.old.device (λ image.
+        (names : List (List ℕ)) (areas : List NumberedArea) →
+        HasNames expected.now names → HasStarts starts.now areas →
+        IfOk result (λ wanted. wanted ≡ is_wanted image names areas area.now)) }
+{
+    let start = u64::from(area.area.offset);
+    let size = u64::from(area.area.size);
+    let Some(region) = Region::within(start, size, paged.len()) else {
+        return Ok(false);
+    };
+    Ok(expected.contains(area) || (!starts.has_smaller(area) && has_entry_at(paged, region, 0)?))
+}
