@@ -5,7 +5,8 @@ use Rattle.std.specs.List.{list_any}
 use Rattle.std.specs.Str.{bytes_eq}
 use Rattle.std.proofs.lemmas.Slice.Eq.{bytes_eq-Decides}
 use Rattle.check_report.specs.declared.rows.row.Verdict.TheVariants.{Bad}
-use Rattle.check_report.specs.Rows.Rows.{SeenRow, is_bad_row, is_verdict, row_if, verdict_word}
+use Rattle.check_report.specs.Rows.Rows.{SeenRow, is_bad_row, is_verdict, verdict_word}
+use Rattle.check_changes.specs.Lists.{only_if}
 use Rattle.check_report.specs.Rows.Limits.{SeenKind, count_in, counted, is_of, shown_after, shown_rows}
 
 abbrev is_bad_kind : SeenKind → Bool
@@ -55,7 +56,7 @@ bad_after kinds (row ∷ rows) = go (nat_lt (count_in kinds row) 16) refl (rw (b
 
     go : (b : Bool) → nat_lt (count_in kinds row) 16 ≡ b
         → ((list_any is_bad_kind kinds || is_bad_row row) || list_any is_bad_row later) ≡ ((list_any is_bad_kind kinds || is_bad_row row) || list_any is_bad_row rows)
-        → (list_any is_bad_kind kinds || list_any is_bad_row (row_if b row ++ later)) ≡ (list_any is_bad_kind kinds || (is_bad_row row || list_any is_bad_row rows))
+        → (list_any is_bad_kind kinds || list_any is_bad_row (only_if b row ++ later)) ≡ (list_any is_bad_kind kinds || (is_bad_row row || list_any is_bad_row rows))
     go true is all = shown (list_any is_bad_kind kinds) (is_bad_row row) (list_any is_bad_row later) (list_any is_bad_row rows) all
     go false is all = hidden (list_any is_bad_kind kinds) (is_bad_row row) (list_any is_bad_row later) (list_any is_bad_row rows) (bad_before kinds row (grind (arith, is))) all
 

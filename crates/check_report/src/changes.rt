@@ -2,6 +2,7 @@
 ghost use Rattle.std.specs.Prelude.{map};
 ghost use Rattle.std.specs.List.{flat_map};
 ghost use Rattle.check_report.specs.Names.{names_in};
+ghost use Rattle.check_report.specs.Rows.Rows.{area_name};
 ghost use Rattle.check_report.specs.Rows.Writing.{Adds};
 ghost use Rattle.check_report.specs.ChangeRows as of;
 
@@ -67,8 +68,9 @@ fn add_component_changes<W: Sink + Drop>(
     area: &NumberedArea,
     changes: &[ComponentChange],
 ) -> Result<(), WriteFault>
-    ensures { Adds W.contents W.faults result rows.old rows.new (of.component_change_rows
-        (names_in kept.now) area.now changes.now) }
+    ensures { Adds W.contents W.faults result rows.old rows.new
+        (map (of.component_change_row (of.change_verdict (names_in kept.now) area.now)
+        (area_name area.now)) changes.now) }
 {
     let verdict = change_verdict(kept, *area);
     for change in changes {

@@ -1,7 +1,8 @@
 //! Rows of an image's findings.
-ghost use Rattle.std.specs.Prelude.{◌≡◌};
+ghost use Rattle.std.specs.Prelude.{◌≡◌, slice_get};
+ghost use Rattle.std.specs.Option.{option_map_or};
 ghost use Rattle.check_report.specs.Names.{names_in};
-ghost use Rattle.check_report.specs.Rows.Fields.{seen_value};
+ghost use Rattle.check_report.specs.Rows.Fields.{dash, name_value, seen_value};
 ghost use Rattle.check_report.specs.Rows.Rows.{seen_row};
 ghost use Rattle.check_report.specs.Rows.Writing.{Adds};
 ghost use Rattle.check_report.specs.FindingRows as of;
@@ -25,7 +26,8 @@ pub fn missing_row(area: Value<'_>) -> Row<'_>
 }
 
 fn name_at<'a>(names: &[&'a [u8]], number: usize) -> Value<'a>
-    ensures { seen_value result ≡ of.name_at (names_in names.now) number }
+    ensures { seen_value result
+        ≡ option_map_or name_value (slice_get (names_in names.now) number) dash }
 {
     match names.get(number) {
         Some(name) => Value::Name(name),

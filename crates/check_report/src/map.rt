@@ -4,32 +4,36 @@ ghost use Rattle.check_report.specs.Rows.Rows.{seen_row};
 ghost use Rattle.check_report.specs.FindingRows as rows;
 
 use crate::rows::{Row, Verdict};
-use check_findings::{MapFinding, is_bad_map};
+use check_findings::MapFinding;
 
 pub fn map_row(finding: &MapFinding) -> Row<'_>
     ensures { seen_row result ≡ rows.map_row finding.now }
 {
-    let v = Verdict::of_finding(is_bad_map(finding));
+    let (bad, remark) = (Verdict::Bad, Verdict::Remark);
     match finding {
-        MapFinding::NoMap => v.row("no-map", "no flashmap"),
-        MapFinding::Map(map) => v.row("map", "flashmap").at(map.at),
-        MapFinding::OtherMap(map) => v.row("other-map", "another flashmap").at(map.at),
+        MapFinding::NoMap => bad.row("no-map", "no flashmap"),
+        MapFinding::Map(map) => remark.row("map", "flashmap").at(map.at),
+        MapFinding::OtherMap(map) => remark.row("other-map", "another flashmap").at(map.at),
         MapFinding::OtherSize => {
             let what = "the flashmap states another size than the image has";
-            v.row("map-size", what)
+            bad.row("map-size", what)
         }
-        MapFinding::AreaOutside(area) => v.row("area-outside", "ends outside the image").of(area),
-        MapFinding::AreaEmpty(area) => v.row("area-empty", "has no bytes").of(area),
-        MapFinding::AreaNameNotText(area) => v.row("area-name", "name isn't UTF-8").of(area),
+        MapFinding::AreaOutside(area) => bad.row("area-outside", "ends outside the image").of(area),
+        MapFinding::AreaEmpty(area) => remark.row("area-empty", "has no bytes").of(area),
+        MapFinding::AreaNameNotText(area) => remark.row("area-name", "name isn't UTF-8").of(area),
         MapFinding::SameName { area, first } => {
-            let same = v.row("area-same-name", "has the name of an earlier area");
+            let same = bad.row("area-same-name", "has the name of an earlier area");
             same.of(area).other(first)
         }
         MapFinding::Overlap { area, other } => {
-            v.row("area-overlaps", "overlaps").of(area).other(other)
+            bad.row("area-overlaps", "overlaps").of(area).other(other)
         }
-        MapFinding::TooManyAreas => v.row("too-many-areas", "too many areas to look for overlaps"),
-        MapFinding::NoMapArea => v.row("no-map-area", "no area FMAP"),
-        MapFinding::MapAreaMisses(area) => v.row("map-area", "doesn't hold the flashmap").of(area),
+        MapFinding::TooManyAreas => {
+            bad.row("too-many-areas", "too many areas to look for overlaps")
+        }
+        MapFinding::NoMapArea => bad.row("no-map-area", "no area FMAP"),
+        MapFinding::MapAreaMisses(area) => bad
+            .row("map-area", "doesn't hold the flashmap")
+            .of(area),
     }
 }

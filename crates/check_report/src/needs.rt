@@ -2,7 +2,7 @@
 ghost use Rattle.std.specs.Prelude.{◌≡◌, map};
 ghost use Rattle.std.specs.List.{flat_map};
 ghost use Rattle.check_findings.specs.Image.Needs.{wish_of};
-ghost use Rattle.check_report.specs.Rows.Rows.{seen_row};
+ghost use Rattle.check_report.specs.Rows.Rows.{of_component, seen_row};
 ghost use Rattle.check_report.specs.Rows.Writing.{Adds};
 ghost use Rattle.check_report.specs.FindingRows as of;
 
@@ -12,7 +12,8 @@ use check_findings::{ImageFinding, Need, NeedFinding, unmet};
 use flash_device::Sink;
 
 fn need_row<'a>(need: &Need<'a>, finding: NeedFinding) -> Row<'a>
-    ensures { seen_row result ≡ of.need_row (wish_of need.now) finding }
+    ensures { seen_row result
+        ≡ of_component need.now.area.now need.now.name.now (of.need_row finding) }
 {
     let row = match finding {
         NeedFinding::Missing => Verdict::Bad.row("need-missing", "needed component isn't there"),

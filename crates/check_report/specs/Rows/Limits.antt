@@ -6,7 +6,8 @@ use Rattle.std.specs.Str.{bytes_eq}
 use lib.Chars.{codes}
 use Rattle.check_report.specs.declared.rows.kinds.Kind.{Kind}
 use Rattle.check_report.specs.declared.rows.row.Verdict.{Verdict}
-use Rattle.check_report.specs.Rows.Rows.{SeenRow, row_if, row_of, with_count, is_verdict}
+use Rattle.check_changes.specs.Lists.{only_if}
+use Rattle.check_report.specs.Rows.Rows.{SeenRow, row_of, with_count, is_verdict}
 
 -- a kind, and the number of its rows
 pub record SeenKind : Type 0 where
@@ -40,7 +41,7 @@ kinds_of rows = fold counted [] rows
 abbrev pub shown_after : Bool → List SeenKind → List SeenRow → List SeenRow
 shown_after shows_all kinds [] = []
 shown_after shows_all kinds (row ∷ rows) =
-    row_if (shows_all || nat_lt (count_in kinds row) 16) row
+    only_if (shows_all || nat_lt (count_in kinds row) 16) row
     ++ shown_after shows_all (counted kinds row) rows
 
 abbrev pub shown_rows : List SeenRow → List SeenRow
@@ -52,7 +53,7 @@ more_row kind =
     with_count (kind.count - 16) (row_of kind.verdict kind.code (codes "more of these"))
 
 abbrev pub more_of : SeenKind → List SeenRow
-more_of kind = row_if (nat_lt 16 kind.count) (more_row kind)
+more_of kind = only_if (nat_lt 16 kind.count) (more_row kind)
 
 abbrev pub limited_rows : List SeenRow → List SeenRow
 limited_rows rows = shown_rows rows ++ flat_map more_of (kinds_of rows)
