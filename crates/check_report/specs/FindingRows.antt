@@ -1,6 +1,6 @@
 -- Rows of findings. This project defines their codes and texts.
-use Rattle.std.specs.Prelude.{ℕ, Bool, true, false, not, ◌||◌, List, [], ◌∷◌, ◌++◌, Some, None}
-use Rattle.std.specs.Prelude.{is_none, slice_get, Option}
+use Rattle.std.specs.Prelude.{ℕ, Bool, true, not, ◌||◌, List, [], ◌∷◌, ◌++◌, Some, None}
+use Rattle.std.specs.Prelude.{is_none, slice_get, Option, if◌then◌else◌}
 use Rattle.std.specs.List.{flat_map}
 use Rattle.std.specs.Option.{option_map_or}
 use Rattle.std.specs.Str.{is_utf8}
@@ -47,8 +47,7 @@ use Rattle.check_report.specs.Rows.Rows.{of_component, row, row_at, row_of, with
 use Rattle.check_report.specs.Rows.Rows.{with_number, with_other}
 
 abbrev pub finding_verdict : Bool → Verdict
-finding_verdict true = Bad
-finding_verdict false = Remark
+finding_verdict is_bad = if is_bad then Bad else Remark
 
 -- ---- the flash map; positions count from the image's start
 

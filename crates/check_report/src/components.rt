@@ -39,5 +39,5 @@ pub fn component_change_row<'a>(v: Verdict, area: &'a [u8], change: &'a Componen
             (moved.number(*old), name, new)
         }
     };
-    row.of_component(area, name.as_slice()).at(*at)
+    row.at_component(area, *at, name.as_slice())
 }

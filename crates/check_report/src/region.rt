@@ -57,16 +57,16 @@ fn add_component<W: Sink + Drop>(
     };
     let (at, name) = (*at, name.as_slice());
     let row = Verdict::Bad.row("component-shadowed", "has the name of an earlier component");
-    rows.add_if(*is_shadowed, row.of_component(region, name).at(at))?;
+    rows.add_if(*is_shadowed, row.at_component(region, at, name))?;
     let row = Verdict::Remark.row("component-name", "name isn't UTF-8");
-    rows.add_if(!is_text(name), row.of_component(region, name).at(at))?;
+    rows.add_if(!is_text(name), row.at_component(region, at, name))?;
     let row = Verdict::Remark.row("component-type", "type without a name");
     let row = row.number(u64::from(content.kind));
     let is_nameless = type_name(content.kind).is_none();
-    rows.add_if(is_nameless, row.of_component(region, name).at(at))?;
+    rows.add_if(is_nameless, row.at_component(region, at, name))?;
     let (code, what) = hash_words(content.hash);
     let verdict = Verdict::of_finding(is_bad_hash(content.hash, asked.needs_hashes));
-    let row = verdict.row(code, what).of_component(region, name).at(at);
+    let row = verdict.row(code, what).at_component(region, at, name);
     rows.add_if(asked.has_hash_row(content.hash), row)
 }
 

@@ -6,10 +6,10 @@ use Rattle.std.specs.Fmt.{decimal}
 use Rattle.std.specs.Str.{IsUtf8, is_utf8}
 use Rattle.std.proofs.lemmas.Grind.{flat_map-append}
 use Rattle.std.proofs.lemmas.Str.{is_utf8-from_IsUtf8, IsUtf8-from_is_utf8}
-use Rattle.json.specs.Json.{Json, member}
+use Rattle.json.specs.Json.{Json, member, object}
 use Rattle.json.specs.Token.{Token, begin_object, begin_array, end_array, end_object, key}
 use Rattle.json.specs.Tree.{json_tokens, items_tokens, members_tokens}
-use Rattle.check_report.specs.Rows.Fields.{Line, SeenField, bytes_json, items, line_json, members, name_json, number_json, object_of}
+use Rattle.check_report.specs.Rows.Fields.{Line, SeenField, bytes_json, items, line_json, members, name_json, number_json}
 use Rattle.check_report.specs.Rows.Reports.{begin_tokens, lines_field, member_tokens}
 
 members_tokens-members : (fs : List SeenField) → members_tokens (members fs) ≡ flat_map member_tokens fs ++ end_object ∷ []
@@ -22,7 +22,7 @@ members_tokens-members (f ∷ fs) = go f.1.json (members_tokens-members fs)
     go None rest = rest
     go (Some j) rest = ap (λ ts. key f.0 ∷ (json_tokens j ++ ts)) rest ∙ ap (λ ts. key f.0 ∷ ts) (sym (append_assoc (json_tokens j) _ _))
 
-pub object_tokens : (fs : List SeenField) → json_tokens (object_of fs) ≡ begin_object ∷ (flat_map member_tokens fs ++ end_object ∷ [])
+pub object_tokens : (fs : List SeenField) → json_tokens (object (members fs)) ≡ begin_object ∷ (flat_map member_tokens fs ++ end_object ∷ [])
 object_tokens fs = ap (λ ts. begin_object ∷ ts) (members_tokens-members fs)
 
 items_tokens-items : (js : List Json) → items_tokens (items js) ≡ flat_map json_tokens js ++ end_array ∷ []

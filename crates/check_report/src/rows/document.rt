@@ -10,7 +10,7 @@ ghost use Rattle.json.specs.Token.{number, string};
 ghost use Rattle.json.specs.Tree.{json_tokens};
 ghost use Rattle.check_report.specs.declared.rows.form.Form.TheVariants as forms;
 ghost use Rattle.check_report.specs.Rows.Fields.{bytes_json, name_json};
-ghost use Rattle.check_report.specs.Rows.Fields.{object_of, seen_field};
+ghost use Rattle.check_report.specs.Rows.Fields.{seen_field};
 ghost use Rattle.check_report.specs.Rows.Reports.{between, ending, file_fields, member_tokens};
 ghost use Rattle.check_report.specs.Rows.Reports.{parts, starting};
 ghost use Rattle.check_report.specs.Rows.Writing.{AddsTokens};

@@ -15,10 +15,8 @@ pub returns : goal.returns
 returns c =
     let fields = map seen_field c.args.fields.now in
     let line : Line = record { head = []; fields = fields } in
-    let comma : c.if-follows.as_bytes.now ≡ (if c.args.follows then codes "," else []) = elim c.if-follows.branch [
-      | then-follows w ↦ search rules
-      | else-follows w ↦ search rules
-    ] in
+    let comma : c.if-follows.as_bytes.now ≡ (if c.args.follows then codes "," else []) =
+    elim c.if-follows.branch [ then-follows w ↦ search rules | else-follows w ↦ search rules ] in
     let before = c.in_ok-put-2.ensures.before ∙ c.in_ok-put_members.ensures.before ∙ c.in_ok-put.ensures.before ∙ c.new-writer.ensures.before
     ∙ c.in_ok-push.ensures ∙ ap₂ (λ x y. x ++ y) c.new-text.ensures.items (c.as_bytes.ensures.value ∙ comma) in
     let tokens = c.in_ok-put-2.ensures.tokens ∙ ap (λ ts. ts ++ end_object ∷ [])
