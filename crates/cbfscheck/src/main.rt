@@ -31,17 +31,6 @@ enum ImageFault {
     TooLarge,
 }
 
-impl From<ErrorKind> for ImageFault {
-    fn from(kind: ErrorKind) -> ImageFault {
-        match kind {
-            ErrorKind::NotFound => ImageFault::NotFound,
-            ErrorKind::PermissionDenied => ImageFault::NoPermission,
-            ErrorKind::IsADirectory => ImageFault::IsDirectory,
-            _ => ImageFault::Device,
-        }
-    }
-}
-
 /// The reason for exit status 2; its text is the error message.
 #[derive(Clone, Copy, Debug, PartialEq, Eq, Error)]
 enum Refusal<'a> {
@@ -89,8 +78,11 @@ impl<'a> Refusal<'a> {
     fn of_opening(path: &'a str, fault: OpenFault) -> Refusal<'a> {
         let fault = match fault {
             OpenFault::Memory => return Refusal::Memory,
-            OpenFault::Failed(kind) => ImageFault::from(kind),
             OpenFault::TooLarge => ImageFault::TooLarge,
+            OpenFault::Failed(ErrorKind::NotFound) => ImageFault::NotFound,
+            OpenFault::Failed(ErrorKind::PermissionDenied) => ImageFault::NoPermission,
+            OpenFault::Failed(ErrorKind::IsADirectory) => ImageFault::IsDirectory,
+            OpenFault::Failed(_) => ImageFault::Device,
         };
         Refusal::Image { path, fault }
     }
@@ -101,18 +93,14 @@ impl<'a> Refusal<'a> {
             ReportFault::OldDevice => old,
             ReportFault::NewDevice => new,
         };
-        Refusal::Image {
-            path,
-            fault: ImageFault::Device,
-        }
+        let fault = ImageFault::Device;
+        Refusal::Image { path, fault }
     }
 }
 
 fn open<'a>(rt: &HostRuntime, path: &'a str) -> Result<Paged<FileFlash>, Refusal<'a>> {
-    let image = FileFlash::open_to_read(rt, path).map_err(|fault| Refusal::of_opening(
-        path, fault,
-    ))?;
-    Ok(Paged::new(image))
+    let image = FileFlash::open_to_read(rt, path);
+    Ok(Paged::new(image.map_err(|fault| Refusal::of_opening(path, fault))?))
 }
 
 fn request_of<'l>(line: &'l CheckLine<'_>) -> Request<'l>
@@ -155,19 +143,15 @@ fn inspect<'a>(
     let (old, alloc) = (line.image, rt.alloc());
     let Some(new) = line.new_image else {
         let mut image = open(rt, old)?;
-        return match inspect_image(alloc, keys, &mut image, request) {
-            Ok(inspection) => Ok(inspection),
-            Err(fault) => Err(Refusal::of_report(old, old, fault)),
-        };
+        let inspection = inspect_image(alloc, keys, &mut image, request);
+        return inspection.map_err(|fault| Refusal::of_report(old, old, fault));
     };
     let mut images = Images {
         old_image: open(rt, old)?,
         new_image: open(rt, new)?,
     };
-    match inspect_change(alloc, keys, &mut images, request) {
-        Ok(inspection) => Ok(inspection),
-        Err(fault) => Err(Refusal::of_report(old, new, fault)),
-    }
+    let inspection = inspect_change(alloc, keys, &mut images, request);
+    inspection.map_err(|fault| Refusal::of_report(old, new, fault))
 }
 
 /// Prints the report, and returns whether a finding is bad. It prints after closing the images,

@@ -57,14 +57,11 @@ bad_region : (asked : Asked) (region : List ℕ) (f : RegionFinding) → list_an
 bad_region asked region (of_region.Component at name shadowed content) = bad_component asked region at name shadowed content
 bad_region asked region _ = refl
 
-bad_named : (named : Bool) (a : NumberedArea) → list_any is_bad_row (not_checked_row a named ∷ []) ≡ named
-bad_named true a = refl
-bad_named false a = refl
-
 bad_finding : (asked : Asked) (names : List (List ℕ)) (f : ImageFinding) → list_any is_bad_row (rows_of asked names f) ≡ is_bad asked.needs_hashes f
 bad_finding asked names (Map f) = bad_map f
 bad_finding asked names (Region a findings) = bad_rows (region_rows asked (area_name a)) (is_bad_region asked.needs_hashes) (bad_region asked (area_name a)) findings
-bad_finding asked names (NotChecked a named) = bad_named named a
+bad_finding asked names (NotChecked a true) = refl
+bad_finding asked names (NotChecked a false) = refl
 bad_finding asked names (NoArea number) = refl
 
 pub bad_findings : (asked : Asked) (names : List (List ℕ)) (findings : List ImageFinding) → list_any is_bad_row (finding_rows asked names findings) ≡ list_any (is_bad asked.needs_hashes) findings

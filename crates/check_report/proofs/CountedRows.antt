@@ -21,16 +21,11 @@ alike : (k : SeenKind) (r t : SeenRow) → is_of k r ≡ true → is_of k t ≡ 
 alike k r t is = let same = parts (verdict_word k.verdict) (verdict_word r.verdict) k.code r.code is in
     ap₂ (λ v c. bytes_eq v (verdict_word t.verdict) && bytes_eq c t.code) same.0 same.1
 
-like_itself : (r : SeenRow) → is_of (kind_of r) r ≡ true
-like_itself r = grind (arith, bytes_eq-Decides (verdict_word r.verdict) (verdict_word r.verdict), bytes_eq-Decides r.code r.code)
+same_back : (a b : List ℕ) → bytes_eq a b ≡ bytes_eq b a
+same_back a b = grind (arith, bytes_eq-Decides a b, bytes_eq-Decides b a)
 
 like_back : (r s : SeenRow) → is_of (kind_of r) s ≡ is_of (kind_of s) r
-like_back r s = go (is_of (kind_of r) s) (is_of (kind_of s) r) refl refl
-  where
-    go : (b c : Bool) → is_of (kind_of r) s ≡ b → is_of (kind_of s) r ≡ c → b ≡ c
-    go true false f g = sym (like_itself r) ∙ alike (kind_of r) s r f ∙ g
-    go false true f g = sym f ∙ sym (alike (kind_of s) r s g) ∙ like_itself s
-    go _ _ f g = refl
+like_back r s = ap₂ (λ x y. x && y) (same_back (verdict_word r.verdict) _) (same_back r.code _)
 
 one_more : (ks : List SeenKind) (r row : SeenRow) → count_in (counted ks r) row ≡ count_in ks row + (if is_of (kind_of row) r then 1 else 0)
 one_more [] r row = ap (λ b. if b then 1 else 0) (like_back r row) ∙ omega arith

@@ -87,16 +87,11 @@ pub fn inspect_change<F: Flash, G: Flash>(
     ensures inspection { OnBoth F.facts G.facts images.old (λ x y. IfOk result (λ inspection.
         IsInspectedChange request.entry x y inspection)) }
 {
-    let old = match old_image(alloc, &mut images.old_image) {
-        Ok(old) => old,
-        Err(fault) => return Err(ChangeFault::of_old(fault)),
-    };
+    let old = old_image(alloc, &mut images.old_image).map_err(ChangeFault::of_old)?;
     let needed = need_areas(alloc, request.needs)?;
     let expected = with_areas(alloc, &needed, &old.regions)?;
-    let checked = match check_image(alloc, keys, &mut images.new_image, request.areas, &expected) {
-        Ok(checked) => checked,
-        Err(fault) => return Err(ChangeFault::of_new(fault)),
-    };
+    let checked = check_image(alloc, keys, &mut images.new_image, request.areas, &expected);
+    let checked = checked.map_err(ChangeFault::of_new)?;
     drop(expected);
     let old_areas = old.areas_or(&checked.areas);
     let comparison = compare(alloc, keys, images, old.map.found, old_areas, &checked)?;

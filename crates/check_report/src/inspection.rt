@@ -13,11 +13,10 @@ ghost use Rattle.check_report.specs.Rows.Writing.{Adds, Ends, Prints};
 
 use crate::changes::{add_area_changes, add_image_changes, add_map_changes, add_region_changes};
 use crate::fault::WriteFault;
-use crate::findings::add_findings;
+use crate::findings::{add_findings, add_needs};
 use crate::kept::add_missing;
 use crate::list::list_components;
 use crate::names::{kept_names, with_areas};
-use crate::needs::add_needs;
 use crate::request::Request;
 use crate::rows::{Printer, RowWriter};
 use check_changes::{AreaChange, MapChange, RegionChange};

@@ -7,7 +7,7 @@ use Rattle.json.specs.Token.{begin_object, end_object}
 use Rattle.check_report.specs.Rows.Fields.{Line, seen_field}
 use Rattle.check_report.specs.Rows.Reports.{member_tokens}
 use Rattle.check_report.proofs.ReportParts.{line_after}
-use Rattle.check_report.proofs.RowLemmas.Tokens.{object_tokens}
+use Rattle.check_report.proofs.Tokens.{object_tokens}
 use Rattle.check_report.proofs.rows.document.line_object.Goals as goal
 use Rattle.check_report.proofs.rows.document.line_object.Goals.{then-follows, else-follows}
 

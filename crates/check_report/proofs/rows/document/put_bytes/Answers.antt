@@ -1,7 +1,7 @@
 use Rattle.std.proofs.Common.{rules, append_assoc}
 use Rattle.std.proofs.lemmas.List.{take_all}
 use Rattle.std.proofs.lemmas.Result.{IfOk-equal}
-use Rattle.check_report.proofs.RowLemmas.Tokens.{bytes_tokens}
+use Rattle.check_report.proofs.Tokens.{bytes_tokens}
 use Rattle.check_report.proofs.rows.document.put_bytes.Goals as goal
 
 pub returns : goal.returns

@@ -1,5 +1,5 @@
 -- The tokens of fields and of a document, part by part.
-use Rattle.std.proofs.Common.{◌≡◌, ℕ, List, [], ◌∷◌, ◌++◌, Bool, true, false, Option, Some, None, map, refl, sym, ap, ◌∙◌, append_assoc}
+use Rattle.std.proofs.Common.{◌≡◌, ℕ, List, [], ◌∷◌, ◌++◌, Bool, true, false, Option, Some, None, map, refl, sym, ap, ◌∙◌, append_assoc, arith}
 use Rattle.std.specs.List.{flat_map}
 use Rattle.std.specs.Option.{option_map_or}
 use Rattle.std.specs.Fmt.{decimal}
@@ -57,8 +57,4 @@ name_tokens-utf8 name utf8 = let is : is_utf8 name ≡ true = is_utf8-from_IsUtf
 
 -- any other name is an array
 pub name_tokens-bytes : (name : List ℕ) → (IsUtf8 name → ⊥) → json_tokens (name_json name) ≡ json_tokens (bytes_json name)
-name_tokens-bytes name other = go (is_utf8 name) refl
-  where
-    go : (b : Bool) → is_utf8 name ≡ b → json_tokens (name_json name) ≡ json_tokens (bytes_json name)
-    go true is = absurd (other (IsUtf8-from_is_utf8 name is))
-    go false is = rw is refl
+name_tokens-bytes name other = let is : is_utf8 name ≡ false = grind (arith, other, IsUtf8-from_is_utf8 name) in rw is refl
