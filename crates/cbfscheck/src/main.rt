@@ -87,11 +87,11 @@ impl<'a> Refusal<'a> {
         Refusal::Image { path, fault }
     }
 
-    fn of_report(old: &'a str, new: &'a str, fault: ReportFault) -> Refusal<'a> {
+    fn of_report(line: &CheckLine<'a>, fault: ReportFault) -> Refusal<'a> {
         let path = match fault {
             ReportFault::Memory => return Refusal::Memory,
-            ReportFault::OldDevice => old,
-            ReportFault::NewDevice => new,
+            ReportFault::OldDevice => line.image,
+            ReportFault::NewDevice => line.new_image.unwrap_or(line.image),
         };
         let fault = ImageFault::Device;
         Refusal::Image { path, fault }
@@ -141,17 +141,17 @@ fn inspect<'a>(
 ) -> Result<Inspection, Refusal<'a>> {
     let keys = RandomState::new(rt).map_err(|_| Refusal::Random)?;
     let (old, alloc) = (line.image, rt.alloc());
-    let Some(new) = line.new_image else {
+    let inspection = if let Some(new) = line.new_image {
+        let mut images = Images {
+            old_image: open(rt, old)?,
+            new_image: open(rt, new)?,
+        };
+        inspect_change(alloc, keys, &mut images, request)
+    } else {
         let mut image = open(rt, old)?;
-        let inspection = inspect_image(alloc, keys, &mut image, request);
-        return inspection.map_err(|fault| Refusal::of_report(old, old, fault));
+        inspect_image(alloc, keys, &mut image, request)
     };
-    let mut images = Images {
-        old_image: open(rt, old)?,
-        new_image: open(rt, new)?,
-    };
-    let inspection = inspect_change(alloc, keys, &mut images, request);
-    inspection.map_err(|fault| Refusal::of_report(old, new, fault))
+    inspection.map_err(|fault| Refusal::of_report(line, fault))
 }
 
 /// Prints the report, and returns whether a finding is bad. It prints after closing the images,
