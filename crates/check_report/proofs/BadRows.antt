@@ -7,7 +7,6 @@ use Rattle.flash_format.specs.TypeNames.{name_of_type}
 use Rattle.std.proofs.lemmas.List.Concat.{flat_map-cons}
 use Rattle.std.proofs.lemmas.List.Folds.{list_any-append}
 use Rattle.check_findings.specs.declared.region.finding.Content.{Content}
-use Rattle.flash_map.specs.declared.areas.NumberedArea.{NumberedArea}
 use Rattle.check_report.specs.declared.request.Asked.{Asked}
 use Rattle.check_findings.specs.declared.region.finding.HashFinding.{HashFinding}
 use Rattle.check_findings.specs.declared.region.finding.HashFinding.TheVariants as hashes
@@ -20,7 +19,7 @@ use Rattle.check_findings.specs.declared.image.finding.ImageFinding.TheVariants.
 use Rattle.check_findings.specs.Image.Verdicts.{is_bad, is_bad_hash, is_bad_map, is_bad_region}
 use Rattle.check_changes.specs.Lists.{only_if}
 use Rattle.check_report.specs.Rows.Rows.{SeenRow, at_component}
-use Rattle.check_report.specs.FindingRows.{component_rows, finding_rows, has_hash_row, hash_row, map_row, not_checked_row, region_rows, rows_of}
+use Rattle.check_report.specs.FindingRows.{component_rows, finding_rows, has_hash_row, hash_row, map_row, region_rows, rows_of}
 use Rattle.check_report.specs.Rows.Rows.{area_name, is_bad_row}
 
 -- the same for all findings

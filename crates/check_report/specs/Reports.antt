@@ -1,9 +1,8 @@
 -- Rows of a report. This project defines their choice and order.
-use Rattle.std.specs.Prelude.{Bool, List, [], ◌++◌, map, is_none, if◌then◌else◌}
+use Rattle.std.specs.Prelude.{List, [], ◌++◌, map, is_none, if◌then◌else◌}
 use Rattle.std.specs.List.{flat_map}
 use Rattle.std.specs.Option.{option_map_or}
 use Rattle.flash_map.specs.declared.areas.NumberedArea.{NumberedArea}
-use Rattle.check_findings.specs.declared.image.needs.Need.{Need}
 use Rattle.check_findings.specs.Image.Needs.{wish_of}
 use Rattle.check_report.specs.Rows.Rows.{SeenRow, area_name}
 use Rattle.check_report.specs.FindingRows.{finding_rows, need_rows}
