@@ -31,17 +31,6 @@ enum ImageFault {
     TooLarge,
 }
 
-impl From<ErrorKind> for ImageFault {
-    fn from(kind: ErrorKind) -> ImageFault {
-        match kind {
-            ErrorKind::NotFound => ImageFault::NotFound,
-            ErrorKind::PermissionDenied => ImageFault::NoPermission,
-            ErrorKind::IsADirectory => ImageFault::IsDirectory,
-            _ => ImageFault::Device,
-        }
-    }
-}
-
 /// The reason for exit status 2; its text is the error message.
 #[derive(Clone, Copy, Debug, PartialEq, Eq, Error)]
 enum Refusal<'a> {
@@ -89,30 +78,29 @@ impl<'a> Refusal<'a> {
     fn of_opening(path: &'a str, fault: OpenFault) -> Refusal<'a> {
         let fault = match fault {
             OpenFault::Memory => return Refusal::Memory,
-            OpenFault::Failed(kind) => ImageFault::from(kind),
             OpenFault::TooLarge => ImageFault::TooLarge,
+            OpenFault::Failed(ErrorKind::NotFound) => ImageFault::NotFound,
+            OpenFault::Failed(ErrorKind::PermissionDenied) => ImageFault::NoPermission,
+            OpenFault::Failed(ErrorKind::IsADirectory) => ImageFault::IsDirectory,
+            OpenFault::Failed(_) => ImageFault::Device,
         };
         Refusal::Image { path, fault }
     }
 
-    fn of_report(old: &'a str, new: &'a str, fault: ReportFault) -> Refusal<'a> {
+    fn of_report(line: &CheckLine<'a>, fault: ReportFault) -> Refusal<'a> {
         let path = match fault {
             ReportFault::Memory => return Refusal::Memory,
-            ReportFault::OldDevice => old,
-            ReportFault::NewDevice => new,
+            ReportFault::OldDevice => line.image,
+            ReportFault::NewDevice => line.new_image.unwrap_or(line.image),
         };
-        Refusal::Image {
-            path,
-            fault: ImageFault::Device,
-        }
+        let fault = ImageFault::Device;
+        Refusal::Image { path, fault }
     }
 }
 
 fn open<'a>(rt: &HostRuntime, path: &'a str) -> Result<Paged<FileFlash>, Refusal<'a>> {
-    let image = FileFlash::open_to_read(rt, path).map_err(|fault| Refusal::of_opening(
-        path, fault,
-    ))?;
-    Ok(Paged::new(image))
+    let image = FileFlash::open_to_read(rt, path);
+    Ok(Paged::new(image.map_err(|fault| Refusal::of_opening(path, fault))?))
 }
 
 fn request_of<'l>(line: &'l CheckLine<'_>) -> Request<'l>
@@ -153,21 +141,17 @@ fn inspect<'a>(
 ) -> Result<Inspection, Refusal<'a>> {
     let keys = RandomState::new(rt).map_err(|_| Refusal::Random)?;
     let (old, alloc) = (line.image, rt.alloc());
-    let Some(new) = line.new_image else {
-        let mut image = open(rt, old)?;
-        return match inspect_image(alloc, keys, &mut image, request) {
-            Ok(inspection) => Ok(inspection),
-            Err(fault) => Err(Refusal::of_report(old, old, fault)),
+    let inspection = if let Some(new) = line.new_image {
+        let mut images = Images {
+            old_image: open(rt, old)?,
+            new_image: open(rt, new)?,
         };
+        inspect_change(alloc, keys, &mut images, request)
+    } else {
+        let mut image = open(rt, old)?;
+        inspect_image(alloc, keys, &mut image, request)
     };
-    let mut images = Images {
-        old_image: open(rt, old)?,
-        new_image: open(rt, new)?,
-    };
-    match inspect_change(alloc, keys, &mut images, request) {
-        Ok(inspection) => Ok(inspection),
-        Err(fault) => Err(Refusal::of_report(old, new, fault)),
-    }
+    inspection.map_err(|fault| Refusal::of_report(line, fault))
 }
 
 /// Prints the report, and returns whether a finding is bad. It prints after closing the images,

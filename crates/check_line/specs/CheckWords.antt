@@ -7,6 +7,7 @@ use Rattle.std.specs.Borrow.{Bor}
 use Rattle.std.specs.List.{list_any, slice_split, starts_with}
 use Rattle.std.specs.Option.{option_map_or, option_or}
 use Rattle.std.specs.Str.{bytes_eq}
+use Prim.Native.String.{String}
 use lib.Chars.{codes}
 use Rattle.clap.specs.Words.{App, IsAmong, Row, Rule, fault_of, first_of, found_of}
 use Rattle.clap.specs.Words.{matches_of, new_rule, rows_of}
@@ -16,7 +17,7 @@ use Rattle.clap.specs.declared.error.kind.ErrorKind.{ErrorKind}
 use Rattle.clap.specs.declared.error.kind.ErrorKind.TheVariants as reason
 use Rattle.clap.specs.declared.parser.matches.ArgMatches.{ArgMatches}
 use Rattle.check_findings.specs.Image.Needs.{wish_of}
-use Rattle.check_line.specs.Needs.{is_no_need, need_in}
+use Rattle.check_line.specs.Needs.{need_in}
 use Rattle.check_line.specs.declared.fault.LineFault.{LineFault}
 use Rattle.check_line.specs.declared.fault.LineFault.TheVariants.{Word, NoImage, NoNewImage, Memory}
 use Rattle.check_line.specs.declared.fault.WordFault.{WordFault}
@@ -76,34 +77,36 @@ bad_areas list = if list_any (λ name. length name == 0) (parts_of list)
 
 -- the first bad part
 abbrev pub bad_need : Option (List ℕ) → Option Complaint
-bad_need list = option_map (wrong mistake.BadNeed) (find is_no_need (parts_of list))
+bad_need list =
+    option_map (wrong mistake.BadNeed) (find (λ part. is_none (need_in part)) (parts_of list))
+
+-- the value of an option, or a path
+abbrev pub value : String → List Row → Option (List ℕ)
+value name rows = first_of (codes name) rows
 
 -- an option without a value
 abbrev pub is_set : Option (List ℕ) → Bool
 is_set text = option_map_or (λ text. bytes_eq text (codes "true")) text false
 
 abbrev pub complaint_in : List Row → Option Complaint
-complaint_in rows = if is_none (first_of (codes "image") rows) then Some no_image
-    else (if is_none (first_of (codes "new") rows) && (is_some (first_of (codes "keep") rows)
-    || is_set (first_of (codes "keep-preserved") rows)) then Some no_new_image
-    else option_or (bad_areas (first_of (codes "areas") rows))
-    (option_or (bad_areas (first_of (codes "keep") rows))
-    (bad_need (first_of (codes "need") rows))))
+complaint_in rows = if is_none (value "image" rows) then Some no_image
+    else (if is_none (value "new" rows)
+    && (is_some (value "keep" rows) || is_set (value "keep-preserved" rows)) then Some no_new_image
+    else option_or (bad_areas (value "areas" rows))
+    (option_or (bad_areas (value "keep" rows)) (bad_need (value "need" rows))))
 
 -- the images and options of clap's matches
 pub record IsLineOf (rows : List Row) (line : CheckLine) : Type 0 where
-  pub image : first_of (codes "image") rows ≡ Some line.image.now
-  pub new_image : first_of (codes "new") rows
-      ≡ option_map (λ (path : Bor (List ℕ)). path.now) line.new_image
-  pub areas : texts line.areas.items ≡ parts_of (first_of (codes "areas") rows)
-  pub is_verbose : line.is_verbose ≡ is_set (first_of (codes "verbose") rows)
-  pub is_json : line.is_json ≡ is_set (first_of (codes "json") rows)
-  pub lists : line.lists ≡ is_set (first_of (codes "list") rows)
-  pub kept : texts line.kept.items ≡ parts_of (first_of (codes "keep") rows)
-  pub keeps_preserved : line.keeps_preserved ≡ is_set (first_of (codes "keep-preserved") rows)
-  pub needs_hashes : line.needs_hashes ≡ is_set (first_of (codes "all-hashed") rows)
-  pub needs : map wish_of line.needs.items
-      ≡ filter_map need_in (parts_of (first_of (codes "need") rows))
+  pub image : value "image" rows ≡ Some line.image.now
+  pub new_image : value "new" rows ≡ option_map (λ (path : Bor (List ℕ)). path.now) line.new_image
+  pub areas : texts line.areas.items ≡ parts_of (value "areas" rows)
+  pub is_verbose : line.is_verbose ≡ is_set (value "verbose" rows)
+  pub is_json : line.is_json ≡ is_set (value "json" rows)
+  pub lists : line.lists ≡ is_set (value "list" rows)
+  pub kept : texts line.kept.items ≡ parts_of (value "keep" rows)
+  pub keeps_preserved : line.keeps_preserved ≡ is_set (value "keep-preserved" rows)
+  pub needs_hashes : line.needs_hashes ≡ is_set (value "all-hashed" rows)
+  pub needs : map wish_of line.needs.items ≡ filter_map need_in (parts_of (value "need" rows))
 
 -- a value with the property, or else the complaint; or an allocation fails
 abbrev pub Gives : {T : Type 0} → Option Complaint → (T → Type 0) → Result T LineFault → Type 0
@@ -155,13 +158,10 @@ abbrev pub is_request : Bor (List ℕ) → Bool
 is_request word = bytes_eq word.now (codes "-h") || bytes_eq word.now (codes "--help")
     || bytes_eq word.now (codes "--version")
 
-abbrev pub is_before_end : Bor (List ℕ) → Bool
-is_before_end word = not (bytes_eq word.now (codes "--"))
-
 -- the first argument for the help or the version, before `--`, which ends the options
 abbrev pub request_in : Words → Option (List ℕ)
 request_in words = option_map (λ (word : Bor (List ℕ)). word.now)
-    (find is_request (take_while is_before_end words))
+    (find is_request (take_while (λ word. not (bytes_eq word.now (codes "--"))) words))
 
 -- by clap's matches
 abbrev pub IsInvocation : List Row → Invocation → Type 0
@@ -178,9 +178,9 @@ IsRefusal words result = ⊥
 
 -- by clap's definitions
 abbrev pub IsRead : Words → Result Invocation LineFault → Type 0
-IsRead words result = (IsAccepted words
-    × Gives (complaint_in (matches_of check_words (texts words)))
-    (IsInvocation (matches_of check_words (texts words))) result) ⊎ IsRefusal words result
+IsRead words result = let rows = matches_of check_words (texts words) in
+    (IsAccepted words × Gives (complaint_in rows) (IsInvocation rows) result)
+    ⊎ IsRefusal words result
 
 -- for the arguments after the program's name
 abbrev pub Answers : Words → Result Invocation LineFault → Type 0

@@ -1,6 +1,6 @@
 -- The required component of `--need`: AREA:NAME, or AREA:NAME@OFFSET.
-use Rattle.std.specs.Prelude.{ℕ, Bool, ◌==◌, ◌||◌, List, [], ◌∷◌, length, Option, Some}
-use Rattle.std.specs.Prelude.{None, is_none, option_map, option_and_then, if◌then◌else◌}
+use Rattle.std.specs.Prelude.{ℕ, ◌==◌, ◌||◌, List, [], ◌∷◌, length, Option, Some}
+use Rattle.std.specs.Prelude.{None, option_map, option_and_then, if◌then◌else◌}
 use Rattle.std.specs.List.{after_first, before_first}
 use Rattle.std.specs.Option.{option_map_or, option_or}
 use Rattle.std.specs.Str.{bytes_eq}
@@ -35,6 +35,3 @@ wanted area named = if length named.0 == 0 || length area == 0 then None
 abbrev pub need_in : List ℕ → Option Wish
 need_in text = option_and_then (wanted (before_first (λ b. b == 58) text))
     (named_in (after_first (λ b. b == 58) text))
-
-abbrev pub is_no_need : List ℕ → Bool
-is_no_need text = is_none (need_in text)

@@ -70,10 +70,8 @@ fn names_given<'a>(alloc: Global, list: Option<&'a str>) -> Result<Vec<&'a [u8]>
     };
     let names = names_of(alloc, list)?;
     if has_empty(names.as_slice()) {
-        return Err(LineFault::Word {
-            fault: WordFault::BadAreas,
-            word: list,
-        });
+        let (fault, word) = (WordFault::BadAreas, list);
+        return Err(LineFault::Word { fault, word });
     }
     Ok(names)
 }
@@ -101,10 +99,8 @@ fn needs_given<'a>(alloc: Global, list: Option<&'a str>) -> Result<Vec<Need<'a>>
     while let Some(parts) = rest {
         let (word, others) = first_part(parts);
         let Some(need) = need_of(word) else {
-            return Err(LineFault::Word {
-                fault: WordFault::BadNeed,
-                word,
-            });
+            let fault = WordFault::BadNeed;
+            return Err(LineFault::Word { fault, word });
         };
         if needs.push(need).is_err() {
             return Err(LineFault::Memory);

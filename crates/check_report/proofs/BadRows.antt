@@ -7,7 +7,6 @@ use Rattle.flash_format.specs.TypeNames.{name_of_type}
 use Rattle.std.proofs.lemmas.List.Concat.{flat_map-cons}
 use Rattle.std.proofs.lemmas.List.Folds.{list_any-append}
 use Rattle.check_findings.specs.declared.region.finding.Content.{Content}
-use Rattle.flash_map.specs.declared.areas.NumberedArea.{NumberedArea}
 use Rattle.check_report.specs.declared.request.Asked.{Asked}
 use Rattle.check_findings.specs.declared.region.finding.HashFinding.{HashFinding}
 use Rattle.check_findings.specs.declared.region.finding.HashFinding.TheVariants as hashes
@@ -18,8 +17,9 @@ use Rattle.check_findings.specs.declared.map.finding.MapFinding.TheVariants as o
 use Rattle.check_findings.specs.declared.image.finding.ImageFinding.{ImageFinding}
 use Rattle.check_findings.specs.declared.image.finding.ImageFinding.TheVariants.{Map, Region, NotChecked, NoArea}
 use Rattle.check_findings.specs.Image.Verdicts.{is_bad, is_bad_hash, is_bad_map, is_bad_region}
-use Rattle.check_report.specs.Rows.Rows.{SeenRow, row_if}
-use Rattle.check_report.specs.FindingRows.{component_row_if, component_rows, finding_rows, has_hash_row, hash_row, map_row, not_checked_row, region_rows, rows_of}
+use Rattle.check_changes.specs.Lists.{only_if}
+use Rattle.check_report.specs.Rows.Rows.{SeenRow, at_component}
+use Rattle.check_report.specs.FindingRows.{component_rows, finding_rows, has_hash_row, hash_row, map_row, region_rows, rows_of}
 use Rattle.check_report.specs.Rows.Rows.{area_name, is_bad_row}
 
 -- the same for all findings
@@ -33,14 +33,14 @@ bad_map _ = refl
 
 bad_hash : (asked : Asked) (region : List ℕ) (at : ℕ) (name : List ℕ) (hash : HashFinding) (verbose needs : Bool)
     → let a : Asked = record asked { is_verbose = verbose; needs_hashes = needs } in
-    list_any is_bad_row (component_row_if region at name (has_hash_row a hash) (hash_row a hash)) ≡ is_bad_hash needs hash
+    list_any is_bad_row (only_if (has_hash_row a hash) (at_component region at name (hash_row a hash))) ≡ is_bad_hash needs hash
 bad_hash asked region at name hashes.Missing true true = refl
 bad_hash asked region at name hashes.Missing false true = refl
 bad_hash asked region at name hashes.Unsupported verbose true = refl
 bad_hash asked region at name _ _ _ = refl
 
 -- a remark or none before other rows
-no_bad : (b : Bool) (row : SeenRow) (rest : List SeenRow) → is_bad_row row ≡ false → list_any is_bad_row (row_if b row ++ rest) ≡ list_any is_bad_row rest
+no_bad : (b : Bool) (row : SeenRow) (rest : List SeenRow) → is_bad_row row ≡ false → list_any is_bad_row (only_if b row ++ rest) ≡ list_any is_bad_row rest
 no_bad true row rest is = rw is refl
 no_bad false row rest is = refl
 
@@ -56,14 +56,11 @@ bad_region : (asked : Asked) (region : List ℕ) (f : RegionFinding) → list_an
 bad_region asked region (of_region.Component at name shadowed content) = bad_component asked region at name shadowed content
 bad_region asked region _ = refl
 
-bad_named : (named : Bool) (a : NumberedArea) → list_any is_bad_row (not_checked_row a named ∷ []) ≡ named
-bad_named true a = refl
-bad_named false a = refl
-
 bad_finding : (asked : Asked) (names : List (List ℕ)) (f : ImageFinding) → list_any is_bad_row (rows_of asked names f) ≡ is_bad asked.needs_hashes f
 bad_finding asked names (Map f) = bad_map f
 bad_finding asked names (Region a findings) = bad_rows (region_rows asked (area_name a)) (is_bad_region asked.needs_hashes) (bad_region asked (area_name a)) findings
-bad_finding asked names (NotChecked a named) = bad_named named a
+bad_finding asked names (NotChecked a true) = refl
+bad_finding asked names (NotChecked a false) = refl
 bad_finding asked names (NoArea number) = refl
 
 pub bad_findings : (asked : Asked) (names : List (List ℕ)) (findings : List ImageFinding) → list_any is_bad_row (finding_rows asked names findings) ≡ list_any (is_bad asked.needs_hashes) findings

@@ -8,7 +8,8 @@ use Rattle.check_report.specs.declared.rows.kinds.Kind.{Kind}
 use Rattle.check_report.specs.declared.rows.kinds.Counts.{Counts}
 use Rattle.check_report.specs.declared.rows.row.Verdict.{Verdict}
 use Rattle.check_report.specs.declared.rows.row.Verdict.TheVariants.{Bad}
-use Rattle.check_report.specs.Rows.Rows.{SeenRow, is_bad_row, is_verdict, row_if, tallied}
+use Rattle.check_report.specs.Rows.Rows.{SeenRow, is_bad_row, is_verdict, tallied}
+use Rattle.check_changes.specs.Lists.{only_if}
 use Rattle.check_report.specs.Rows.Limits.{SeenKind, count_in, counted, is_of, seen_kind, shown_after}
 
 -- the first i kinds aren't the row's
@@ -43,10 +44,10 @@ found_kinds row ks i k n lt here is p more =
 shown_append : (all : Bool) (ks : List SeenKind) (xs ys : List SeenRow) → shown_after all ks (xs ++ ys) ≡ shown_after all ks xs ++ shown_after all (fold counted ks xs) ys
 shown_append all ks [] ys = refl
 shown_append all ks (x ∷ xs) ys =
-    ap (λ l. row_if (all || nat_lt (count_in ks x) 16) x ++ l) (shown_append all (counted ks x) xs ys) ∙ sym (append_assoc (row_if (all || nat_lt (count_in ks x) 16) x) _ _)
+    ap (λ l. only_if (all || nat_lt (count_in ks x) 16) x ++ l) (shown_append all (counted ks x) xs ys) ∙ sym (append_assoc (only_if (all || nat_lt (count_in ks x) 16) x) _ _)
 
 pub shown_push : (all : Bool) (rows : List SeenRow) (row : SeenRow)
-    → shown_after all [] (rows ++ row ∷ []) ≡ shown_after all [] rows ++ row_if (all || nat_lt (count_in (fold counted [] rows) row) 16) row
+    → shown_after all [] (rows ++ row ∷ []) ≡ shown_after all [] rows ++ only_if (all || nat_lt (count_in (fold counted [] rows) row) 16) row
 shown_push all rows row = shown_append all [] rows (row ∷ []) ∙ ap (λ l. shown_after all [] rows ++ l) (append-nil _)
 
 pub shown_all : (ks : List SeenKind) (rows : List SeenRow) → shown_after true ks rows ≡ rows

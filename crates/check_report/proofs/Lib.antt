@@ -1,10 +1,8 @@
-pub mod RowLemmas
-mod TellingChanges
+mod Tokens
 mod Counting
 mod ReportParts
 mod SoundRows
 mod Printed
-mod Texts
 pub mod BadRows
 mod ShownRows
 mod CountedRows

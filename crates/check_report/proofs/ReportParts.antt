@@ -19,7 +19,7 @@ use Rattle.check_report.specs.declared.rows.form.Form.{Form}
 use Rattle.check_report.specs.declared.rows.form.Form.TheVariants as forms
 use Rattle.check_report.specs.Rows.Fields.{Line, SeenField, line_json, line_text, members}
 use Rattle.check_report.specs.Rows.Reports.{begin_tokens, count_fields, document, ending, file_fields, follows_after, heading, lines_field, member_tokens, parts, report_with}
-use Rattle.check_report.proofs.RowLemmas.Tokens.{fields_tokens, object_tokens}
+use Rattle.check_report.proofs.Tokens.{fields_tokens, object_tokens}
 
 -- a value just ended after these tokens
 abbrev pub ended : Bool → List Token → Bool

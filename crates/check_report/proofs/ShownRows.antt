@@ -5,7 +5,8 @@ use Rattle.std.specs.List.{list_any}
 use Rattle.std.specs.Str.{bytes_eq}
 use Rattle.std.proofs.lemmas.Slice.Eq.{bytes_eq-Decides}
 use Rattle.check_report.specs.declared.rows.row.Verdict.TheVariants.{Bad}
-use Rattle.check_report.specs.Rows.Rows.{SeenRow, is_bad_row, is_verdict, row_if, verdict_word}
+use Rattle.check_report.specs.Rows.Rows.{SeenRow, is_bad_row, is_verdict, verdict_word}
+use Rattle.check_changes.specs.Lists.{only_if}
 use Rattle.check_report.specs.Rows.Limits.{SeenKind, count_in, counted, is_of, shown_after, shown_rows}
 
 abbrev is_bad_kind : SeenKind → Bool
@@ -35,16 +36,6 @@ bad_before (kind ∷ kinds) row some bad = go (is_of kind row) refl (bad_before 
     go true is later = grind (arith, same kind row is, bad)
     go false is later = let less : 0 < count_in kinds row = rw is at some in grind (arith, later less bad)
 
--- the row is shown, or hidden
-shown : (k b s o : Bool) → ((k || b) || s) ≡ ((k || b) || o) → (k || (b || s)) ≡ (k || (b || o))
-shown false false s o is = is
-shown _ _ s o is = refl
-
-hidden : (k b s o : Bool) → (b ≡ true → k ≡ true) → ((k || b) || s) ≡ ((k || b) || o) → (k || s) ≡ (k || (b || o))
-hidden true b s o before is = refl
-hidden false true s o before is = absurd (cc (before refl))
-hidden false false s o before is = is
-
 bad_after : (kinds : List SeenKind) (rows : List SeenRow)
     → (list_any is_bad_kind kinds || list_any is_bad_row (shown_after false kinds rows)) ≡ (list_any is_bad_kind kinds || list_any is_bad_row rows)
 bad_after kinds [] = refl
@@ -55,9 +46,9 @@ bad_after kinds (row ∷ rows) = go (nat_lt (count_in kinds row) 16) refl (rw (b
 
     go : (b : Bool) → nat_lt (count_in kinds row) 16 ≡ b
         → ((list_any is_bad_kind kinds || is_bad_row row) || list_any is_bad_row later) ≡ ((list_any is_bad_kind kinds || is_bad_row row) || list_any is_bad_row rows)
-        → (list_any is_bad_kind kinds || list_any is_bad_row (row_if b row ++ later)) ≡ (list_any is_bad_kind kinds || (is_bad_row row || list_any is_bad_row rows))
-    go true is all = shown (list_any is_bad_kind kinds) (is_bad_row row) (list_any is_bad_row later) (list_any is_bad_row rows) all
-    go false is all = hidden (list_any is_bad_kind kinds) (is_bad_row row) (list_any is_bad_row later) (list_any is_bad_row rows) (bad_before kinds row (grind (arith, is))) all
+        → (list_any is_bad_kind kinds || list_any is_bad_row (only_if b row ++ later)) ≡ (list_any is_bad_kind kinds || (is_bad_row row || list_any is_bad_row rows))
+    go true is all = grind (arith, all)
+    go false is all = grind (arith, all, bad_before kinds row (grind (arith, is)))
 
 pub bad_shown : (rows : List SeenRow) → list_any is_bad_row (shown_rows rows) ≡ list_any is_bad_row rows
 bad_shown rows = bad_after [] rows

@@ -13,7 +13,8 @@ use Rattle.check_report.specs.declared.rows.kinds.Counts.{Counts}
 use Rattle.check_report.specs.declared.rows.printer.Printer.{Printer}
 use Rattle.check_report.specs.declared.rows.writer.RowWriter.{RowWriter}
 use Rattle.check_report.specs.Rows.Fields.{Line}
-use Rattle.check_report.specs.Rows.Rows.{SeenRow, counts_of, is_bad_row, row_if, row_line, tallied}
+use Rattle.check_report.specs.Rows.Rows.{SeenRow, counts_of, is_bad_row, row_line, tallied}
+use Rattle.check_changes.specs.Lists.{only_if}
 use Rattle.check_report.specs.Rows.Limits.{count_in, counted, kinds_of, limited_rows, more_of, seen_kind, shown_after, shown_rows}
 use Rattle.check_report.specs.Rows.Reports.{ending, follows_after, heading, parts, report, rows_text}
 use Rattle.check_report.specs.Rows.Writing.{Adds, Ends, HasPrinted, IsSound, PrintsLines, shown_lines}
@@ -33,12 +34,12 @@ sound_empty contents w kinds counts follows = record {
 -- another row
 pub adds_row : {W : Type 0} (contents : W → Option (List ℕ)) (faults : W → ℕ) (result : Result (Unit {0}) WriteFault) (old new : RowWriter W) (row : SeenRow)
     → new.is_verbose ≡ old.is_verbose → map seen_kind new.kinds.items ≡ counted (map seen_kind old.kinds.items) row → new.counts ≡ tallied old.counts row.verdict
-    → PrintsLines contents faults result old.printer new.printer (map row_line (row_if (old.is_verbose || nat_lt (count_in (map seen_kind old.kinds.items) row) 16) row))
+    → PrintsLines contents faults result old.printer new.printer (map row_line (only_if (old.is_verbose || nat_lt (count_in (map seen_kind old.kinds.items) row) 16) row))
     → Adds contents faults result old new (row ∷ [])
 adds_row contents faults (Err e) old new row verbose kinds counts p = record { added = tt; cause = p.cause }
 adds_row contents faults (Ok u) old new row verbose kinds counts p = record {
   added = λ start v rows (s : IsSound contents start v rows old).
-      let shown : List SeenRow = row_if (v || nat_lt (count_in (kinds_of rows) row) 16) row in
+      let shown : List SeenRow = only_if (v || nat_lt (count_in (kinds_of rows) row) 16) row in
       let lines : shown_lines v (rows ++ row ∷ []) ≡ shown_lines v rows ++ map row_line shown = ap (map row_line) (shown_push v rows row) ∙ map-append row_line (shown_after v [] rows) shown in
       record {
         is_verbose = verbose ∙ s.is_verbose;

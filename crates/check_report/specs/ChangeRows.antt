@@ -1,5 +1,5 @@
 -- Rows of changes. This project defines their codes and texts.
-use Rattle.std.specs.Prelude.{ℕ, Bool, true, not, ◌&&◌, ◌||◌, ◌%◌, nat_le, List, [], ◌∷◌, ◌++◌}
+use Rattle.std.specs.Prelude.{ℕ, Bool, true, not, ◌&&◌, ◌%◌, nat_le, List, [], ◌∷◌, ◌++◌}
 use Rattle.std.specs.Prelude.{filter, map, nat_lt}
 use Rattle.std.specs.Prelude.{◌==◌, if◌then◌else◌}
 use Rattle.std.specs.List.{list_any}
@@ -20,13 +20,14 @@ use Rattle.check_changes.specs.declared.components.change.Difference.TheVariants
 use Rattle.check_changes.specs.declared.components.change.ComponentChange.{ComponentChange}
 use Rattle.check_changes.specs.declared.components.change.ComponentChange.TheVariants as components
 use Rattle.check_findings.specs.Image.ImageFindings.{has_one_of}
+use Rattle.check_changes.specs.Lists.{only_if}
 use Rattle.check_report.specs.declared.rows.row.Verdict.{Verdict}
 use Rattle.check_report.specs.declared.rows.row.Verdict.TheVariants as verdicts
 use Rattle.check_report.specs.FindingRows.{missing_row}
 use Rattle.check_report.specs.Names.{Names}
 use Rattle.check_report.specs.Rows.Fields.{name_value}
-use Rattle.check_report.specs.Rows.Rows.{SeenRow, area_name, of_area, of_component, row}
-use Rattle.check_report.specs.Rows.Rows.{row_at, row_if, with_count, with_number}
+use Rattle.check_report.specs.Rows.Rows.{SeenRow, area_name, at_component, of_area, row}
+use Rattle.check_report.specs.Rows.Rows.{with_count, with_number}
 
 -- a difference is bad in a kept area
 abbrev pub change_verdict : Names → NumberedArea → Verdict
@@ -68,7 +69,7 @@ has_change_row kept _ = true
 
 abbrev pub area_change_rows : Names → Names → AreaChange → List SeenRow
 area_change_rows kept vital change =
-    row_if (has_change_row kept change) (area_change_row kept vital change)
+    only_if (has_change_row kept change) (area_change_row kept vital change)
 
 -- ---- components of an area of the new image
 
@@ -80,18 +81,13 @@ difference_row v Attributes = row v "component-attributes-changed" "attributes c
 
 abbrev pub component_change_row : Verdict → List ℕ → ComponentChange → SeenRow
 component_change_row v area (components.Added at name) =
-    row_at at (of_component area name (row v "component-added" "component added"))
+    at_component area at name (row v "component-added" "component added")
 component_change_row v area (components.Removed at name) =
-    row_at at (of_component area name (row v "component-removed" "component removed"))
+    at_component area at name (row v "component-removed" "component removed")
 component_change_row v area (components.Changed old new name what) =
-    row_at new (of_component area name (difference_row v what))
+    at_component area new name (difference_row v what)
 component_change_row v area (components.Moved old new name) =
-    row_at new (of_component area name
-    (with_number old (row v "component-moved" "component moved from")))
-
-abbrev pub component_change_rows : Names → NumberedArea → List ComponentChange → List SeenRow
-component_change_rows kept a changes =
-    map (component_change_row (change_verdict kept a) (area_name a)) changes
+    at_component area new name (with_number old (row v "component-moved" "component moved from"))
 
 -- the row of an area without a comparison of components
 abbrev pub not_compared_row : Names → NumberedArea → SeenRow
@@ -99,7 +95,8 @@ not_compared_row kept a =
     changed kept a (change_row "components-not-compared" "components not compared")
 
 abbrev pub region_change_rows : Names → RegionChange → List SeenRow
-region_change_rows kept (Compared a changes) = component_change_rows kept a changes
+region_change_rows kept (Compared a changes) =
+    map (component_change_row (change_verdict kept a) (area_name a)) changes
 region_change_rows kept (NotCompared a) = not_compared_row kept a ∷ []
 
 -- ---- whole images
@@ -107,9 +104,9 @@ region_change_rows kept (NotCompared a) = not_compared_row kept a ∷ []
 -- rows of the lengths, and of the number of different blocks
 abbrev pub image_rows : ℕ → ℕ → ℕ → List SeenRow
 image_rows old new blocks =
-    row_if (not (old == new))
+    only_if (not (old == new))
     (with_number old (change_row "image-size" "image size changed from"))
-    ++ row_if (nat_lt 0 blocks) (with_count blocks (change_row "blocks" "erase blocks differ"))
+    ++ only_if (nat_lt 0 blocks) (with_count blocks (change_row "blocks" "erase blocks differ"))
 
 -- ---- the flash map
 
@@ -126,18 +123,11 @@ map_change_row maps.NameChanged = change_row "map-name" "name of the flashmap ch
 abbrev pub is_preserved : NumberedArea → Bool
 is_preserved a = nat_le 8 (a.area.flags % 16)
 
--- the given names and, on request, names of areas with the flag in either map
-abbrev pub kept_by : Names → Bool → List NumberedArea → List NumberedArea → Names
-kept_by kept keeps olds news =
-    kept ++ map area_name (filter (λ a. keeps && is_preserved a) (olds ++ news))
-
--- an area has the name
-abbrev pub is_there : List NumberedArea → List ℕ → Bool
-is_there all name = list_any (has_name name) all
-
-abbrev pub is_missing : List NumberedArea → List NumberedArea → List ℕ → Bool
-is_missing olds news name = not (is_there olds name || is_there news name)
+-- the given names and, on request, names of these areas with the flag
+abbrev pub kept_by : Names → Bool → List NumberedArea → Names
+kept_by kept keeps all = kept ++ map area_name (filter (λ a. keeps && is_preserved a) all)
 
 -- the row of a kept name without an area
-abbrev pub missing_if : List NumberedArea → List NumberedArea → List ℕ → List SeenRow
-missing_if olds news name = row_if (is_missing olds news name) (missing_row (name_value name))
+abbrev pub missing_if : List NumberedArea → List ℕ → List SeenRow
+missing_if all name =
+    only_if (not (list_any (has_name name) all)) (missing_row (name_value name))

@@ -1,6 +1,5 @@
 -- The result of a check, on honest devices.
-use Rattle.std.specs.Prelude.{◌≡◌, ℕ, List, None, IsSomeAnd, ◌++◌, length, map, is_none}
-use Rattle.std.specs.Prelude.{if◌then◌else◌}
+use Rattle.std.specs.Prelude.{◌≡◌, ℕ, List, None, IsSomeAnd, ◌++◌, length, map}
 use Rattle.flash_map.specs.Fmap.{found_in}
 use Rattle.flash_map.specs.declared.areas.NumberedArea.{NumberedArea}
 use Rattle.check_findings.specs.declared.image.finding.ImageFinding.{ImageFinding}
@@ -15,11 +14,14 @@ use Rattle.check_report.specs.declared.inspection.Comparison.{Comparison}
 use Rattle.check_report.specs.declared.inspection.Inspection.{Inspection}
 use Rattle.check_report.specs.declared.inspection.OldImage.{OldImage}
 use Rattle.check_report.specs.Rows.Rows.{area_name}
-use Rattle.check_report.specs.Reports.{Wish, need_areas}
+use Rattle.check_report.specs.declared.request.Request.{Request}
+use Rattle.check_report.specs.Names.{names_in}
+use Rattle.check_report.specs.Reports.{need_areas, old_areas}
 
 -- the check of one image
-pub record IsInspected (wish : Wish) (image : List ℕ) (i : Inspection) : Type 0 where
-  pub findings : i.findings.items ≡ image_findings image wish.areas (need_areas wish)
+pub record IsInspected (request : Request) (image : List ℕ) (i : Inspection) : Type 0 where
+  pub findings : i.findings.items
+      ≡ image_findings image (names_in request.areas.now) (need_areas request)
   pub changes : i.changes ≡ None
 
 -- ---- an image y after an image x
@@ -39,22 +41,18 @@ pub record IsOldImage (x : List ℕ) (old : OldImage) : Type 0 where
   pub areas : old.map.areas.items ≡ image_areas x
   pub regions : old.regions.items ≡ cbfs_areas x (image_areas x)
 
--- the areas of x, or of y if x has no map
-abbrev pub compared_areas : List ℕ → List ℕ → List NumberedArea
-compared_areas x y = if is_none (found_in x) then image_areas y else image_areas x
-
 -- the findings of y; the regions of x are expected in y
-abbrev pub new_findings : Wish → List ℕ → List ℕ → List ImageFinding
-new_findings wish x y =
-    image_findings y wish.areas (need_areas wish ++ map area_name (cbfs_areas x (image_areas x)))
+abbrev pub new_findings : Request → List ℕ → List ℕ → List ImageFinding
+new_findings request x y = image_findings y (names_in request.areas.now)
+    (need_areas request ++ map area_name (cbfs_areas x (image_areas x)))
 
-pub record AreChanges (wish : Wish) (x y : List ℕ) (c : Changes) : Type 0 where
-  pub comparison : IsComparison x y (compared_areas x y) (image_areas y) (new_findings wish x y)
-      c.comparison
+pub record AreChanges (request : Request) (x y : List ℕ) (c : Changes) : Type 0 where
   pub old : IsOldImage x c.old
+  pub comparison : IsComparison x y (old_areas c.old (image_areas y)) (image_areas y)
+      (new_findings request x y) c.comparison
   pub new_areas : c.new_areas.items ≡ image_areas y
 
 -- the check of y after x
-pub record IsInspectedChange (wish : Wish) (x y : List ℕ) (i : Inspection) : Type 0 where
-  pub findings : i.findings.items ≡ new_findings wish x y
-  pub changes : IsSomeAnd i.changes (AreChanges wish x y)
+pub record IsInspectedChange (request : Request) (x y : List ℕ) (i : Inspection) : Type 0 where
+  pub findings : i.findings.items ≡ new_findings request x y
+  pub changes : IsSomeAnd i.changes (AreChanges request x y)

@@ -1,13 +1,12 @@
 -- Laws about rows.
-use Rattle.std.specs.Prelude.{◌≡◌, ◌&&◌, ℕ, Bool, List, count_by}
+use Rattle.std.specs.Prelude.{◌≡◌, ℕ, List, count_by}
 use Rattle.std.specs.List.{list_any}
-use Rattle.std.specs.Str.{bytes_eq}
 use Rattle.check_findings.specs.declared.image.finding.ImageFinding.{ImageFinding}
 use Rattle.check_findings.specs.Image.Verdicts.{is_bad}
 use Rattle.check_report.specs.declared.request.Asked.{Asked}
 use Rattle.check_report.specs.declared.rows.row.Verdict.TheVariants.{Remark, Change}
 use Rattle.check_report.specs.Rows.Rows.{SeenRow, counts_of, is_bad_row, is_verdict}
-use Rattle.check_report.specs.Rows.Limits.{count_in, kinds_of, shown_rows}
+use Rattle.check_report.specs.Rows.Limits.{count_in, is_of, kind_of, kinds_of, shown_rows}
 use Rattle.check_report.specs.FindingRows.{finding_rows}
 
 -- a row is bad exactly if a finding is bad
@@ -22,16 +21,12 @@ abbrev pub LimitsLoseNoBadRow : Type 0
 LimitsLoseNoBadRow =
     (rows : List SeenRow) → list_any is_bad_row (shown_rows rows) ≡ list_any is_bad_row rows
 
--- of the same kind
-abbrev pub is_like : SeenRow → SeenRow → Bool
-is_like row other = is_verdict row.verdict other.verdict && bytes_eq row.code other.code
-
 -- the counts are numbers of rows, by verdict and by kind
 pub record AreCounted (rows : List SeenRow) : Type 0 where
   pub bad : (counts_of rows).bad ≡ count_by is_bad_row rows
   pub remarks : (counts_of rows).remarks ≡ count_by (λ row. is_verdict Remark row.verdict) rows
   pub changes : (counts_of rows).changes ≡ count_by (λ row. is_verdict Change row.verdict) rows
-  pub kinds : (row : SeenRow) → count_in (kinds_of rows) row ≡ count_by (is_like row) rows
+  pub kinds : (row : SeenRow) → count_in (kinds_of rows) row ≡ count_by (is_of (kind_of row)) rows
 
 abbrev pub RowsAreCounted : Type 0
 RowsAreCounted = (rows : List SeenRow) → AreCounted rows

@@ -1,5 +1,5 @@
 -- The components of the checked areas.
-use Rattle.std.specs.Prelude.{ℕ, Bool, List, [], ◌∷◌, Option, Some, None, if◌then◌else◌}
+use Rattle.std.specs.Prelude.{ℕ, List, [], ◌∷◌}
 use Rattle.std.specs.List.{flat_map}
 use lib.Chars.{codes}
 use Rattle.check_findings.specs.declared.region.finding.Content.{Content}
@@ -36,6 +36,3 @@ components_in _ = []
 -- the components of the checked areas, in order
 abbrev pub listed : List ImageFinding → List Line
 listed findings = flat_map components_in findings
-
-abbrev pub list_if : Bool → List ImageFinding → Option (List Line)
-list_if is_requested findings = if is_requested then Some (listed findings) else None

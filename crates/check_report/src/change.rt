@@ -8,7 +8,6 @@ ghost use Rattle.flash_map.specs.Faults.{by_device};
 ghost use Rattle.check_findings.specs.Image.RegionAreas.{region_areas, sum_sizes};
 ghost use Rattle.check_changes.specs.Images.{HasReadFor, OnBoth, lengths};
 ghost use Rattle.check_report.specs.Changes.{IsComparison, IsInspectedChange, IsOldImage};
-ghost use Rattle.check_report.specs.Reports.{wish_of};
 
 use crate::inspection::{Changes, Comparison, Inspection, OldImage};
 use crate::names::{need_areas, with_areas};
@@ -86,18 +85,13 @@ pub fn inspect_change<F: Flash, G: Flash>(
 
     // On honest devices.
     ensures inspection { OnBoth F.facts G.facts images.old (λ x y. IfOk result (λ inspection.
-        IsInspectedChange (wish_of request.entry) x y inspection)) }
+        IsInspectedChange request.entry x y inspection)) }
 {
-    let old = match old_image(alloc, &mut images.old_image) {
-        Ok(old) => old,
-        Err(fault) => return Err(ChangeFault::of_old(fault)),
-    };
+    let old = old_image(alloc, &mut images.old_image).map_err(ChangeFault::of_old)?;
     let needed = need_areas(alloc, request.needs)?;
     let expected = with_areas(alloc, &needed, &old.regions)?;
-    let checked = match check_image(alloc, keys, &mut images.new_image, request.areas, &expected) {
-        Ok(checked) => checked,
-        Err(fault) => return Err(ChangeFault::of_new(fault)),
-    };
+    let checked = check_image(alloc, keys, &mut images.new_image, request.areas, &expected);
+    let checked = checked.map_err(ChangeFault::of_new)?;
     drop(expected);
     let old_areas = old.areas_or(&checked.areas);
     let comparison = compare(alloc, keys, images, old.map.found, old_areas, &checked)?;

@@ -1,16 +1,16 @@
 //! The rows of changes.
-ghost use Rattle.std.specs.Prelude.{map};
+ghost use Rattle.std.specs.Prelude.{◌≡◌, map};
 ghost use Rattle.std.specs.List.{flat_map};
 ghost use Rattle.check_report.specs.Names.{names_in};
+ghost use Rattle.check_report.specs.Rows.Rows.{area_name, seen_row};
 ghost use Rattle.check_report.specs.Rows.Writing.{Adds};
 ghost use Rattle.check_report.specs.ChangeRows as of;
 
 use crate::areas::{area_change_row, has_change_row, map_change_row, not_compared_row};
-use crate::components::component_change_row;
 use crate::fault::WriteFault;
 use crate::kept::change_verdict;
-use crate::rows::{RowWriter, Verdict};
-use check_changes::{AreaChange, ComponentChange, MapChange, RegionChange};
+use crate::rows::{Row, RowWriter, Verdict};
+use check_changes::{AreaChange, ComponentChange, Difference, MapChange, RegionChange};
 use flash_device::Sink;
 use flash_map::NumberedArea;
 
@@ -60,6 +60,42 @@ pub fn add_area_changes<W: Sink + Drop>(
     Ok(())
 }
 
+fn difference_row<'a>(v: Verdict, what: Difference) -> Row<'a>
+    ensures { seen_row result ≡ of.difference_row v what }
+{
+    match what {
+        Difference::Type => v.row("component-type-changed", "type changed"),
+        Difference::Length => v.row("component-length-changed", "length changed"),
+        Difference::Content => v.row("component-content-changed", "content changed"),
+        Difference::Attributes => v.row("component-attributes-changed", "attributes changed"),
+    }
+}
+
+/// Returns the row of a change in this area.
+fn component_change_row<'a>(v: Verdict, area: &'a [u8], change: &'a ComponentChange) -> Row<'a>
+    ensures { seen_row result ≡ of.component_change_row v area.now change.now }
+{
+    let (row, name, at) = match change {
+        ComponentChange::Added { at, name } => {
+            (v.row("component-added", "component added"), name, at)
+        }
+        ComponentChange::Removed { at, name } => {
+            (v.row("component-removed", "component removed"), name, at)
+        }
+        ComponentChange::Changed {
+            new,
+            name,
+            what,
+            ..
+        } => (difference_row(v, *what), name, new),
+        ComponentChange::Moved { old, new, name } => {
+            let moved = v.row("component-moved", "component moved from");
+            (moved.number(*old), name, new)
+        }
+    };
+    row.at_component(area, *at, name.as_slice())
+}
+
 /// Adds the rows of changed components, all bad in a kept area.
 fn add_component_changes<W: Sink + Drop>(
     rows: &mut RowWriter<W>,
@@ -67,8 +103,9 @@ fn add_component_changes<W: Sink + Drop>(
     area: &NumberedArea,
     changes: &[ComponentChange],
 ) -> Result<(), WriteFault>
-    ensures { Adds W.contents W.faults result rows.old rows.new (of.component_change_rows
-        (names_in kept.now) area.now changes.now) }
+    ensures { Adds W.contents W.faults result rows.old rows.new
+        (map (of.component_change_row (of.change_verdict (names_in kept.now) area.now)
+        (area_name area.now)) changes.now) }
 {
     let verdict = change_verdict(kept, *area);
     for change in changes {

@@ -1,17 +1,19 @@
-//! Rows of an image's findings.
-ghost use Rattle.std.specs.Prelude.{◌≡◌};
+//! Rows of an image's findings, and of unmet needs.
+ghost use Rattle.std.specs.Prelude.{◌≡◌, map, slice_get};
+ghost use Rattle.std.specs.List.{flat_map};
+ghost use Rattle.check_findings.specs.Image.Needs.{wish_of};
+ghost use Rattle.std.specs.Option.{option_map_or};
 ghost use Rattle.check_report.specs.Names.{names_in};
-ghost use Rattle.check_report.specs.Rows.Fields.{seen_value};
-ghost use Rattle.check_report.specs.Rows.Rows.{seen_row};
+ghost use Rattle.check_report.specs.Rows.Fields.{dash, name_value, seen_value};
+ghost use Rattle.check_report.specs.Rows.Rows.{of_component, seen_row};
 ghost use Rattle.check_report.specs.Rows.Writing.{Adds};
 ghost use Rattle.check_report.specs.FindingRows as of;
 
 use crate::fault::WriteFault;
-use crate::map::map_row;
 use crate::region::add_region;
 use crate::request::Asked;
 use crate::rows::{Row, RowWriter, Value, Verdict};
-use check_findings::ImageFinding;
+use check_findings::{ImageFinding, MapFinding, Need, NeedFinding, unmet};
 use flash_device::Sink;
 use flash_map::NumberedArea;
 
@@ -25,12 +27,11 @@ pub fn missing_row(area: Value<'_>) -> Row<'_>
 }
 
 fn name_at<'a>(names: &[&'a [u8]], number: usize) -> Value<'a>
-    ensures { seen_value result ≡ of.name_at (names_in names.now) number }
+    ensures { seen_value result
+        ≡ option_map_or name_value (slice_get (names_in names.now) number) dash }
 {
-    match names.get(number) {
-        Some(name) => Value::Name(name),
-        None => Value::Dash,
-    }
+    let name = names.get(number).copied();
+    name.map_or(Value::Dash, Value::Name)
 }
 
 fn not_checked_row<'a>(area: &'a NumberedArea, is_named: bool) -> Row<'a>
@@ -39,6 +40,39 @@ fn not_checked_row<'a>(area: &'a NumberedArea, is_named: bool) -> Row<'a>
     let what = "isn't checked: checked areas would exceed twice the image";
     let row = Verdict::of_finding(is_named).row("area-not-checked", what);
     row.of(area)
+}
+
+/// Returns the row of a finding of the flash map.
+fn map_row(finding: &MapFinding) -> Row<'_>
+    ensures { seen_row result ≡ of.map_row finding.now }
+{
+    let (bad, remark) = (Verdict::Bad, Verdict::Remark);
+    match finding {
+        MapFinding::NoMap => bad.row("no-map", "no flashmap"),
+        MapFinding::Map(map) => remark.row("map", "flashmap").at(map.at),
+        MapFinding::OtherMap(map) => remark.row("other-map", "another flashmap").at(map.at),
+        MapFinding::OtherSize => {
+            let what = "the flashmap states another size than the image has";
+            bad.row("map-size", what)
+        }
+        MapFinding::AreaOutside(area) => bad.row("area-outside", "ends outside the image").of(area),
+        MapFinding::AreaEmpty(area) => remark.row("area-empty", "has no bytes").of(area),
+        MapFinding::AreaNameNotText(area) => remark.row("area-name", "name isn't UTF-8").of(area),
+        MapFinding::SameName { area, first } => {
+            let same = bad.row("area-same-name", "has the name of an earlier area");
+            same.of(area).other(first)
+        }
+        MapFinding::Overlap { area, other } => {
+            bad.row("area-overlaps", "overlaps").of(area).other(other)
+        }
+        MapFinding::TooManyAreas => {
+            bad.row("too-many-areas", "too many areas to look for overlaps")
+        }
+        MapFinding::NoMapArea => bad.row("no-map-area", "no area FMAP"),
+        MapFinding::MapAreaMisses(area) => bad
+            .row("map-area", "doesn't hold the flashmap")
+            .of(area),
+    }
 }
 
 /// Adds the rows of findings in order. `names` are the given area names.
@@ -61,6 +95,37 @@ pub fn add_findings<W: Sink + Drop>(
                 rows.add(not_checked_row(area, *is_named))?;
             }
             ImageFinding::NoArea(number) => rows.add(missing_row(name_at(names, *number)))?,
+        }
+    }
+    Ok(())
+}
+
+fn need_row<'a>(need: &Need<'a>, finding: NeedFinding) -> Row<'a>
+    ensures { seen_row result
+        ≡ of_component need.now.area.now need.now.name.now (of.need_row finding) }
+{
+    let row = match finding {
+        NeedFinding::Missing => Verdict::Bad.row("need-missing", "needed component isn't there"),
+        NeedFinding::Elsewhere(at) => {
+            let row = Verdict::Bad.row("need-elsewhere", "needed component is elsewhere");
+            row.at(at)
+        }
+    };
+    row.of_component(need.area, need.name)
+}
+
+/// Adds a row for each unmet need.
+pub fn add_needs<W: Sink + Drop>(
+    rows: &mut RowWriter<W>,
+    findings: &[ImageFinding],
+    needs: &[Need<'_>],
+) -> Result<(), WriteFault>
+    ensures { Adds W.contents W.faults result rows.old rows.new
+        (flat_map (of.need_rows findings.now) (map wish_of needs.now)) }
+{
+    for need in needs {
+        if let Some(finding) = unmet(findings, *need) {
+            rows.add(need_row(need, finding))?;
         }
     }
     Ok(())

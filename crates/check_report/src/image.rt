@@ -4,7 +4,6 @@ ghost use Rattle.flash_device.specs.Device.{fault_count};
 ghost use Rattle.flash_device.specs.Pages.{HasRead, OnHonest};
 ghost use Rattle.check_changes.specs.Faults.{by_new, by_old};
 ghost use Rattle.check_report.specs.Changes.{IsInspected};
-ghost use Rattle.check_report.specs.Reports.{wish_of};
 
 use crate::inspection::Inspection;
 use crate::names::need_areas;
@@ -30,7 +29,7 @@ pub fn inspect_image<F: Flash>(
 
     // On an honest device.
     ensures inspection { OnHonest F.facts paged.old.device (λ image. IfOk result (λ inspection.
-        IsInspected (wish_of request.entry) image inspection)) }
+        IsInspected request.entry image inspection)) }
 {
     let expected = need_areas(alloc, request.needs)?;
     let checked = check_image(alloc, keys, paged, request.areas, &expected);

@@ -1,23 +1,22 @@
 //! The result of a check, and its report.
 ghost use Rattle.std.specs.Prelude.{◌≡◌, ◌+◌, ◌≤◌, false, IfOk, OnOk};
+ghost use Rattle.std.specs.Bool.{then_some};
 ghost use Rattle.std.specs.List.{list_any};
 ghost use Rattle.std.specs.Io.KnownBytes.{Appends};
 ghost use Rattle.flash_device.specs.Device.{fault_count};
 ghost use Rattle.check_report.specs.Faults.{by_sink};
 ghost use Rattle.check_report.specs.Reports.{change_rows, inspection_rows, old_areas};
-ghost use Rattle.check_report.specs.Reports.{wish_of};
-ghost use Rattle.check_report.specs.Lists.{list_if};
+ghost use Rattle.check_report.specs.Lists.{listed};
 ghost use Rattle.check_report.specs.Rows.Reports.{heading, report};
 ghost use Rattle.check_report.specs.Rows.Rows.{is_bad_row};
 ghost use Rattle.check_report.specs.Rows.Writing.{Adds, Ends, Prints};
 
 use crate::changes::{add_area_changes, add_image_changes, add_map_changes, add_region_changes};
 use crate::fault::WriteFault;
-use crate::findings::add_findings;
+use crate::findings::{add_findings, add_needs};
 use crate::kept::add_missing;
 use crate::list::list_components;
 use crate::names::{kept_names, with_areas};
-use crate::needs::add_needs;
 use crate::request::Request;
 use crate::rows::{Printer, RowWriter};
 use check_changes::{AreaChange, MapChange, RegionChange};
@@ -80,7 +79,7 @@ fn add_changes<W: Sink + Drop>(
     changes: &Changes,
 ) -> Result<(), WriteFault>
     ensures { Adds W.contents W.faults result rows.old rows.new
-        (change_rows (wish_of request.entry) changes.now) }
+        (change_rows request.entry changes.now) }
 {
     let new_areas = changes.new_areas.as_slice();
     let old_areas = changes.old.areas_or(new_areas);
@@ -111,7 +110,7 @@ impl Inspection {
         rows: &mut RowWriter<W>,
     ) -> Result<(), WriteFault>
         ensures { Adds W.contents W.faults result rows.old rows.new
-            (inspection_rows (wish_of request.entry) self.now) }
+            (inspection_rows request.entry self.now) }
     {
         add_findings(rows, request.asked, &self.findings, request.areas)?;
         add_needs(rows, &self.findings, request.needs)?;
@@ -128,7 +127,7 @@ impl Inspection {
     ) -> Result<(), WriteFault>
         ensures { Prints W.contents W.faults result printer.old printer.new
             (heading printer.old.form request.entry.files
-            (list_if request.entry.asked.lists self.now.findings.items)) false }
+            (then_some request.entry.asked.lists (listed self.now.findings.items))) false }
     {
         if request.asked.lists {
             printer.start(request.files, "components")?;
@@ -147,7 +146,7 @@ impl Inspection {
         rows: &mut RowWriter<W>,
     ) -> Result<bool, WriteFault>
         ensures { Ends W.contents W.faults result rows.old rows.new
-            (inspection_rows (wish_of request.entry) self.now) }
+            (inspection_rows request.entry self.now) }
     {
         self.add_rows(alloc, request, rows)?;
         rows.finish()
@@ -158,12 +157,12 @@ impl Inspection {
     /// allocation failed.
     pub fn write<W: Sink + Drop>(&self, alloc: Global, request: Request<'_>, out: W) -> Written<W>
         ensures bad { IfOk result.is_bad (λ is_bad. is_bad ≡ list_any is_bad_row
-            (inspection_rows (wish_of request.entry) self.now)) }
+            (inspection_rows request.entry self.now)) }
         ensures text { OnOk result.is_bad (Appends (W.contents out) (W.contents result.out)
             (report request.entry.form request.entry.asked.is_verbose
             request.entry.files
-            (list_if request.entry.asked.lists self.now.findings.items)
-            (inspection_rows (wish_of request.entry) self.now))) }
+            (then_some request.entry.asked.lists (listed self.now.findings.items))
+            (inspection_rows request.entry self.now))) }
         ensures cause { W.faults out + fault_count by_sink result.is_bad ≤ W.faults result.out }
     {
         let mut printer = Printer::new(alloc, request.form, out);

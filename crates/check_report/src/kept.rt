@@ -1,6 +1,7 @@
 //! Areas that must not change.
-ghost use Rattle.std.specs.Prelude.{◌≡◌};
-ghost use Rattle.std.specs.List.{flat_map};
+ghost use Rattle.std.specs.Prelude.{◌≡◌, ◌++◌};
+ghost use Rattle.std.specs.List.{flat_map, list_any};
+ghost use Rattle.flash_map.specs.Areas.{has_name};
 ghost use Rattle.check_findings.specs.Image.ImageFindings.{has_one_of};
 ghost use Rattle.check_report.specs.Names.{names_in};
 ghost use Rattle.check_report.specs.Rows.Writing.{Adds};
@@ -29,16 +30,11 @@ pub fn change_verdict(kept: &[&[u8]], area: NumberedArea) -> Verdict
     }
 }
 
-fn is_there(areas: &[NumberedArea], name: &[u8]) -> bool
-    ensures { result ≡ of.is_there areas.now name.now }
+fn is_there(old_areas: &[NumberedArea], new_areas: &[NumberedArea], name: &[u8]) -> bool
+    ensures { result ≡ list_any (has_name name.now) (old_areas.now ++ new_areas.now) }
 {
-    areas.iter().any(|a| a.area.name_is(name))
-}
-
-fn is_missing(old_areas: &[NumberedArea], new_areas: &[NumberedArea], name: &[u8]) -> bool
-    ensures { result ≡ of.is_missing old_areas.now new_areas.now name.now }
-{
-    !(is_there(old_areas, name) || is_there(new_areas, name))
+    let mut areas = old_areas.iter().chain(new_areas);
+    areas.any(|area| area.area.name_is(name))
 }
 
 /// Adds a row for each kept name that neither image has.
@@ -49,11 +45,11 @@ pub fn add_missing<W: Sink + Drop>(
     new_areas: &[NumberedArea],
 ) -> Result<(), WriteFault>
     ensures { Adds W.contents W.faults result rows.old rows.new
-        (flat_map (of.missing_if old_areas.now new_areas.now) (names_in kept.now)) }
+        (flat_map (of.missing_if (old_areas.now ++ new_areas.now)) (names_in kept.now)) }
 {
     for name in kept {
         let missing = missing_row(Value::Name(name));
-        rows.add_if(is_missing(old_areas, new_areas, name), missing)?;
+        rows.add_if(!is_there(old_areas, new_areas, name), missing)?;
     }
     Ok(())
 }

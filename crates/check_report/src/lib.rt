@@ -7,7 +7,6 @@
 mod areas;
 mod change;
 mod changes;
-mod components;
 mod fault;
 mod findings;
 mod image;
@@ -15,9 +14,7 @@ mod inspection;
 mod kept;
 mod laws;
 mod list;
-mod map;
 mod names;
-mod needs;
 mod region;
 mod request;
 mod rows;

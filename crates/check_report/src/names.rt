@@ -1,6 +1,5 @@
 //! Lists of area names.
 ghost use Rattle.std.specs.Prelude.{◌≡◌, ◌++◌, ◌&&◌, map, IfOk};
-ghost use Rattle.check_findings.specs.Image.Needs.{wish_of};
 ghost use Rattle.check_report.specs.ChangeRows as of;
 ghost use Rattle.check_report.specs.Rows.Rows.{area_name};
 ghost use Rattle.check_report.specs.Names.{names_in};
@@ -11,7 +10,7 @@ use std::alloc::{AllocError, Global};
 
 pub fn need_areas<'a>(alloc: Global, needs: &[Need<'a>]) -> Result<Vec<&'a [u8]>, AllocError>
     ensures { IfOk result (λ names. names_in names.items
-        ≡ map (λ n. n.area) (map wish_of needs.now)) }
+        ≡ map (λ n. n.area.now) needs.now) }
 {
     needs.iter().map(|need| need.area).collect(alloc)
 }
@@ -48,7 +47,7 @@ pub fn kept_names<'a>(
 ) -> Result<Vec<&'a [u8]>, AllocError>
     ensures { IfOk result (λ names.
         names_in names.items
-        ≡ of.kept_by (names_in kept.now) keeps_preserved old_areas.now new_areas.now) }
+        ≡ of.kept_by (names_in kept.now) keeps_preserved (old_areas.now ++ new_areas.now)) }
 {
     let areas = old_areas.iter().chain(new_areas);
     let areas = areas.filter(|area| is_preserved_if(keeps_preserved, area));

@@ -1,14 +1,13 @@
 //! Rows of a region's findings.
 ghost use Rattle.std.specs.Prelude.{◌≡◌, option_map};
 ghost use Rattle.std.specs.List.{flat_map};
-ghost use Rattle.check_report.specs.Rows.Fields.{seen_value};
-ghost use Rattle.check_report.specs.Rows.Rows.{row_of, seen_row};
+ghost use Rattle.check_report.specs.Rows.Rows.{seen_row};
 ghost use Rattle.check_report.specs.Rows.Writing.{Adds};
 ghost use Rattle.check_report.specs.FindingRows as of;
 
 use crate::fault::WriteFault;
 use crate::request::Asked;
-use crate::rows::{Row, RowWriter, Value, Verdict};
+use crate::rows::{Row, RowWriter, Verdict};
 use check_findings::{HashFinding, RegionFinding, is_bad_hash, is_text};
 use flash_device::Sink;
 use flash_format::{Algorithm, DamageKind, type_name};
@@ -37,39 +36,6 @@ impl Asked {
     }
 }
 
-/// The place of a component's rows.
-#[derive(Clone, Copy)]
-struct Place<'a> {
-    region: &'a [u8],
-    name: &'a [u8],
-    at: u64,
-}
-
-/// Adds a row of this code, text and value, if it is there.
-fn add_row_if<W: Sink + Drop>(
-    rows: &mut RowWriter<W>,
-    is_there: bool,
-    place: Place<'_>,
-    verdict: Verdict,
-    words: (&'static str, &'static str),
-    detail: Value<'_>,
-) -> Result<(), WriteFault>
-    ensures { Adds W.contents W.faults result rows.old rows.new
-        (of.component_row_if place.entry.region.now place.entry.at place.entry.name.now is_there
-        (record (row_of verdict words.entry.0.now words.entry.1.now)
-        { detail = seen_value detail.entry })) }
-{
-    if is_there {
-        let row = Row {
-            detail,
-            ..verdict.row(words.0, words.1)
-        };
-        rows.add(row.of_component(place.region, place.name).at(place.at))
-    } else {
-        Ok(())
-    }
-}
-
 /// Adds up to three rows of a component's name and type, and the state of its digest.
 fn add_component<W: Sink + Drop>(
     rows: &mut RowWriter<W>,
@@ -90,32 +56,18 @@ fn add_component<W: Sink + Drop>(
         return Ok(());
     };
     let (at, name) = (*at, name.as_slice());
-    let place = Place { region, name, at };
-    let (bad, remark, none) = (Verdict::Bad, Verdict::Remark, Value::Absent);
-    let shadowed = ("component-shadowed", "has the name of an earlier component");
-    add_row_if(rows, *is_shadowed, place, bad, shadowed, none)?;
-    let unnamed = ("component-name", "name isn't UTF-8");
-    add_row_if(rows, !is_text(name), place, remark, unnamed, none)?;
-    let untyped = ("component-type", "type without a name");
-    let kind = Value::Offset(u64::from(content.kind));
-    add_row_if(
-        rows,
-        type_name(content.kind).is_none(),
-        place,
-        remark,
-        untyped,
-        kind,
-    )?;
+    let row = Verdict::Bad.row("component-shadowed", "has the name of an earlier component");
+    rows.add_if(*is_shadowed, row.at_component(region, at, name))?;
+    let row = Verdict::Remark.row("component-name", "name isn't UTF-8");
+    rows.add_if(!is_text(name), row.at_component(region, at, name))?;
+    let row = Verdict::Remark.row("component-type", "type without a name");
+    let row = row.number(u64::from(content.kind));
+    let is_nameless = type_name(content.kind).is_none();
+    rows.add_if(is_nameless, row.at_component(region, at, name))?;
+    let (code, what) = hash_words(content.hash);
     let verdict = Verdict::of_finding(is_bad_hash(content.hash, asked.needs_hashes));
-    let is_shown = asked.has_hash_row(content.hash);
-    add_row_if(
-        rows,
-        is_shown,
-        place,
-        verdict,
-        hash_words(content.hash),
-        none,
-    )
+    let row = verdict.row(code, what).at_component(region, at, name);
+    rows.add_if(asked.has_hash_row(content.hash), row)
 }
 
 fn damage_text(kind: DamageKind) -> &'static str

@@ -92,9 +92,6 @@ members [] = no_members
 members (field ∷ fields) =
     option_map_or (λ j. member field.0 j (members fields)) field.1.json (members fields)
 
-abbrev pub object_of : List SeenField → Json
-object_of fields = object (members fields)
-
 -- a line: the first field in text, and the other fields
 pub record Line : Type 0 where
   pub head : List ℕ
@@ -104,4 +101,4 @@ abbrev pub line_text : Line → List ℕ
 line_text line = line.head ++ flat_map field_text line.fields ++ line_feed
 
 abbrev pub line_json : Line → Json
-line_json line = object_of line.fields
+line_json line = object (members line.fields)

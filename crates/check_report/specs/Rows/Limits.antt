@@ -6,7 +6,8 @@ use Rattle.std.specs.Str.{bytes_eq}
 use lib.Chars.{codes}
 use Rattle.check_report.specs.declared.rows.kinds.Kind.{Kind}
 use Rattle.check_report.specs.declared.rows.row.Verdict.{Verdict}
-use Rattle.check_report.specs.Rows.Rows.{SeenRow, row_if, row_of, with_count, is_verdict}
+use Rattle.check_changes.specs.Lists.{only_if}
+use Rattle.check_report.specs.Rows.Rows.{SeenRow, row_of, with_count, is_verdict}
 
 -- a kind, and the number of its rows
 pub record SeenKind : Type 0 where
@@ -16,6 +17,10 @@ pub record SeenKind : Type 0 where
 
 abbrev pub seen_kind : Kind → SeenKind
 seen_kind kind = record { verdict = kind.verdict; code = kind.code.now; count = kind.count }
+
+-- of the first row of a kind
+abbrev pub kind_of : SeenRow → SeenKind
+kind_of row = record { verdict = row.verdict; code = row.code; count = 1 }
 
 abbrev pub is_of : SeenKind → SeenRow → Bool
 is_of kind row = is_verdict kind.verdict row.verdict && bytes_eq kind.code row.code
@@ -27,7 +32,7 @@ count_in (kind ∷ kinds) row = if is_of kind row then kind.count else count_in 
 
 -- the kinds after another row
 abbrev pub counted : List SeenKind → SeenRow → List SeenKind
-counted [] row = record { verdict = row.verdict; code = row.code; count = 1 } ∷ []
+counted [] row = kind_of row ∷ []
 counted (kind ∷ kinds) row =
     if is_of kind row then record kind { count = kind.count + 1 } ∷ kinds
     else (kind ∷ counted kinds row)
@@ -40,7 +45,7 @@ kinds_of rows = fold counted [] rows
 abbrev pub shown_after : Bool → List SeenKind → List SeenRow → List SeenRow
 shown_after shows_all kinds [] = []
 shown_after shows_all kinds (row ∷ rows) =
-    row_if (shows_all || nat_lt (count_in kinds row) 16) row
+    only_if (shows_all || nat_lt (count_in kinds row) 16) row
     ++ shown_after shows_all (counted kinds row) rows
 
 abbrev pub shown_rows : List SeenRow → List SeenRow
@@ -52,7 +57,7 @@ more_row kind =
     with_count (kind.count - 16) (row_of kind.verdict kind.code (codes "more of these"))
 
 abbrev pub more_of : SeenKind → List SeenRow
-more_of kind = row_if (nat_lt 16 kind.count) (more_row kind)
+more_of kind = only_if (nat_lt 16 kind.count) (more_row kind)
 
 abbrev pub limited_rows : List SeenRow → List SeenRow
 limited_rows rows = shown_rows rows ++ flat_map more_of (kinds_of rows)

@@ -4,7 +4,7 @@ use Rattle.std.specs.Prelude.{fold, if◌then◌else◌}
 use Rattle.std.specs.List.{flat_map}
 use Rattle.std.specs.Option.{option_copied, option_map_or}
 use lib.Chars.{codes}
-use Rattle.json.specs.Json.{Json, array}
+use Rattle.json.specs.Json.{Json, array, object}
 use Rattle.json.specs.Token.{Token, begin_array, begin_object, end_array, end_object, key}
 use Rattle.json.specs.Tree.{json_tokens}
 use Rattle.json.specs.Print.{print, print_from}
@@ -14,7 +14,7 @@ use Rattle.check_report.specs.declared.rows.kinds.Counts.{Counts}
 use Rattle.check_report.specs.declared.rows.form.Form.{Form}
 use Rattle.check_report.specs.declared.rows.form.Form.TheVariants as forms
 use Rattle.check_report.specs.Rows.Fields.{Line, SeenField, absent, count_value, items}
-use Rattle.check_report.specs.Rows.Fields.{line_json, line_text, object_of, text_value}
+use Rattle.check_report.specs.Rows.Fields.{line_json, line_text, members, text_value}
 use Rattle.check_report.specs.Rows.Rows.{SeenRow, counts_of, row_line, summary}
 use Rattle.check_report.specs.Rows.Limits.{limited_rows}
 
@@ -38,9 +38,9 @@ lines_field name lines =
     (name, record { text = None; json = Some (array (items (map line_json lines))) })
 
 unfoldable pub document : Files → Option (List Line) → List Line → Counts → Json
-document files list rows counts = object_of (file_fields files
+document files list rows counts = object (members (file_fields files
     ++ option_map_or (λ lines. lines_field (codes "components") lines ∷ []) list []
-    ++ lines_field (codes "rows") rows ∷ count_fields counts)
+    ++ lines_field (codes "rows") rows ∷ count_fields counts))
 
 -- the text of a list, rows and counts
 unfoldable pub report_with : Form → Files → Option (List Line) → List Line → Counts → List ℕ

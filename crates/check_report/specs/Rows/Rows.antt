@@ -1,6 +1,6 @@
 -- Rows and their lines.
 use Rattle.std.specs.Prelude.{ℕ, List, [], ◌∷◌, ◌++◌, Bool}
-use Rattle.std.specs.Prelude.{◌+◌, fold, if◌then◌else◌}
+use Rattle.std.specs.Prelude.{◌+◌, fold}
 use Rattle.flash_format.specs.Flashmap.{text_of}
 use Rattle.flash_map.specs.declared.areas.NumberedArea.{NumberedArea}
 use Rattle.std.specs.Fmt.{decimal}
@@ -37,9 +37,6 @@ seen_row row = record {
   other = seen_value row.other;
 }
 
-abbrev pub row_if : Bool → SeenRow → List SeenRow
-row_if is_there row = if is_there then row ∷ [] else []
-
 -- a row of the whole image
 abbrev pub row_of : Verdict → List ℕ → List ℕ → SeenRow
 row_of verdict code what = record {
@@ -71,6 +68,9 @@ of_area a row = row_at a.area.offset (in_area (area_name a) row)
 
 abbrev pub of_component : List ℕ → List ℕ → SeenRow → SeenRow
 of_component area name row = in_area area (record row { component = name_value name })
+
+abbrev pub at_component : List ℕ → ℕ → List ℕ → SeenRow → SeenRow
+at_component area at name row = row_at at (of_component area name row)
 
 abbrev pub with_count : ℕ → SeenRow → SeenRow
 with_count n row = record row { detail = count_value n }

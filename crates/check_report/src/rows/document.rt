@@ -10,7 +10,7 @@ ghost use Rattle.json.specs.Token.{number, string};
 ghost use Rattle.json.specs.Tree.{json_tokens};
 ghost use Rattle.check_report.specs.declared.rows.form.Form.TheVariants as forms;
 ghost use Rattle.check_report.specs.Rows.Fields.{bytes_json, name_json};
-ghost use Rattle.check_report.specs.Rows.Fields.{object_of, seen_field};
+ghost use Rattle.check_report.specs.Rows.Fields.{seen_field};
 ghost use Rattle.check_report.specs.Rows.Reports.{between, ending, file_fields, member_tokens};
 ghost use Rattle.check_report.specs.Rows.Reports.{parts, starting};
 ghost use Rattle.check_report.specs.Rows.Writing.{AddsTokens};
@@ -30,21 +30,13 @@ fn put(writer: &mut Writer, token: Token<'_>) -> Result<(), AllocError>
     writer.token(token)
 }
 
-fn put_numbers(writer: &mut Writer, bytes: &[u8]) -> Result<(), AllocError>
-    ensures { AddsTokens result writer.old writer.new
-        (map (λ byte. number (decimal byte)) bytes.now) }
-{
-    for byte in bytes {
-        writer.u64(u64::from(*byte))?;
-    }
-    Ok(())
-}
-
 fn put_bytes(writer: &mut Writer, bytes: &[u8]) -> Result<(), AllocError>
     ensures { AddsTokens result writer.old writer.new (json_tokens (bytes_json bytes.now)) }
 {
     put(writer, Token::BeginArray)?;
-    put_numbers(writer, bytes)?;
+    for byte in bytes {
+        writer.u64(u64::from(*byte))?;
+    }
     put(writer, Token::EndArray)
 }
 
@@ -94,29 +86,7 @@ fn put_members(writer: &mut Writer, fields: &[Field<'_>]) -> Result<(), AllocErr
     Ok(())
 }
 
-fn put_object(writer: &mut Writer, fields: &[Field<'_>]) -> Result<(), AllocError>
-    ensures { AddsTokens result writer.old writer.new
-        (json_tokens (object_of (map seen_field fields.now))) }
-{
-    put(writer, Token::BeginObject)?;
-    put_members(writer, fields)?;
-    put(writer, Token::EndObject)
-}
-
-/// Returns a writer of a value, after a comma if needed.
-fn value_writer(alloc: Global, follows: bool) -> Result<Writer, AllocError>
-    ensures before { IfOk result (λ writer. writer.before
-        ≡ (if follows then codes "," else [])) }
-    ensures tokens { IfOk result (λ writer. writer.tokens ≡ []) }
-{
-    let mut text = Vec::new(alloc);
-    if follows {
-        push(&mut text, b",")?;
-    }
-    Ok(Writer::new(text))
-}
-
-/// Returns a line as an item of an array.
+/// Returns a line as an item of an array, after a comma if it follows another item.
 pub fn line_object(
     alloc: Global,
     follows: bool,
@@ -125,8 +95,12 @@ pub fn line_object(
     ensures { IfOk result (λ part. part.items ≡ parts forms.Json follows
         (record { head = []; fields = map seen_field fields.now } ∷ [])) }
 {
-    let mut writer = value_writer(alloc, follows)?;
-    put_object(&mut writer, fields)?;
+    let mut text = Vec::new(alloc);
+    push(&mut text, if follows { "," } else { "" }.as_bytes())?;
+    let mut writer = Writer::new(text);
+    put(&mut writer, Token::BeginObject)?;
+    put_members(&mut writer, fields)?;
+    put(&mut writer, Token::EndObject)?;
     Ok(writer.into_inner())
 }
 
@@ -136,7 +110,7 @@ fn file_fields<'a>(files: Files<'a>) -> [Field<'a>; 3]
     [
         ("format", Value::Count(1)),
         ("image", Value::Text(files.image)),
-        ("old", Value::text_if(files.old)),
+        ("old", files.old.map_or(Value::Absent, Value::Text)),
     ]
 }
 
@@ -149,17 +123,6 @@ pub fn json_start(alloc: Global, files: Files<'_>, array: &str) -> Result<Vec<u8
     put(&mut writer, Token::BeginObject)?;
     put_members(&mut writer, &file_fields(files))?;
     put(&mut writer, Token::Key(array))?;
-    put(&mut writer, Token::BeginArray)?;
-    Ok(writer.into_inner())
-}
-
-/// Returns the part between the components and the rows.
-pub fn json_between(alloc: Global) -> Result<Vec<u8>, AllocError>
-    ensures { IfOk result (λ text. text.items ≡ between forms.Json) }
-{
-    let mut writer = Writer::new(Vec::new(alloc));
-    put(&mut writer, Token::EndArray)?;
-    put(&mut writer, Token::Key("rows"))?;
     put(&mut writer, Token::BeginArray)?;
     Ok(writer.into_inner())
 }

@@ -30,16 +30,6 @@ pub enum Value<'a> {
 pub type Field<'a> = (&'static str, Value<'a>);
 
 impl<'a> Value<'a> {
-    pub fn text_if(text: Option<&'a str>) -> Value<'a>
-        ensures { seen_value result
-            ≡ option_map_or text_value (option_copied text.entry) of.absent }
-    {
-        match text {
-            Some(text) => Value::Text(text),
-            None => Value::Absent,
-        }
-    }
-
     /// Returns the name of a type, or else its number.
     #[tactic(auto, unfolding(crate::specs::Rows::Fields::printed_type))]
     pub fn of_type(kind: u32) -> Value<'a>

@@ -50,10 +50,7 @@ pub fn count_row(kinds: &mut Vec<Kind>, row: &Row) -> Result<u64, AllocError>
     for i in 0..kinds.len() {
         let kind = kinds[i];
         if kind.is_of(row) {
-            kinds[i] = Kind {
-                count: next(kind.count)?,
-                ..kind
-            };
+            kinds[i].count = next(kind.count)?;
             return Ok(kind.count);
         }
     }

@@ -6,7 +6,7 @@ ghost use Rattle.check_report.specs.Rows.Writing.{Prints, PrintsLines};
 
 use crate::fault::WriteFault;
 use crate::request::Files;
-use crate::rows::document::{json_between, json_end, json_start, line_object};
+use crate::rows::document::{json_end, json_start, line_object};
 use crate::rows::field::Field;
 use crate::rows::form::Form;
 use crate::rows::kinds::Counts;
@@ -61,6 +61,7 @@ impl<W: Sink + Drop> Printer<W> {
     }
 
     /// Prints the part between the components and the rows.
+    #[tactic(auto, unfolding(json::specs::Print::print_from, json::specs::Print::escape_byte))]
     pub fn between(&mut self) -> Result<(), WriteFault>
         ensures { Prints W.contents W.faults result self.old self.new
             (between self.old.form) false }
@@ -68,7 +69,7 @@ impl<W: Sink + Drop> Printer<W> {
         self.follows = false;
         match self.form {
             Form::Text => Ok(()),
-            Form::Json => self.put(&json_between(self.alloc)?),
+            Form::Json => self.put(b"],\"rows\":["),
         }
     }
 

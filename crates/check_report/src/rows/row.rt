@@ -118,6 +118,13 @@ impl<'a> Row<'a> {
         self.in_area(area)
     }
 
+    /// Sets the component, and its position in the area.
+    pub fn at_component(self, area: &'a [u8], at: u64, name: &'a [u8]) -> Row<'a>
+        ensures { seen_row result ≡ rows.at_component area.now at name.now (seen_row self.entry) }
+    {
+        self.of_component(area, name).at(at)
+    }
+
     pub fn count(mut self, count: u64) -> Row<'a>
         ensures { seen_row result ≡ rows.with_count count (seen_row self.entry) }
     {

@@ -52,16 +52,6 @@ fn push_field(text: &mut Vec<u8>, field: Field<'_>) -> Result<(), AllocError>
     }
 }
 
-fn push_fields(text: &mut Vec<u8>, fields: &[Field<'_>]) -> Result<(), AllocError>
-    ensures { OnOk result (text.new.items
-        ≡ text.old.items ++ flat_map field_text (map seen_field fields.now)) }
-{
-    for field in fields {
-        push_field(text, *field)?;
-    }
-    Ok(())
-}
-
 /// Returns a line.
 pub fn line(alloc: Global, head: &str, fields: &[Field<'_>]) -> Result<Vec<u8>, AllocError>
     ensures { IfOk result (λ text. text.items
@@ -69,7 +59,9 @@ pub fn line(alloc: Global, head: &str, fields: &[Field<'_>]) -> Result<Vec<u8>, 
 {
     let mut text = Vec::new(alloc);
     push(&mut text, head.as_bytes())?;
-    push_fields(&mut text, fields)?;
+    for field in fields {
+        push_field(&mut text, *field)?;
+    }
     push(&mut text, b"\n")?;
     Ok(text)
 }

@@ -1,8 +1,9 @@
 //! The rows of a report.
 ghost use Rattle.std.specs.Prelude.{◌≡◌, ◌∷◌, ◌||◌, [], false, nat_lt, map, if◌then◌else◌};
 ghost use Rattle.std.specs.List.{flat_map};
+ghost use Rattle.check_changes.specs.Lists.{only_if};
 ghost use Rattle.check_report.specs.Rows.Limits.{more_of, more_row, seen_kind};
-ghost use Rattle.check_report.specs.Rows.Rows.{row_if, row_line, seen_row};
+ghost use Rattle.check_report.specs.Rows.Rows.{row_line, seen_row};
 ghost use Rattle.check_report.specs.Rows.Writing.{Adds, Ends, IsSound, PrintsLines};
 
 use crate::fault::WriteFault;
@@ -38,17 +39,10 @@ fn limited(is_verbose: bool, kinds: &[Kind]) -> &[Kind]
     if is_verbose { &kinds[..0] } else { kinds }
 }
 
-/// Returns whether a row after `before` rows of its kind is shown.
-fn is_shown(is_verbose: bool, before: u64) -> bool
-    ensures { result ≡ (is_verbose || nat_lt before 16) }
-{
-    is_verbose || before < MOST
-}
-
 impl<W: Sink + Drop> Printer<W> {
     fn row_if(&mut self, is_shown: bool, row: &Row<'_>) -> Result<(), WriteFault>
         ensures { PrintsLines W.contents W.faults result self.old self.new
-            (map row_line (row_if is_shown (seen_row row.now))) }
+            (map row_line (only_if is_shown (seen_row row.now))) }
     {
         if is_shown {
             self.line(row.verdict.word(), &row.fields())
@@ -92,13 +86,13 @@ impl<W: Sink + Drop> RowWriter<W> {
     {
         let before = count_row(&mut self.kinds, &row)?;
         self.counts = self.counts.with(row.verdict)?;
-        let is_shown = is_shown(self.is_verbose, before);
+        let is_shown = self.is_verbose || before < MOST;
         self.printer.row_if(is_shown, &row)
     }
 
     pub fn add_if(&mut self, is_there: bool, row: Row<'_>) -> Result<(), WriteFault>
         ensures { Adds W.contents W.faults result self.old self.new
-            (row_if is_there (seen_row row.entry)) }
+            (only_if is_there (seen_row row.entry)) }
     {
         if is_there { self.add(row) } else { Ok(()) }
     }

@@ -1,9 +1,9 @@
 use Rattle.std.proofs.Common.{◌≡◌, ◌+◌, ◌++◌, length, map, option_map}
-use Rattle.std.specs.Prelude.{filter_map, find}
+use Rattle.std.specs.Prelude.{filter_map, find, is_none}
 use Rattle.std.specs.Option.{option_map_or}
 use Rattle.check_findings.specs.Image.Needs.{wish_of}
 use Rattle.check_line.specs.CheckWords.{parts_of}
-use Rattle.check_line.specs.Needs.{is_no_need, need_in}
+use Rattle.check_line.specs.Needs.{need_in}
 use Rattle.check_line.proofs.line.needs_given.Given as goal
 
 abbrev pub invariant-loop-rest : goal.invariant-loop-rest
@@ -11,7 +11,7 @@ invariant-loop-rest l =
     let all = parts_of (option_map (λ t. t.now) l.fn.list) in
     let left = parts_of (option_map (λ t. t.now) l.rest) in
     record {
-      bad : find is_no_need left ≡ find is_no_need all;
+      bad : find (λ part. is_none (need_in part)) left ≡ find (λ part. is_none (need_in part)) all;
       taken : map wish_of l.needs.items ++ filter_map need_in left ≡ filter_map need_in all;
     }
 

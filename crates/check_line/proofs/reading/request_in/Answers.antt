@@ -2,7 +2,10 @@ use Rattle.std.proofs.Common.{◌≡◌, ◌∙◌, ℕ, List, Bor, Option, Some
 use Rattle.std.proofs.lemmas.Iterator.{YieldsList-from_slice}
 use Rattle.std.proofs.lemmas.Iterator.Consumers.{YieldsList-from_copied}
 use Rattle.std.proofs.lemmas.Iterator.Search.{YieldsList-from_take_while, find_from_yields_List}
-use Rattle.check_line.specs.CheckWords.{is_before_end, is_request}
+use Rattle.std.specs.Prelude.{not}
+use Rattle.std.specs.Str.{bytes_eq}
+use lib.Chars.{codes}
+use Rattle.check_line.specs.CheckWords.{is_request}
 use Rattle.check_line.proofs.reading.request_in.Goals as goal
 
 copied : (r : Option (Bor (List ℕ))) → option_map (λ (w : Bor (List ℕ)). w.now) r
@@ -13,5 +16,5 @@ copied (Some w) = refl
 pub returns : goal.returns
 returns c =
     copied c.find.result ∙ ap (option_map (λ (w : Bor (List ℕ)). w.now)) (find_from_yields_List is_request _ _ c.find.result c.find.ensures.ran
-    (YieldsList-from_take_while _ is_before_end (YieldsList-from_copied (YieldsList-from_slice c.args.words.now cc)) c.take_while.ensures.closure c.take_while.ensures.done (λ x b q k. search (rules, tests)))
+    (YieldsList-from_take_while _ (λ word. not (bytes_eq word.now (codes "--"))) (YieldsList-from_copied (YieldsList-from_slice c.args.words.now cc)) c.take_while.ensures.closure c.take_while.ensures.done (λ x b q k. search (rules, tests)))
     (λ x b q k. search (rules, tests)))

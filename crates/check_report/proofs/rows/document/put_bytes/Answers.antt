@@ -1,7 +1,10 @@
 use Rattle.std.proofs.Common.{rules, append_assoc}
+use Rattle.std.proofs.lemmas.List.{take_all}
 use Rattle.std.proofs.lemmas.Result.{IfOk-equal}
-use Rattle.check_report.proofs.RowLemmas.Tokens.{bytes_tokens}
+use Rattle.check_report.proofs.Tokens.{bytes_tokens}
 use Rattle.check_report.proofs.rows.document.put_bytes.Goals as goal
 
 pub returns : goal.returns
-returns c = rw (bytes_tokens c.args.bytes.now) (search (rules, IfOk-equal, append_assoc))
+returns c =
+    let all = rw (take_all c.loop-byte.byte-index c.args.bytes.now c.loop-byte-test.false) at c.loop-byte.invariant in
+    rw (bytes_tokens c.args.bytes.now) (search (rules, IfOk-equal, append_assoc, all.tokens, all.before))

@@ -1,4 +1,4 @@
-use Rattle.check_report.proofs.RowLemmas.Tokens.{name_tokens-utf8, name_tokens-bytes}
+use Rattle.check_report.proofs.Tokens.{name_tokens-utf8, name_tokens-bytes}
 use Rattle.check_report.proofs.rows.document.put_name.Goals as goal
 
 pub returns-in-Ok : goal.returns-in-Ok

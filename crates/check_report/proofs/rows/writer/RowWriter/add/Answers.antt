@@ -1,7 +1,12 @@
-use Rattle.std.proofs.Common.{refl}
+use Rattle.std.proofs.Common.{◌≡◌, nat_lt, refl, rules, tests}
+use Rattle.std.specs.Prelude.{◌||◌}
 use Rattle.check_report.proofs.SoundRows.{adds_row}
 use Rattle.check_report.proofs.rows.writer.RowWriter.add.Goals as goal
+use Rattle.check_report.proofs.rows.writer.RowWriter.add.Goals.{then-self, else-self}
 
 pub returns : goal.returns
-returns g c = adds_row g.W.Sink.contents g.W.Sink.faults _ c.args.self.now _ _ refl c.in_ok-before.ensures.kinds c.in_ok-self.ensures
-    (rw (c.is_shown-is_shown.ensures, c.in_ok-before.ensures.before) at c.row_if.ensures)
+returns g c =
+    let shown : c.if-self.is_shown ≡ (c.args.self.now.is_verbose || nat_lt c.in_ok-before.before 16) =
+    elim c.if-self.branch [ then-self w ↦ search (rules, tests) | else-self w ↦ search (rules, tests) ] in
+    adds_row g.W.Sink.contents g.W.Sink.faults _ c.args.self.now _ _ refl c.in_ok-before.ensures.kinds c.in_ok-self.ensures
+    (rw (shown, c.in_ok-before.ensures.before) at c.row_if.ensures)

@@ -1,15 +1,15 @@
 -- The tokens of fields and of a document, part by part.
-use Rattle.std.proofs.Common.{◌≡◌, ℕ, List, [], ◌∷◌, ◌++◌, Bool, true, false, Option, Some, None, map, refl, sym, ap, ◌∙◌, append_assoc}
+use Rattle.std.proofs.Common.{◌≡◌, ℕ, List, [], ◌∷◌, ◌++◌, true, false, Option, Some, None, map, refl, sym, ap, ◌∙◌, append_assoc, arith}
 use Rattle.std.specs.List.{flat_map}
 use Rattle.std.specs.Option.{option_map_or}
 use Rattle.std.specs.Fmt.{decimal}
 use Rattle.std.specs.Str.{IsUtf8, is_utf8}
 use Rattle.std.proofs.lemmas.Grind.{flat_map-append}
 use Rattle.std.proofs.lemmas.Str.{is_utf8-from_IsUtf8, IsUtf8-from_is_utf8}
-use Rattle.json.specs.Json.{Json, member}
+use Rattle.json.specs.Json.{Json, member, object}
 use Rattle.json.specs.Token.{Token, begin_object, begin_array, end_array, end_object, key}
 use Rattle.json.specs.Tree.{json_tokens, items_tokens, members_tokens}
-use Rattle.check_report.specs.Rows.Fields.{Line, SeenField, bytes_json, items, line_json, members, name_json, number_json, object_of}
+use Rattle.check_report.specs.Rows.Fields.{Line, SeenField, bytes_json, items, line_json, members, name_json, number_json}
 use Rattle.check_report.specs.Rows.Reports.{begin_tokens, lines_field, member_tokens}
 
 members_tokens-members : (fs : List SeenField) → members_tokens (members fs) ≡ flat_map member_tokens fs ++ end_object ∷ []
@@ -22,7 +22,7 @@ members_tokens-members (f ∷ fs) = go f.1.json (members_tokens-members fs)
     go None rest = rest
     go (Some j) rest = ap (λ ts. key f.0 ∷ (json_tokens j ++ ts)) rest ∙ ap (λ ts. key f.0 ∷ ts) (sym (append_assoc (json_tokens j) _ _))
 
-pub object_tokens : (fs : List SeenField) → json_tokens (object_of fs) ≡ begin_object ∷ (flat_map member_tokens fs ++ end_object ∷ [])
+pub object_tokens : (fs : List SeenField) → json_tokens (object (members fs)) ≡ begin_object ∷ (flat_map member_tokens fs ++ end_object ∷ [])
 object_tokens fs = ap (λ ts. begin_object ∷ ts) (members_tokens-members fs)
 
 items_tokens-items : (js : List Json) → items_tokens (items js) ≡ flat_map json_tokens js ++ end_array ∷ []
@@ -57,8 +57,4 @@ name_tokens-utf8 name utf8 = let is : is_utf8 name ≡ true = is_utf8-from_IsUtf
 
 -- any other name is an array
 pub name_tokens-bytes : (name : List ℕ) → (IsUtf8 name → ⊥) → json_tokens (name_json name) ≡ json_tokens (bytes_json name)
-name_tokens-bytes name other = go (is_utf8 name) refl
-  where
-    go : (b : Bool) → is_utf8 name ≡ b → json_tokens (name_json name) ≡ json_tokens (bytes_json name)
-    go true is = absurd (other (IsUtf8-from_is_utf8 name is))
-    go false is = rw is refl
+name_tokens-bytes name other = let is : is_utf8 name ≡ false = grind (arith, other, IsUtf8-from_is_utf8 name) in rw is refl

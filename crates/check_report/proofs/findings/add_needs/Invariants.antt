@@ -3,7 +3,7 @@ use Rattle.std.specs.List.{flat_map}
 use Rattle.check_findings.specs.Image.Needs.{wish_of}
 use Rattle.check_report.specs.Rows.Writing.{Adds}
 use Rattle.check_report.specs.FindingRows.{need_rows}
-use Rattle.check_report.proofs.needs.add_needs.Given as goal
+use Rattle.check_report.proofs.findings.add_needs.Given as goal
 
 abbrev pub invariant-loop-need : goal.invariant-loop-need
 invariant-loop-need g l = Adds g.W.Sink.contents g.W.Sink.faults (Ok tt) l.initial.rows l.rows

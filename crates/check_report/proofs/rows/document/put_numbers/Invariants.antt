@@ -1,8 +1,0 @@
-use Rattle.std.proofs.Common.{Ok, map, take}
-use Rattle.std.specs.Fmt.{decimal}
-use Rattle.json.specs.Token.{number}
-use Rattle.check_report.specs.Rows.Writing.{AddsTokens}
-use Rattle.check_report.proofs.rows.document.put_numbers.Given as goal
-
-abbrev pub invariant-loop-byte : goal.invariant-loop-byte
-invariant-loop-byte l = AddsTokens (Ok tt) l.initial.writer l.writer (map (λ b. number (decimal b)) (take l.byte-index l.bytes))
