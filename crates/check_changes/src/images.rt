@@ -5,8 +5,8 @@ ghost use Rattle.check_changes.specs.Areas.Blocks.{differs};
 ghost use Rattle.check_changes.specs.Images.{HasCompared, LieOn, LieWithin, OnBothIn, lengths, regions_within};
 
 use crate::fault::ChangeFault;
-use flash_device::{Flash, PIECE, Paged, Region};
-use flash_map::NumberedArea;
+use flash_device::{Flash, PIECE, Paged};
+use flash_map::{NumberedArea, Region};
 
 /// A value of each image.
 #[derive(Clone, Copy, Drop)]

@@ -15,11 +15,11 @@ use Rattle.flash_map.specs.Fmap.{found_from, found_in}
 use Rattle.flash_map.specs.Regions.{region_of}
 use Rattle.flash_map.specs.declared.areas.NumberedArea.{NumberedArea}
 use Rattle.flash_map.specs.declared.search.FoundMap.{FoundMap}
-use Rattle.cbfs_walk.specs.Finding.{component_in}
+use Rattle.cbfs_walk.specs.Search.{component_in}
 use Rattle.cbfs_walk.specs.Hashes.{hash_state}
 use Rattle.cbfs_walk.specs.Shapes.{shape_fault}
 use Rattle.cbfs_walk.specs.declared.hashes.HashState.TheVariants.{Invalid}
-use Rattle.cbfs_walk.specs.Shaped.{place_after}
+use Rattle.cbfs_walk.specs.CellReadings.{place_after}
 use Rattle.check_findings.specs.Map.MapFindings.{map_findings, namesake}
 use Rattle.check_findings.specs.Region.RegionFindings.{component_content, component_finding}
 use Rattle.check_findings.specs.Region.RegionFindings.{is_filled, region_findings, tail_bytes}

@@ -3,8 +3,8 @@ use Rattle.std.proofs.Common.{◌≡◌, ◌≢◌, ℕ, Bool, List, None, Ok, r
 use Rattle.flash_format.specs.declared.head.DamageKind.{DamageKind}
 use Rattle.flash_format.specs.Cut.{End, complete, tail, damage, cut}
 use Rattle.flash_map.specs.declared.areas.NumberedArea.{NumberedArea}
-use Rattle.cbfs_walk.specs.Finding.{not_found}
-use Rattle.cbfs_walk.specs.Shaped.{place_after}
+use Rattle.cbfs_walk.specs.Search.{not_found}
+use Rattle.cbfs_walk.specs.CellReadings.{place_after}
 use Rattle.check_findings.specs.Laws.{IsFit, IsWhole}
 use Rattle.cbfs_commands.specs.Outcomes.{print_region}
 use Rattle.cbfs_commands.specs.Printouts.{shows}

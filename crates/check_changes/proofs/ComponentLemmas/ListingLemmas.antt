@@ -15,8 +15,8 @@ use Rattle.flash_device.specs.Regions.{Range, LiesOn, bytes_in}
 use Rattle.flash_device.proofs.DeviceLemmas.{honest_still}
 use Rattle.cbfs_walk.specs.Cells.{IsCellIn, cell_in}
 use Rattle.cbfs_walk.specs.Hashes.{content_at}
-use Rattle.cbfs_walk.specs.Walks.{reads_over, Answer, Walking, walk_of, answer_at, StandsIn}
-use Rattle.cbfs_walk.specs.Shaped.{reading_of, ReadsCells, by_answer}
+use Rattle.cbfs_walk.specs.Walks.{reads_over, StepResult, Walking, walk_of, answer_at, StandsIn}
+use Rattle.cbfs_walk.specs.CellReadings.{reading_of, ReadsCells, by_answer}
 use Rattle.cbfs_walk.specs.declared.cell.Cell.{Cell}
 use Rattle.cbfs_walk.specs.declared.walk.Step.TheVariants as steps
 use Rattle.cbfs_walk.specs.declared.walk.WalkFault.TheVariants as walk
@@ -71,17 +71,17 @@ unfolding states states_from reading_of rest_read
 states_whole x = refl
 
 -- the same by the result of a walk
-states_by : List ℕ → Answer → List ComponentState
+states_by : List ℕ → StepResult → List ComponentState
 states_by x answer = by_answer (λ fault. []) rest_read rest_cell x answer
 
 states_step : (x : List ℕ) (at : ℕ) → at ≤ length x → at % 64 ≡ 0 → states_from x at ≡ states_by x (answer_at x at)
 unfolding states_from states_by
 states_step x at inside aligned = shaped_step (λ fault. []) rest_read rest_cell law x at inside aligned
 
-abbrev pub IsNoCell : Answer → Type 0
+abbrev pub IsNoCell : StepResult → Type 0
 IsNoCell a = (c : Cell) → a ≡ Ok (steps.Cell c) → ⊥
 
-states_end : (x : List ℕ) (a : Answer) → IsNoCell a → states_by x a ≡ []
+states_end : (x : List ℕ) (a : StepResult) → IsNoCell a → states_by x a ≡ []
 unfolding states_by rest_read components_from
 states_end x (Ok (steps.Cell c)) none = absurd (none c refl)
 states_end x (Ok step) none = refl
@@ -109,10 +109,10 @@ module _ {F : Type 0} (facts : F → Device) (r : Range) (w : Walking) (all : Ve
   abbrev x : List ℕ
   x = bytes_in r (facts old.device).content
 
-  answered : (a : Answer) → (IsErrOf a walk.Device → ⊥) → Answers facts w now a → IsTrue (facts old.device).honest → (a ≡ answer_at x w.at) × (states_in x all.items ++ states_by x a ≡ states x)
+  answered : (a : StepResult) → (IsErrOf a walk.Device → ⊥) → Answers facts w now a → IsTrue (facts old.device).honest → (a ≡ answer_at x w.at) × (states_in x all.items ++ states_by x a ≡ states x)
   answered a other answer h =
       let here = reached_answer facts i.reached a lies answer other h in
-      let step : states_by x a ≡ states_from x w.at = ap (λ (b : Answer). states_by x b) here.0 ∙ sym (states_step x w.at here.1 i.reached.aligned) in
+      let step : states_by x a ≡ states_from x w.at = ap (λ (b : StepResult). states_by x b) here.0 ∙ sym (states_step x w.at here.1 i.reached.aligned) in
       (here.0, ap (λ (l : List ComponentState). states_in x all.items ++ l) step ∙ i.so_far h)
 
   -- a cell is listed
@@ -141,7 +141,7 @@ module _ {F : Type 0} (facts : F → Device) (r : Range) (w : Walking) (all : Ve
   })
 
   -- the walk ended
-  pub listing_lists : (a : Answer) → IsNoCell a → (IsErrOf a walk.Device → ⊥) → Answers facts w now a → Lists facts r old all
+  pub listing_lists : (a : StepResult) → IsNoCell a → (IsErrOf a walk.Device → ⊥) → Answers facts w now a → Lists facts r old all
   listing_lists a none other answer = record {
     cells = i.cells;
     room = omega (arith, i.room, i.reached.inside);

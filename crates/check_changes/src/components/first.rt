@@ -7,7 +7,7 @@ ghost use Rattle.check_changes.specs.Components.Listings.{IsListedIn, state_in, 
 ghost use Rattle.check_changes.specs.declared.components.listing.Listed.{Listed};
 
 use crate::components::listing::Listed;
-use flash_device::Region;
+use flash_map::Region;
 use std::alloc::{AllocError, Global};
 use std::collections::HashMap;
 use std::hash::RandomState;

@@ -11,8 +11,8 @@ ghost use Rattle.flash_map.specs.Faults.{by_device};
 
 use cbfs_walk::{Cell, Step, Walk, WalkFault, cells_stand_in_their_image, name};
 use check_findings::{Name, push};
-use flash_device::{Flash, Paged, Region};
-use flash_map::CheckFault;
+use flash_device::{Flash, Paged};
+use flash_map::{CheckFault, Region};
 use std::alloc::{AllocError, Global};
 
 /// A component from a walk.

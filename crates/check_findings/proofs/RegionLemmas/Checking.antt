@@ -10,9 +10,9 @@ use Rattle.flash_device.proofs.WindowLemmas.{HasRead-then}
 use Rattle.flash_device.specs.Regions.{Range, LiesOn, bytes_in}
 use Rattle.flash_device.proofs.DeviceLemmas.{honest_still, length-bytes_in}
 use Rattle.cbfs_walk.specs.Cells.{IsCellIn, cell_in}
-use Rattle.cbfs_walk.specs.Walks.{reads_over, Answer, Walking, walk_of, answer_at, StandsIn}
+use Rattle.cbfs_walk.specs.Walks.{reads_over, StepResult, Walking, walk_of, answer_at, StandsIn}
 use Rattle.cbfs_walk.specs.Shapes.{shape_fault, refused_or}
-use Rattle.cbfs_walk.specs.Shaped.{reading_of, ReadsCells, by_answer, place_after}
+use Rattle.cbfs_walk.specs.CellReadings.{reading_of, ReadsCells, by_answer, place_after}
 use Rattle.cbfs_walk.specs.declared.cell.Cell.{Cell}
 use Rattle.cbfs_walk.specs.declared.walk.Step.TheVariants as steps
 use Rattle.cbfs_walk.specs.declared.walk.WalkFault.{WalkFault}
@@ -70,7 +70,7 @@ whole_findings x = go (shape_fault x)
     go (Some fault) = refl
 
 -- the same by the result of the walk
-findings_by : List ℕ → Count → Answer → List RegionFinding
+findings_by : List ℕ → Count → StepResult → List RegionFinding
 findings_by x n answer = by_answer fault_findings (cut_findings x) cell_step x answer n
 
 by_step : (x : List ℕ) (n : Count) (at : ℕ) → at ≤ length x → at % 64 ≡ 0 → findings_from x n at ≡ findings_by x n (answer_at x at)
@@ -78,7 +78,7 @@ unfolding findings_from findings_by
 by_step x n at inside aligned = ap (λ (f : Count → List RegionFinding). f n) (shaped_step fault_findings (cut_findings x) cell_step (law x) x at inside aligned)
 
 -- a tail begins at the walk's offset
-tail_place : (x : List ℕ) (place at : ℕ) → (let a : Answer = Ok (steps.Tail at) in a) ≡ answer_at x place → at ≡ place
+tail_place : (x : List ℕ) (place at : ℕ) → (let a : StepResult = Ok (steps.Tail at) in a) ≡ answer_at x place → at ≡ place
 unfolding answer_at
 tail_place x place at is = grind (arith, common_steps, is)
 
@@ -103,10 +103,10 @@ module _ {F : Type 0} (facts : F → Device) (r : Range) (w : Walking) (found : 
   abbrev x : List ℕ
   x = bytes_in r (facts old.device).content
 
-  answered : (a : Answer) → Answers facts w now a → (IsErrOf a walk.Device → ⊥) → IsTrue (facts old.device).honest → (a ≡ answer_at x w.at) × (walk_findings x ≡ found ++ findings_by x count a)
+  answered : (a : StepResult) → Answers facts w now a → (IsErrOf a walk.Device → ⊥) → IsTrue (facts old.device).honest → (a ≡ answer_at x w.at) × (walk_findings x ≡ found ++ findings_by x count a)
   answered a answer other h =
       let here = reached_answer facts i.reached a lies answer other h in
-      let step = by_step x count w.at here.1 i.reached.aligned ∙ ap (λ (b : Answer). findings_by x count b) (sym here.0) in
+      let step = by_step x count w.at here.1 i.reached.aligned ∙ ap (λ (b : StepResult). findings_by x count b) (sym here.0) in
       (here.0, i.so_far h ∙ ap (λ (l : List RegionFinding). found ++ l) step)
 
   -- another cell
@@ -134,7 +134,7 @@ module _ {F : Type 0} (facts : F → Device) (r : Range) (w : Walking) (found : 
   -- ---- the walk ended
 
   -- the last findings follow
-  stopped : (a : Answer) (more all : List RegionFinding) → Answers facts w now a → (IsErrOf a walk.Device → ⊥) → all ≡ found ++ more → findings_by x count a ≡ more → IsTrue (facts old.device).honest → all ≡ walk_findings x
+  stopped : (a : StepResult) (more all : List RegionFinding) → Answers facts w now a → (IsErrOf a walk.Device → ⊥) → all ≡ found ++ more → findings_by x count a ≡ more → IsTrue (facts old.device).honest → all ≡ walk_findings x
   stopped a more all answer other is_all is h =
       is_all ∙ sym ((answered a answer other h).1 ∙ ap (λ (l : List RegionFinding). found ++ l) is)
 

@@ -7,7 +7,7 @@ use Rattle.flash_device.proofs.WindowLemmas.{HasRead-none, HasRead-then, HasRead
 use Rattle.flash_device.specs.Regions.{Range, LiesOn, bytes_in}
 use Rattle.flash_device.proofs.DeviceLemmas.{honest_still, length-bytes_in}
 use Rattle.cbfs_walk.specs.Cells.{IsCellIn}
-use Rattle.cbfs_walk.specs.Walks.{Answer, Walking, walk_of, answer_at}
+use Rattle.cbfs_walk.specs.Walks.{StepResult, Walking, walk_of, answer_at}
 use Rattle.cbfs_walk.specs.declared.cell.Cell.{Cell}
 use Rattle.cbfs_walk.specs.declared.walk.WalkFault.TheVariants as walk
 
@@ -24,12 +24,12 @@ reached_start facts r n old =
     record { region = refl; going = refl; inside = omega arith; aligned = refl; read = HasRead-within facts 0 n 0 old old (omega arith) (HasRead-none facts old) }
 
 -- the results of the walk on an honest device
-abbrev pub Answers : {F : Type 0} → (F → Device) → Walking → Pages F → Answer → Type 0
+abbrev pub Answers : {F : Type 0} → (F → Device) → Walking → Pages F → StepResult → Type 0
 Answers facts w now a = IsTrue (facts now.device).honest → w.ended ≡ None → IsErrOf a walk.Device ⊎ (a ≡ answer_at (bytes_in w.region (facts now.device).content) w.at)
 
 module _ {F : Type 0} (facts : F → Device) {r : Range} {w : Walking} {n : ℕ} {old now : Pages F} (i : Reached facts r w n old now) where
   -- a result without a device fault, and its offset in the region
-  pub reached_answer : (a : Answer) → LiesOn r (facts old.device) → Answers facts w now a → (IsErrOf a walk.Device → ⊥) → IsTrue (facts old.device).honest
+  pub reached_answer : (a : StepResult) → LiesOn r (facts old.device) → Answers facts w now a → (IsErrOf a walk.Device → ⊥) → IsTrue (facts old.device).honest
       → (let x = bytes_in r (facts old.device).content in (a ≡ answer_at x w.at) × (w.at ≤ length x))
   reached_answer a lies answer other h = go (answer (honest_still i.read.device.calls.same_honesty h) i.going)
     where

@@ -20,8 +20,8 @@ use crate::image::finding::{ImageFinding, RegionFindings};
 use crate::image::names::{NameSet, push_missing};
 use crate::map::{MapFinding, check_map};
 use crate::region::check_region;
-use flash_device::{Flash, Paged, Region};
-use flash_map::{CheckFault, FoundMap, NumberedArea};
+use flash_device::{Flash, Paged};
+use flash_map::{CheckFault, FoundMap, NumberedArea, Region};
 use std::alloc::{AllocError, Global};
 use std::hash::RandomState;
 

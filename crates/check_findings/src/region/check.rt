@@ -17,8 +17,8 @@ use crate::region::tail::push_tail;
 use cbfs_walk::{
     Cell, Step, Walk, WalkFault, cells_stand_in_their_image, check_hash, name, packing,
 };
-use flash_device::{Flash, Paged, Region};
-use flash_map::CheckFault;
+use flash_device::{Flash, Paged};
+use flash_map::{CheckFault, Region};
 use std::alloc::Global;
 use std::hash::RandomState;
 

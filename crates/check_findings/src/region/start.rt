@@ -4,8 +4,9 @@ ghost use Rattle.flash_device.specs.Pages.{HasAnswered, OnHonestIn};
 ghost use Rattle.flash_device.specs.Regions.{LiesOn};
 ghost use Rattle.check_findings.specs.Region.RegionFindings.{begins_with_entry};
 
-use flash_device::{Flash, FlashFault, Paged, Region};
+use flash_device::{Flash, FlashFault, Paged};
 use flash_format::Head;
+use flash_map::Region;
 
 /// The bytes of an entry before its name.
 const HEAD: u64 = Head::LENGTH as u64;

@@ -12,8 +12,8 @@ ghost use Rattle.check_findings.specs.Region.RegionFindings.{tail_findings};
 use crate::lists::push_if;
 use crate::region::finding::RegionFinding;
 use crate::region::start::has_entry_at;
-use flash_device::{Flash, FlashFault, PIECE, Paged, Region};
-use flash_map::CheckFault;
+use flash_device::{Flash, FlashFault, PIECE, Paged};
+use flash_map::{CheckFault, Region};
 
 /// Returns the offset of the first byte except 0xff and 0x00. The bytes begin at `at`.
 fn first_filled(bytes: &[u8], at: u64) -> Option<u64>

@@ -6,7 +6,7 @@ use Rattle.std.proofs.lemmas.Bool.Decides.{nat_tests}
 use Rattle.std.proofs.lemmas.Fmt.{digits_is_IsNumeral}
 use Rattle.std.proofs.lemmas.Str.{IsUtf8-from_ascii}
 use Rattle.std.proofs.lemmas.Str.Ascii.{IsAscii-cons, IsAscii-nil}
-use Rattle.flash_format.specs.Printed.{hexadecimal}
+use Rattle.flash_format.specs.Texts.{hexadecimal}
 use Rattle.check_report.proofs.rows.document.put_hexadecimal.Goals as goal
 
 digit_is_ascii : (c : ℕ) → digit_value c < 16 → c < 128
