@@ -29,7 +29,8 @@ use Rattle.cbfs_walk.specs.declared.hashes.HashState.TheVariants.{Unsupported}
 -- A cell's name, offset, type, content length and compression.
 unfoldable pub row_text : ℕ → Head → Option (List ℕ) → ℕ → List ℕ
 row_text at h name n = option_map_or printed_name name (codes "(empty)") ++ tab ++ hexadecimal at
-    ++ tab ++ printed_type h.kind ++ tab ++ decimal h.len ++ tab ++ printed_compression n ++ line_feed
+    ++ tab ++ printed_type h.kind ++ tab ++ decimal h.len ++ tab ++ printed_compression n
+    ++ line_feed
 
 -- free space has no name and no compression
 abbrev pub cell_row : ℕ → List ℕ → List ℕ

@@ -1,3 +1,3 @@
 pub mod BlockLemmas
-pub mod Changing
-pub mod Reported
+pub mod ChangeSteps
+pub mod ReportedBytes

@@ -1,4 +1,4 @@
 pub mod FirstLemmas
-pub mod Reading
+pub mod Reads
 pub mod ListingLemmas
 pub mod ChangeLemmas

@@ -10,7 +10,7 @@ use Rattle.check_findings.specs.Image.RegionAreas.{region_area, region_areas, su
 use Rattle.check_changes.specs.declared.images.Images.{Images}
 use Rattle.check_changes.specs.declared.regions.change.RegionChange.{RegionChange}
 use Rattle.check_changes.specs.Images.{HasReadBoth, OnBoth, lengths}
-use Rattle.check_changes.specs.Regions.RegionChanges.{changes_in, region_changes}
+use Rattle.check_changes.specs.Regions.RegionChanges.{region_changes_in, region_changes}
 use Rattle.check_changes.proofs.ImageLemmas.{both-none, both-then, both-within, OnBoth-before}
 
 module _ {F G : Type 0} (f : F → Device) (g : G → Device) (olds : List NumberedArea) (findings : List ImageFinding) where
@@ -22,7 +22,7 @@ module _ {F G : Type 0} (f : F → Device) (g : G → Device) (olds : List Numbe
     pub all : count + length (region_areas (drop i findings)) ≡ length (region_areas findings)
     pub within : left ≤ (lengths f g old).old
     pub read : HasReadBoth f g (((lengths f g old).old - left + sizes) / 24 + 2 * count) (sizes / 12 + 2 * count) 0 0 old new
-    pub listed : OnBoth f g old (λ x y. changes ++ changes_in left x y olds (region_areas (drop i findings)) ≡ changes_in (length x) x y olds (region_areas findings))
+    pub listed : OnBoth f g old (λ x y. changes ++ region_changes_in left x y olds (region_areas (drop i findings)) ≡ region_changes_in (length x) x y olds (region_areas findings))
 
   pub changing_start : (left : ℕ) (changes : List RegionChange) (images : Images F G) → left ≡ (lengths f g images).old → changes ≡ [] → Changing 0 left changes images images
   changing_start left changes images is none = record {
@@ -42,7 +42,7 @@ module _ {F G : Type 0} (f : F → Device) (g : G → Device) (olds : List Numbe
   -- another finding
   pub changing_more : {i left rest : ℕ} (d : ImageFinding) {changes next : List RegionChange} {old mid new : Images F G} → Changing i left changes old mid → i < length findings → rest ≤ left
       → HasReadBoth f g ((left - rest + sum_sizes (areas_at i d)) / 24 + 2 * length (areas_at i d)) (sum_sizes (areas_at i d) / 12 + 2 * length (areas_at i d)) 0 0 mid new
-      → OnBoth f g mid (λ x y. (later : List NumberedArea) → next ++ changes_in rest x y olds later ≡ changes ++ changes_in left x y olds (areas_at i d ++ later))
+      → OnBoth f g mid (λ x y. (later : List NumberedArea) → next ++ region_changes_in rest x y olds later ≡ changes ++ region_changes_in left x y olds (areas_at i d ++ later))
       → Changing (i + 1) rest next old new
   changing_more {i} {left} {rest} d {changes} {next} {old} had lt fewer read more =
       let here = areas_at i d in
@@ -56,8 +56,8 @@ module _ {F G : Type 0} (f : F → Device) (g : G → Device) (olds : List Numbe
         within = omega (arith, had.within, fewer);
         read = both-within f g _ _ (omega (arith, had.within)) (omega arith) (both-then f g had.read read);
         listed = λ h k.
-            OnBoth-before f g (λ x y. (later : List NumberedArea) → next ++ changes_in rest x y olds later ≡ changes ++ changes_in left x y olds (here ++ later)) had.read more h k later
-            ∙ ap (λ (l : List NumberedArea). changes ++ changes_in left (f old.old_image.device).content (g old.new_image.device).content olds l) (sym split)
+            OnBoth-before f g (λ x y. (later : List NumberedArea) → next ++ region_changes_in rest x y olds later ≡ changes ++ region_changes_in left x y olds (here ++ later)) had.read more h k later
+            ∙ ap (λ (l : List NumberedArea). changes ++ region_changes_in left (f old.old_image.device).content (g old.new_image.device).content olds l) (sym split)
             ∙ had.listed h k;
       }
 
@@ -87,6 +87,6 @@ module _ {F G : Type 0} (f : F → Device) (g : G → Device) (olds : List Numbe
       let x = (f old.old_image.device).content in
       let y = (g old.new_image.device).content in
       sym (append-nil changes)
-      ∙ ap (λ (l : List ImageFinding). changes ++ changes_in left x y olds (region_areas l)) (sym (drop_all i findings end))
+      ∙ ap (λ (l : List ImageFinding). changes ++ region_changes_in left x y olds (region_areas l)) (sym (drop_all i findings end))
       ∙ had.listed h k
-      ∙ ap (λ (l : List NumberedArea). changes_in (length x) x y l (region_areas findings)) are
+      ∙ ap (λ (l : List NumberedArea). region_changes_in (length x) x y l (region_areas findings)) are

@@ -3,4 +3,4 @@ pub mod StartLemmas
 pub mod Regions
 pub mod Fit
 pub mod FitImages
-pub mod Needed
+pub mod Needs

@@ -1,7 +1,7 @@
 pub mod Marks
 pub mod CountLemmas
 pub mod Tails
-pub mod Walked
-pub mod Checking
-pub mod Unshadowed
+pub mod WalkParts
+pub mod WalkSteps
+pub mod Shadows
 pub mod Parts

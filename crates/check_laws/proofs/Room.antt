@@ -14,7 +14,7 @@ use Rattle.cbfs_edit.specs.Runs.{add_run, runs_from}
 use Rattle.cbfs_edit.specs.declared.group.CellRange.{CellRange}
 use Rattle.cbfs_edit.specs.declared.place.Place.{Place}
 use Rattle.check_findings.specs.Region.RegionFindings.{largest_room, usable}
-use Rattle.check_findings.specs.Region.RegionFindings.{all_marked, cells_findings, counts_of, end_findings, marked, region_findings, walk_findings}
+use Rattle.check_findings.specs.Region.RegionFindings.{all_marked, cells_findings, cell_count_findings, end_findings, marked, region_findings, walk_findings}
 use Rattle.check_findings.specs.declared.region.finding.RegionFinding.{RegionFinding}
 use Rattle.check_findings.specs.declared.region.finding.RegionFinding.TheVariants.{Component, LargestContent}
 use Rattle.check_findings.proofs.RegionLemmas.Parts.{IsIn, cell_part, end_part, of_cells, of_end}
@@ -89,7 +89,7 @@ module _ (x : List ℕ) (good : shape_fault x ≡ None) where
   last : List RegionFinding
   last = end_findings x (place_after 0 (cut x).cells) (cut x).end
 
-  whole : region_findings x ≡ all_marked [] (of_all ++ (last ++ counts_of (length x) (cut x).cells))
+  whole : region_findings x ≡ all_marked [] (of_all ++ (last ++ cell_count_findings (length x) (cut x).cells))
   unfolding region_findings walk_findings of_all last
   whole = rw good refl
 
@@ -99,7 +99,7 @@ module _ (x : List ℕ) (good : shape_fault x ≡ None) where
       (stays (room - 28) [] _ (Contains-append_right of_all _ _ (Contains-append_right last _ _ (2, omega arith, rw (le-leb 28 room fits) refl))))
 
   -- the length and 28 bytes are the room
-  by_counts : (m : ℕ) → Contains (counts_of (length x) (cut x).cells) (LargestContent m) → 28 + m ≡ room
+  by_counts : (m : ℕ) → Contains (cell_count_findings (length x) (cut x).cells) (LargestContent m) → 28 + m ≡ room
   by_counts m (zero, below, is) = absurd (grind (arith, nat_tests))
   by_counts m (suc zero, below, is) = absurd cc
   by_counts m (suc (suc zero), below, is) = grind (arith, nat_tests)
@@ -109,11 +109,11 @@ module _ (x : List ℕ) (good : shape_fault x ≡ None) where
   unfolding of_all last
   found m has = go (Contains-append_cases of_all _ _ (was_there m [] _ (subst (λ l. Contains l (LargestContent m)) whole has)))
     where
-      later : Contains last (LargestContent m) ⊎ Contains (counts_of (length x) (cut x).cells) (LargestContent m) → 28 + m ≡ room
+      later : Contains last (LargestContent m) ⊎ Contains (cell_count_findings (length x) (cut x).cells) (LargestContent m) → 28 + m ≡ room
       later (inl there) = absurd (let is : IsIn end_part (LargestContent m) = All-contains (IsIn end_part) last (LargestContent m) (of_end x (place_after 0 (cut x).cells) (cut x).end) there in cc)
       later (inr there) = by_counts m there
 
-      go : Contains of_all (LargestContent m) ⊎ Contains (last ++ counts_of (length x) (cut x).cells) (LargestContent m) → 28 + m ≡ room
+      go : Contains of_all (LargestContent m) ⊎ Contains (last ++ cell_count_findings (length x) (cut x).cells) (LargestContent m) → 28 + m ≡ room
       go (inl there) = absurd (let is : IsIn cell_part (LargestContent m) = All-contains (IsIn cell_part) of_all (LargestContent m) (of_cells 0 (cut x).cells) there in cc)
       go (inr there) = later (Contains-append_cases last _ _ there)
 

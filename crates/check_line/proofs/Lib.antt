@@ -1,3 +1,3 @@
 mod Arguments
-mod Matching
+mod Matches
 mod NeedLemmas

@@ -122,19 +122,19 @@ abbrev pub IsAccepted : Words → Type 0
 IsAccepted words = fault_of check_words (texts words) ≡ []
 
 -- for this reason
-abbrev pub Refuses : ErrorKind → Words → Type 0
-Refuses kind words = IsAmong kind (fault_of check_words (texts words))
+abbrev pub IsRefusedFor : ErrorKind → Words → Type 0
+IsRefusedFor kind words = IsAmong kind (fault_of check_words (texts words))
 
 -- accepted, or refused for another reason
 abbrev pub Spares : ErrorKind → Words → Type 0
 Spares kind words = IsAccepted words
-    ⊎ ((other : ErrorKind) × (other ≢ kind) × Refuses other words)
+    ⊎ ((other : ErrorKind) × (other ≢ kind) × IsRefusedFor other words)
 
 -- clap's matches, or the kind of its error
-abbrev pub Parses : Words → Result ArgMatches ErrorKind → Type 0
-Parses words (Ok matches) = IsAccepted words
+abbrev pub IsParsed : Words → Result ArgMatches ErrorKind → Type 0
+IsParsed words (Ok matches) = IsAccepted words
     × (rows_of (found_of matches) ≡ matches_of check_words (texts words))
-Parses words (Err kind) = (kind ≡ reason.OutOfMemory) ⊎ Refuses kind words
+IsParsed words (Err kind) = (kind ≡ reason.OutOfMemory) ⊎ IsRefusedFor kind words
 
 -- Earlier arguments alone aren't refused for this reason. With this argument, and any number of
 -- later ones, they are.
@@ -142,7 +142,7 @@ pub record IsWrong (kind : ErrorKind) (words : Words) (word : Bor (List ℕ)) : 
   pub n : ℕ
   pub here : slice_get words n ≡ Some word
   pub before : Spares kind (take n words)
-  pub from : (m : ℕ) → n < m → m ≤ length words → Refuses kind (take m words)
+  pub from : (m : ℕ) → n < m → m ≤ length words → IsRefusedFor kind (take m words)
 
 -- an option is `-` and more
 abbrev pub word_fault : ErrorKind → List ℕ → WordFault
@@ -170,7 +170,7 @@ IsInvocation rows asked = ⊥
 
 -- for arguments refused by clap, or with help as the result
 abbrev pub IsRefusal : Words → Result Invocation LineFault → Type 0
-IsRefusal words (Ok Help) = Refuses reason.DisplayHelp words
+IsRefusal words (Ok Help) = IsRefusedFor reason.DisplayHelp words
 IsRefusal words (Err (Word fault word)) = (kind : ErrorKind) × (kind ≢ reason.DisplayHelp)
     × IsWrong kind words word × (fault ≡ word_fault kind word.now)
 IsRefusal words (Err Memory) = ⊤

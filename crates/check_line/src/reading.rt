@@ -1,7 +1,7 @@
 //! Parses the arguments, and finds the wrong argument.
 
 ghost use Rattle.std.specs.Prelude.{◌≡◌, IfOk, MatchBool, option_map};
-ghost use Rattle.check_line.specs.CheckWords.{Answers, IsWrong, Parses, Refuses, Spares};
+ghost use Rattle.check_line.specs.CheckWords.{Answers, IsWrong, IsParsed, IsRefusedFor, Spares};
 ghost use Rattle.check_line.specs.CheckWords.{request_in, word_fault};
 
 use crate::fault::{LineFault, WordFault};
@@ -24,7 +24,7 @@ fn request_in<'a>(words: &'a [&'a str]) -> Option<&'a str>
 
 /// Returns clap's matches, or the kind of its error.
 fn parse<'a>(alloc: Global, words: &'a [&'a str]) -> Result<ArgMatches<'a>, ErrorKind>
-    ensures { Parses words.entry.now result }
+    ensures { IsParsed words.entry.now result }
 {
     let Ok(command) = whole_command(alloc) else {
         return Err(ErrorKind::OutOfMemory);
@@ -37,7 +37,7 @@ fn parse<'a>(alloc: Global, words: &'a [&'a str]) -> Result<ArgMatches<'a>, Erro
 
 /// Returns true if clap refuses the arguments with the kind.
 fn refuses<'a>(alloc: Global, words: &'a [&'a str], kind: ErrorKind) -> Result<bool, AllocError>
-    ensures { IfOk result (λ answer. MatchBool answer (Refuses kind words.entry.now)
+    ensures { IfOk result (λ answer. MatchBool answer (IsRefusedFor kind words.entry.now)
         (Spares kind words.entry.now)) }
 {
     match parse(alloc, words) {
@@ -53,7 +53,7 @@ fn wrong_word<'a>(
     words: &'a [&'a str],
     kind: ErrorKind,
 ) -> Result<&'a str, AllocError>
-    requires { Refuses kind words.now }
+    requires { IsRefusedFor kind words.now }
     ensures { IfOk result (λ word. IsWrong kind words.entry.now word) }
 {
     let mut n = words.len() - 1;

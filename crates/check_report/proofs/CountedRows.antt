@@ -8,7 +8,7 @@ use Rattle.check_report.specs.declared.rows.kinds.Counts.{Counts}
 use Rattle.check_report.specs.declared.rows.row.Verdict.{Verdict}
 use Rattle.check_report.specs.declared.rows.row.Verdict.TheVariants.{Bad, Remark, Change}
 use Rattle.check_report.specs.Rows.Rows.{SeenRow, is_verdict, tallied, verdict_word}
-use Rattle.check_report.specs.Rows.Limits.{SeenKind, count_in, counted, is_of, kind_of}
+use Rattle.check_report.specs.Rows.Limits.{SeenKind, count_in, counted, is_of, row_kind}
 use Rattle.check_report.specs.Laws.{RowsAreCounted}
 
 -- ---- by kind
@@ -17,31 +17,31 @@ parts : (a b xs ys : List ℕ) → (bytes_eq a b && bytes_eq xs ys) ≡ true →
 parts a b xs ys is = (grind (arith, is, bytes_eq-Decides a b), grind (arith, is, bytes_eq-Decides xs ys))
 
 -- a row of the kind is like the rows of the kind
-alike : (k : SeenKind) (r t : SeenRow) → is_of k r ≡ true → is_of k t ≡ is_of (kind_of r) t
+alike : (k : SeenKind) (r t : SeenRow) → is_of k r ≡ true → is_of k t ≡ is_of (row_kind r) t
 alike k r t is = let same = parts (verdict_word k.verdict) (verdict_word r.verdict) k.code r.code is in
     ap₂ (λ v c. bytes_eq v (verdict_word t.verdict) && bytes_eq c t.code) same.0 same.1
 
 same_back : (a b : List ℕ) → bytes_eq a b ≡ bytes_eq b a
 same_back a b = grind (arith, bytes_eq-Decides a b, bytes_eq-Decides b a)
 
-like_back : (r s : SeenRow) → is_of (kind_of r) s ≡ is_of (kind_of s) r
+like_back : (r s : SeenRow) → is_of (row_kind r) s ≡ is_of (row_kind s) r
 like_back r s = ap₂ (λ x y. x && y) (same_back (verdict_word r.verdict) _) (same_back r.code _)
 
-one_more : (ks : List SeenKind) (r row : SeenRow) → count_in (counted ks r) row ≡ count_in ks row + (if is_of (kind_of row) r then 1 else 0)
+one_more : (ks : List SeenKind) (r row : SeenRow) → count_in (counted ks r) row ≡ count_in ks row + (if is_of (row_kind row) r then 1 else 0)
 one_more [] r row = ap (λ b. if b then 1 else 0) (like_back r row) ∙ omega arith
 one_more (k ∷ ks) r row = go (is_of k r) refl (is_of k row) refl (one_more ks r row)
   where
-    go : (b : Bool) → is_of k r ≡ b → (c : Bool) → is_of k row ≡ c → count_in (counted ks r) row ≡ count_in ks row + (if is_of (kind_of row) r then 1 else 0)
-        → count_in (counted (k ∷ ks) r) row ≡ count_in (k ∷ ks) row + (if is_of (kind_of row) r then 1 else 0)
+    go : (b : Bool) → is_of k r ≡ b → (c : Bool) → is_of k row ≡ c → count_in (counted ks r) row ≡ count_in ks row + (if is_of (row_kind row) r then 1 else 0)
+        → count_in (counted (k ∷ ks) r) row ≡ count_in (k ∷ ks) row + (if is_of (row_kind row) r then 1 else 0)
     go true is true here later = rw (is, here, like_back row r ∙ sym (alike k r row is) ∙ here) refl
     go true is false here later = rw (is, here, like_back row r ∙ sym (alike k r row is) ∙ here) (omega arith)
     go false is true here later = rw (is, here, sym (alike k row r here) ∙ is) (omega arith)
     go false is false here later = rw (is, here) later
 
-by_kind : (ks : List SeenKind) (rows : List SeenRow) (row : SeenRow) → count_in (fold counted ks rows) row ≡ count_in ks row + count_by (is_of (kind_of row)) rows
+by_kind : (ks : List SeenKind) (rows : List SeenRow) (row : SeenRow) → count_in (fold counted ks rows) row ≡ count_in ks row + count_by (is_of (row_kind row)) rows
 by_kind ks [] row = omega arith
 by_kind ks (r ∷ rs) row =
-    by_kind (counted ks r) rs row ∙ rw (one_more ks r row, sum_by-cons (λ x. if is_of (kind_of row) x then 1 else 0) r rs) (omega arith)
+    by_kind (counted ks r) rs row ∙ rw (one_more ks r row, sum_by-cons (λ x. if is_of (row_kind row) x then 1 else 0) r rs) (omega arith)
 
 -- ---- by verdict
 

@@ -1,8 +1,8 @@
 mod Tokens
-mod Counting
+mod RowCounts
 mod ReportParts
 mod SoundRows
-mod Printed
+mod PrinterEffects
 pub mod BadRows
 mod ShownRows
 mod CountedRows

@@ -17,13 +17,13 @@ use Rattle.check_report.specs.Rows.Rows.{SeenRow, counts_of, is_bad_row, row_lin
 use Rattle.check_changes.specs.Lists.{only_if}
 use Rattle.check_report.specs.Rows.Limits.{count_in, counted, kinds_of, limited_rows, more_of, seen_kind, shown_after, shown_rows}
 use Rattle.check_report.specs.Rows.Reports.{ending, follows_after, heading, parts, report, rows_text}
-use Rattle.check_report.specs.Rows.Writing.{Adds, Ends, HasPrinted, IsSound, PrintsLines, shown_lines}
-use Rattle.check_report.proofs.Counting.{bad_counts, shown_all, shown_push}
-use Rattle.check_report.proofs.Printed.{printed_both}
+use Rattle.check_report.specs.Rows.Effects.{Adds, Ends, HasPrinted, HasWritten, PrintsLines, shown_lines}
+use Rattle.check_report.proofs.RowCounts.{bad_counts, shown_all, shown_push}
+use Rattle.check_report.proofs.PrinterEffects.{printed_both}
 use Rattle.check_report.proofs.ReportParts.{no_parts, whole}
 
 pub sound_empty : {W : Type 0} (contents : W → Option (List ℕ)) (w : RowWriter W) → w.kinds.items ≡ [] → w.counts ≡ counts_of [] → w.printer.follows ≡ false
-    → IsSound contents w.printer w.is_verbose [] w
+    → HasWritten contents w.printer w.is_verbose [] w
 sound_empty contents w kinds counts follows = record {
   is_verbose = refl;
   kinds = ap (map seen_kind) kinds;
@@ -38,7 +38,7 @@ pub adds_row : {W : Type 0} (contents : W → Option (List ℕ)) (faults : W →
     → Adds contents faults result old new (row ∷ [])
 adds_row contents faults (Err e) old new row verbose kinds counts p = record { added = tt; cause = p.cause }
 adds_row contents faults (Ok u) old new row verbose kinds counts p = record {
-  added = λ start v rows (s : IsSound contents start v rows old).
+  added = λ start v rows (s : HasWritten contents start v rows old).
       let shown : List SeenRow = only_if (v || nat_lt (count_in (kinds_of rows) row) 16) row in
       let lines : shown_lines v (rows ++ row ∷ []) ≡ shown_lines v rows ++ map row_line shown = ap (map row_line) (shown_push v rows row) ∙ map-append row_line (shown_after v [] rows) shown in
       record {
@@ -66,7 +66,7 @@ limited false rows ks is =
 pub sound_end : {W : Type 0} (contents : W → Option (List ℕ)) (w : RowWriter W) (mid out : Printer W)
     → let more = flat_map (λ k. map row_line (more_of (seen_kind k))) (if w.is_verbose then [] else w.kinds.items) in
     HasPrinted contents w.printer mid (parts w.printer.form w.printer.follows more) (follows_after w.printer.follows more)
-    → Appends (contents mid.out) (contents out.out) (ending mid.form w.counts) → (start : Printer W) (v : Bool) (rows : List SeenRow) → IsSound contents start v rows w
+    → Appends (contents mid.out) (contents out.out) (ending mid.form w.counts) → (start : Printer W) (v : Bool) (rows : List SeenRow) → HasWritten contents start v rows w
     → (nat_lt 0 w.counts.bad ≡ list_any is_bad_row (rows ++ [])) × Appends (contents start.out) (contents out.out) (rows_text start.form v (rows ++ []))
 sound_end contents w mid out more end start v rows s =
     let all = printed_both contents start w.printer mid false (shown_lines v rows) _ s.printed (rw s.is_verbose at more) in
@@ -76,7 +76,7 @@ sound_end contents w mid out more end start v rows s =
 -- the heading, the rows and the end are the report
 pub report_text : {W : Type 0} (contents : W → Option (List ℕ)) (faults : W → ℕ) (result : Result Bool WriteFault) (first begun : Printer W) (made last : RowWriter W)
     (verbose : Bool) (files : Files) (list : Option (List Line)) (rows : List SeenRow)
-    → HasPrinted contents first begun (heading first.form files list) false → IsSound contents begun verbose [] made → Ends contents faults result made last rows
+    → HasPrinted contents first begun (heading first.form files list) false → HasWritten contents begun verbose [] made → Ends contents faults result made last rows
     → IfOk result (λ is_bad. is_bad ≡ list_any is_bad_row rows) × OnOk result (Appends (contents first.out) (contents last.printer.out) (report first.form verbose files list rows))
 report_text contents faults (Err e) first begun made last verbose files list rows before sound ends = (tt, tt)
 report_text contents faults (Ok b) first begun made last verbose files list rows before sound ends =

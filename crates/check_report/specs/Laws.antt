@@ -6,7 +6,7 @@ use Rattle.check_findings.specs.Image.Verdicts.{is_bad}
 use Rattle.check_report.specs.declared.request.Asked.{Asked}
 use Rattle.check_report.specs.declared.rows.row.Verdict.TheVariants.{Remark, Change}
 use Rattle.check_report.specs.Rows.Rows.{SeenRow, counts_of, is_bad_row, is_verdict}
-use Rattle.check_report.specs.Rows.Limits.{count_in, is_of, kind_of, kinds_of, shown_rows}
+use Rattle.check_report.specs.Rows.Limits.{count_in, is_of, row_kind, kinds_of, shown_rows}
 use Rattle.check_report.specs.FindingRows.{finding_rows}
 
 -- a row is bad exactly if a finding is bad
@@ -26,7 +26,7 @@ pub record AreCounted (rows : List SeenRow) : Type 0 where
   pub bad : (counts_of rows).bad ≡ count_by is_bad_row rows
   pub remarks : (counts_of rows).remarks ≡ count_by (λ row. is_verdict Remark row.verdict) rows
   pub changes : (counts_of rows).changes ≡ count_by (λ row. is_verdict Change row.verdict) rows
-  pub kinds : (row : SeenRow) → count_in (kinds_of rows) row ≡ count_by (is_of (kind_of row)) rows
+  pub kinds : (row : SeenRow) → count_in (kinds_of rows) row ≡ count_by (is_of (row_kind row)) rows
 
 abbrev pub RowsAreCounted : Type 0
 RowsAreCounted = (rows : List SeenRow) → AreCounted rows

@@ -25,12 +25,12 @@ component_line area at name content = record {
       ∷ [];
 }
 
-abbrev pub component_in : List ℕ → RegionFinding → List Line
-component_in area (Component at name shadowed content) = component_line area at name content ∷ []
-component_in area _ = []
+abbrev pub component_lines : List ℕ → RegionFinding → List Line
+component_lines area (Component at name shadowed content) = component_line area at name content ∷ []
+component_lines area _ = []
 
 abbrev pub components_in : ImageFinding → List Line
-components_in (Region a findings) = flat_map (component_in (area_name a)) findings
+components_in (Region a findings) = flat_map (component_lines (area_name a)) findings
 components_in _ = []
 
 -- the components of the checked areas, in order

@@ -2,4 +2,4 @@ pub mod Fields
 pub mod Rows
 pub mod Limits
 pub mod Reports
-pub mod Writing
+pub mod Effects

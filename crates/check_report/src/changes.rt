@@ -3,7 +3,7 @@ ghost use Rattle.std.specs.Prelude.{◌≡◌, map};
 ghost use Rattle.std.specs.List.{flat_map};
 ghost use Rattle.check_report.specs.Names.{names_in};
 ghost use Rattle.check_report.specs.Rows.Rows.{area_name, seen_row};
-ghost use Rattle.check_report.specs.Rows.Writing.{Adds};
+ghost use Rattle.check_report.specs.Rows.Effects.{Adds};
 ghost use Rattle.check_report.specs.ChangeRows as of;
 
 use crate::areas::{area_change_row, has_change_row, map_change_row, not_compared_row};

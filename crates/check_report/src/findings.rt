@@ -6,7 +6,7 @@ ghost use Rattle.std.specs.Option.{option_map_or};
 ghost use Rattle.check_report.specs.Names.{names_in};
 ghost use Rattle.check_report.specs.Rows.Fields.{dash, name_value, seen_value};
 ghost use Rattle.check_report.specs.Rows.Rows.{of_component, seen_row};
-ghost use Rattle.check_report.specs.Rows.Writing.{Adds};
+ghost use Rattle.check_report.specs.Rows.Effects.{Adds};
 ghost use Rattle.check_report.specs.FindingRows as of;
 
 use crate::fault::WriteFault;

@@ -9,7 +9,7 @@ ghost use Rattle.check_report.specs.Reports.{change_rows, inspection_rows, old_a
 ghost use Rattle.check_report.specs.Lists.{listed};
 ghost use Rattle.check_report.specs.Rows.Reports.{heading, report};
 ghost use Rattle.check_report.specs.Rows.Rows.{is_bad_row};
-ghost use Rattle.check_report.specs.Rows.Writing.{Adds, Ends, Prints};
+ghost use Rattle.check_report.specs.Rows.Effects.{Adds, Ends, Prints};
 
 use crate::changes::{add_area_changes, add_image_changes, add_map_changes, add_region_changes};
 use crate::fault::WriteFault;

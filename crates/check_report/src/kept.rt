@@ -4,7 +4,7 @@ ghost use Rattle.std.specs.List.{flat_map, list_any};
 ghost use Rattle.flash_map.specs.Areas.{has_name};
 ghost use Rattle.check_findings.specs.Image.ImageFindings.{has_one_of};
 ghost use Rattle.check_report.specs.Names.{names_in};
-ghost use Rattle.check_report.specs.Rows.Writing.{Adds};
+ghost use Rattle.check_report.specs.Rows.Effects.{Adds};
 ghost use Rattle.check_report.specs.ChangeRows as of;
 
 use crate::fault::WriteFault;

@@ -1,10 +1,10 @@
 //! The list of components.
 ghost use Rattle.std.specs.Prelude.{◌≡◌, map};
 ghost use Rattle.std.specs.List.{flat_map};
-ghost use Rattle.check_report.specs.Lists.{component_in, component_line, components_in};
+ghost use Rattle.check_report.specs.Lists.{component_lines, component_line, components_in};
 ghost use Rattle.check_report.specs.Lists.{listed};
 ghost use Rattle.check_report.specs.Rows.Fields.{seen_field};
-ghost use Rattle.check_report.specs.Rows.Writing.{PrintsLines};
+ghost use Rattle.check_report.specs.Rows.Effects.{PrintsLines};
 
 use crate::fault::WriteFault;
 use crate::region::hash_words;
@@ -32,7 +32,7 @@ fn list_area<W: Sink + Drop>(
     findings: &[RegionFinding],
 ) -> Result<(), WriteFault>
     ensures { PrintsLines W.contents W.faults result printer.old printer.new
-        (flat_map (component_in area.now) findings.now) }
+        (flat_map (component_lines area.now) findings.now) }
 {
     for finding in findings {
         if let RegionFinding::Component {

@@ -2,7 +2,7 @@
 ghost use Rattle.std.specs.Prelude.{◌≡◌, option_map};
 ghost use Rattle.std.specs.List.{flat_map};
 ghost use Rattle.check_report.specs.Rows.Rows.{seen_row};
-ghost use Rattle.check_report.specs.Rows.Writing.{Adds};
+ghost use Rattle.check_report.specs.Rows.Effects.{Adds};
 ghost use Rattle.check_report.specs.FindingRows as of;
 
 use crate::fault::WriteFault;

@@ -22,7 +22,7 @@ use Rattle.cbfs_walk.specs.declared.walk.Step.TheVariants as steps
 use Rattle.cbfs_walk.specs.declared.walk.WalkFault.TheVariants as walk
 use Rattle.cbfs_walk.proofs.Parts.{range-inner}
 use Rattle.cbfs_walk.proofs.Shapes.{shaped_step}
-use Rattle.check_findings.proofs.RegionLemmas.Walked.{Answers, Reached, reached_answer, reached_more, reached_start}
+use Rattle.check_findings.proofs.RegionLemmas.WalkParts.{Answers, Reached, reached_answer, reached_more, reached_start}
 use Rattle.check_changes.specs.Components.ComponentChanges.{ComponentState, state_of, states}
 use Rattle.check_changes.specs.Components.Listings.{IsListedIn, Lists, cell_states, spans, state_in, states_in}
 use Rattle.check_changes.specs.declared.components.listing.Listed.{Listed}

@@ -27,8 +27,8 @@ abbrev pub pairs : List NumberedArea → List NumberedArea → List AreaPair
 pairs olds news = flat_map (pair_of olds news) news
 
 -- both areas as regions, if their sizes are equal and both lie in their images
-abbrev pub regions_of : Both ℕ → AreaPair → Option (Both Range)
-regions_of lens p = option_and_then (λ (old : NumberedArea).
+abbrev pub pair_regions : Both ℕ → AreaPair → Option (Both Range)
+pair_regions lens p = option_and_then (λ (old : NumberedArea).
     if old.area.size == p.new.area.size then regions_within lens old p.new else None) p.old
 
 -- Inner regions hold a block of outer regions: the shift is equal, and the inner regions contain
@@ -42,7 +42,7 @@ has_block outer number inner =
     (inner.new.start + inner.new.size)))
 
 abbrev pub holds : Both ℕ → Both Range → ℕ → AreaPair → Bool
-holds lens outer number p = option_map_or (has_block outer number) (regions_of lens p) false
+holds lens outer number p = option_map_or (has_block outer number) (pair_regions lens p) false
 
 -- a pair holds the block
 abbrev pub is_held : Both ℕ → List AreaPair → Both Range → ℕ → Bool
@@ -97,8 +97,8 @@ content_changes x y pairs p (Some r) =
     (Differs p.new blocks (blocks_that (is_own_difference x y pairs r) r))
 
 -- the changes of some pairs, with `left` bytes for comparisons
-abbrev pub changes_in : ℕ → List ℕ → List ℕ → List AreaPair → List AreaPair → List AreaChange
-changes_in left x y pairs some = changes_by (regions_of (lengths_of x y))
+abbrev pub area_changes_in : ℕ → List ℕ → List ℕ → List AreaPair → List AreaPair → List AreaChange
+area_changes_in left x y pairs some = changes_by (pair_regions (lengths_of x y))
     (λ p regions. entry_changes p.old p.new ++ content_changes x y pairs p regions) left some
 
 -- the removal of an old area
@@ -110,5 +110,5 @@ gone_of olds news a = only_if (is_reached olds a && is_none (namesake a news)) (
 unfoldable pub area_changes : List ℕ → List NumberedArea → List ℕ → List NumberedArea
     → List AreaChange
 area_changes x olds y news =
-    changes_in (8 * length y) x y (pairs olds news) (pairs olds news)
+    area_changes_in (8 * length y) x y (pairs olds news) (pairs olds news)
     ++ flat_map (gone_of olds news) olds

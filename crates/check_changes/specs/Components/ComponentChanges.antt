@@ -62,9 +62,9 @@ change_by None new = Added new.at new.name ∷ []
 change_by (Some old) new = pair_change (difference old new) old.at new.at new.name
 
 -- the changes of a new component, if no namesake precedes it
-abbrev pub change_of : List ComponentState → List ComponentState → ComponentState
+abbrev pub new_changes : List ComponentState → List ComponentState → ComponentState
     → List ComponentChange
-change_of old new c = if is_first_of new c then change_by (first_of c.name old) c else []
+new_changes old new c = if is_first_of new c then change_by (first_of c.name old) c else []
 
 -- the removal of an old component without a new namesake
 abbrev pub removal_of : List ComponentState → List ComponentState → ComponentState
@@ -74,7 +74,7 @@ removal_of old new c =
 
 -- changes in the order of the new region, then removals in the order of the old region
 unfoldable pub changes_between : List ComponentState → List ComponentState → List ComponentChange
-changes_between old new = flat_map (change_of old new) new ++ flat_map (removal_of old new) old
+changes_between old new = flat_map (new_changes old new) new ++ flat_map (removal_of old new) old
 
 -- the changes from region x to region y
 abbrev pub component_changes : List ℕ → List ℕ → List ComponentChange

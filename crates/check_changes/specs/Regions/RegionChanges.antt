@@ -15,8 +15,8 @@ use Rattle.check_changes.specs.Images.{lengths_of, regions_within}
 use Rattle.check_findings.specs.Lists.{only_if}
 
 -- an area and its first old namesake as regions
-abbrev pub regions_of : Both ℕ → List NumberedArea → NumberedArea → Option (Both Range)
-regions_of lens olds a =
+abbrev pub namesake_regions : Both ℕ → List NumberedArea → NumberedArea → Option (Both Range)
+namesake_regions lens olds a =
     option_and_then (λ (old : NumberedArea). regions_within lens old a) (namesake a olds)
 
 -- the changes of an area's components from an old namesake, by the compared regions
@@ -27,13 +27,13 @@ changes_of x y olds a (Some r) =
     Compared a (component_changes (bytes_in r.old x) (bytes_in r.new y)) ∷ []
 
 -- the changes of some areas, with `left` bytes for comparisons
-abbrev pub changes_in : ℕ → List ℕ → List ℕ → List NumberedArea → List NumberedArea
+abbrev pub region_changes_in : ℕ → List ℕ → List ℕ → List NumberedArea → List NumberedArea
     → List RegionChange
-changes_in left x y olds areas =
-    changes_by (regions_of (lengths_of x y) olds) (changes_of x y olds) left areas
+region_changes_in left x y olds areas =
+    changes_by (namesake_regions (lengths_of x y) olds) (changes_of x y olds) left areas
 
 -- The changes from image x with these areas to image y with these findings. The compared areas of x
 -- have at most as many bytes as x.
 unfoldable pub region_changes : List ℕ → List NumberedArea → List ℕ → List ImageFinding
     → List RegionChange
-region_changes x olds y findings = changes_in (length x) x y olds (region_areas findings)
+region_changes x olds y findings = region_changes_in (length x) x y olds (region_areas findings)

@@ -1,7 +1,7 @@
 //! The changes between areas.
 ghost use Rattle.std.specs.Prelude.{◌≡◌, ◌+◌, ◌-◌, ◌*◌, ◌/◌, ◌≤◌, ◌++◌, length, IfOk, OnOk};
-ghost use Rattle.check_changes.specs.Areas.AreaChanges.{changes_in, compared, content_changes};
-ghost use Rattle.check_changes.specs.Areas.AreaChanges.{entry_changes, left_after, regions_of};
+ghost use Rattle.check_changes.specs.Areas.AreaChanges.{area_changes_in, compared, content_changes};
+ghost use Rattle.check_changes.specs.Areas.AreaChanges.{entry_changes, left_after, pair_regions};
 ghost use Rattle.check_changes.specs.Areas.AreaChanges.{area_changes};
 ghost use Rattle.check_changes.specs.Areas.Blocks.{blocks_of, different_blocks};
 ghost use Rattle.check_changes.specs.Images.{HasCompared, OnBoth, lengths, lengths_of};
@@ -47,11 +47,11 @@ fn push_content_changes<F: Flash, G: Flash>(
     ensures after { HasCompared F.facts G.facts (blocks_of (left.old - left.new))
         images.old images.new result }
     ensures left { left.new ≡ left_after left.old
-        (regions_of (lengths F.facts G.facts images.old) pair.now) }
+        (pair_regions (lengths F.facts G.facts images.old) pair.now) }
     ensures fewer { left.new ≤ left.old }
     ensures changes { OnBoth F.facts G.facts images.old (λ x y. OnOk result (changes.new.items
         ≡ changes.old.items ++ content_changes x y pairs.now pair.now
-        (compared left.old (regions_of (lengths_of x y) pair.now)))) }
+        (compared left.old (pair_regions (lengths_of x y) pair.now)))) }
 {
     let area = pair.new;
     let Some(regions) = taken(left, pair.regions(images.lengths())) else {
@@ -72,7 +72,7 @@ fn push_changes<F: Flash, G: Flash>(
         (8 * (lengths F.facts G.facts images.old).new / 4096 + length pairs.now)
         images.old images.new result }
     ensures changes { OnBoth F.facts G.facts images.old (λ x y. OnOk result (changes.new.items
-        ≡ changes.old.items ++ changes_in (8 * length y) x y pairs.now pairs.now)) }
+        ≡ changes.old.items ++ area_changes_in (8 * length y) x y pairs.now pairs.now)) }
 {
     let mut left = MOST_TIMES * images.lengths().new;
     for pair in pairs {

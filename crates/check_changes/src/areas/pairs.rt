@@ -1,7 +1,7 @@
 //! Pairs of areas.
 ghost use Rattle.std.specs.Prelude.{◌≡◌, ◌+◌, ◌*◌, ◌<◌, ◌≤◌, ◌++◌, ◌^◌, length, IfSome, IfOk, OnOk};
 ghost use Rattle.std.specs.List.{flat_map};
-ghost use Rattle.check_changes.specs.Areas.AreaChanges.{pairs, gone_of, regions_of, is_same_size, holds, is_held};
+ghost use Rattle.check_changes.specs.Areas.AreaChanges.{pairs, gone_of, pair_regions, is_same_size, holds, is_held};
 ghost use Rattle.check_changes.specs.Images.{LieWithin};
 
 use crate::areas::change::AreaChange;
@@ -22,7 +22,7 @@ pub struct AreaPair {
 impl AreaPair {
     /// Returns the areas as regions, if they have one size and lie in images of these lengths.
     pub fn regions(&self, lens: Lengths) -> Option<RegionPair>
-        ensures regions { result ≡ regions_of lens self.now }
+        ensures regions { result ≡ pair_regions lens self.now }
         ensures inside { IfSome result (LieWithin lens) }
         ensures same_size { IfSome result (λ r. r.old.size ≡ r.new.size) }
     {

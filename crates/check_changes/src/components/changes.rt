@@ -1,11 +1,11 @@
 //! The changes between two regions.
 ghost use Rattle.std.specs.Prelude.{◌≡◌, ℕ, ◌++◌, ◌+◌, ◌/◌, All, List, IfOk, OnOk};
 ghost use Rattle.std.specs.List.{flat_map};
-ghost use Rattle.check_changes.specs.Components.ComponentChanges.{change_of, changes_between};
+ghost use Rattle.check_changes.specs.Components.ComponentChanges.{new_changes, changes_between};
 ghost use Rattle.check_changes.specs.Components.ComponentChanges.{component_changes, pair_change};
 ghost use Rattle.check_changes.specs.Components.ComponentChanges.{removal_of};
 ghost use Rattle.check_changes.specs.Components.Listings.{IsListedIn, spans, state_in, states_in};
-ghost use Rattle.check_changes.specs.Components.Pairs.{regions_of};
+ghost use Rattle.check_changes.specs.Components.Pairs.{listed_regions};
 ghost use Rattle.check_changes.specs.Images.{HasCompared, HasReadFor, LieOn, OnBothIn};
 
 use crate::components::change::{ComponentChange, Difference};
@@ -57,13 +57,14 @@ fn push_changes_of<'a, F: Flash, G: Flash>(
     lists: &Listings<'a>,
     listed: &'a Listed,
 ) -> Result<(), ChangeFault>
-    requires regions { LieOn F.facts G.facts images.old (regions_of lists.now) }
+    requires regions { LieOn F.facts G.facts images.old (listed_regions lists.now) }
     requires listed { IsListedIn lists.now.new.region.size listed.now }
 
     ensures after { HasCompared F.facts G.facts (2 + listed.now.cell.span / 4096)
         images.old images.new result }
-    ensures changes { OnBothIn F.facts G.facts images.old (regions_of lists.now) (λ x y. OnOk result
-        (changes.new.items ≡ changes.old.items ++ change_of (states_in x lists.now.old.all.now)
+    ensures changes { OnBothIn F.facts G.facts images.old (listed_regions lists.now)
+        (λ x y. OnOk result
+        (changes.new.items ≡ changes.old.items ++ new_changes (states_in x lists.now.old.all.now)
         (states_in y lists.now.new.all.now) (state_in y listed.now))) }
 {
     if !lists.new.is_first(listed) {
@@ -87,13 +88,14 @@ fn push_changes<'a, F: Flash, G: Flash>(
     images: &mut Images<F, G>,
     lists: &Listings<'a>,
 ) -> Result<(), ChangeFault>
-    requires regions { LieOn F.facts G.facts images.old (regions_of lists.now) }
+    requires regions { LieOn F.facts G.facts images.old (listed_regions lists.now) }
 
     ensures after { HasCompared F.facts G.facts (spans lists.now.new.all.now / 24)
         images.old images.new result }
-    ensures changes { OnBothIn F.facts G.facts images.old (regions_of lists.now) (λ x y. OnOk result
+    ensures changes { OnBothIn F.facts G.facts images.old (listed_regions lists.now)
+        (λ x y. OnOk result
         (changes.new.items ≡ changes.old.items
-        ++ flat_map (change_of (states_in x lists.now.old.all.now)
+        ++ flat_map (new_changes (states_in x lists.now.old.all.now)
         (states_in y lists.now.new.all.now)) (states_in y lists.now.new.all.now))) }
 {
     for listed in lists.new.all {

@@ -3,7 +3,7 @@ ghost use Rattle.std.specs.Prelude.{◌≡◌, ◌+◌, ◌-◌, ◌*◌, ◌/�
 ghost use Rattle.check_findings.specs.Image.RegionAreas.{region_area, region_areas, sum_sizes};
 ghost use Rattle.flash_map.specs.declared.areas.NumberedArea.{NumberedArea};
 ghost use Rattle.check_changes.specs.Images.{HasReadFor, OnBoth, lengths};
-ghost use Rattle.check_changes.specs.Regions.RegionChanges.{changes_in, region_changes};
+ghost use Rattle.check_changes.specs.Regions.RegionChanges.{region_changes_in, region_changes};
 
 use crate::areas::NamedAreas;
 use crate::components::component_changes;
@@ -34,8 +34,8 @@ fn push_changes<'a, F: Flash, G: Flash>(
         + 2 * length (region_area finding.now)) images.old images.new result }
     ensures changes { OnBoth F.facts G.facts images.old (λ x y. OnOk result
         ((rest : List NumberedArea)
-        → changes.new.items ++ changes_in left.new x y olds.now.all.now rest
-        ≡ changes.old.items ++ changes_in left.old x y olds.now.all.now
+        → changes.new.items ++ region_changes_in left.new x y olds.now.all.now rest
+        ≡ changes.old.items ++ region_changes_in left.old x y olds.now.all.now
         (region_area finding.now ++ rest))) }
 {
     let ImageFinding::Region { area, .. } = finding else {

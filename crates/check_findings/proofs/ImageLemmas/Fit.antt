@@ -16,7 +16,7 @@ use Rattle.cbfs_walk.specs.Shapes.{has_bad_size, is_absent, refused_or}
 use Rattle.cbfs_walk.specs.declared.walk.WalkFault.TheVariants as faults
 use Rattle.std.proofs.lemmas.Grind.{common_steps}
 use Rattle.check_findings.specs.Laws.{IsBlankTail}
-use Rattle.check_findings.specs.Region.RegionFindings.{all_marked, cell_findings, cells_findings, component_finding, counts_of, end_findings, marked, region_findings, shape_findings, tail_bytes, tail_findings, walk_findings}
+use Rattle.check_findings.specs.Region.RegionFindings.{all_marked, cell_findings, cells_findings, component_finding, cell_count_findings, end_findings, marked, region_findings, shape_findings, tail_bytes, tail_findings, walk_findings}
 use Rattle.check_findings.specs.declared.region.finding.RegionFinding.{RegionFinding}
 use Rattle.check_findings.specs.declared.region.finding.RegionFinding.TheVariants as findings
 use Rattle.check_findings.proofs.MapLemmas.Sound.{none_of}
@@ -73,7 +73,7 @@ fit_region needs x fit =
     let parts = none_of (is_bad_region needs) (cells_findings 0 (cut x).cells) _ all.1 in
     record {
       shaped = all.0;
-      undamaged = undamaged needs x (place_after 0 (cut x).cells) (cut x).end (counts_of (length x) (cut x).cells) parts.1;
+      undamaged = undamaged needs x (place_after 0 (cut x).cells) (cut x).end (cell_count_findings (length x) (cut x).cells) parts.1;
       intact = intact needs 0 (cut x).cells parts.0;
-      blank = λ is. blank needs (place_after 0 (cut x).cells) x (counts_of (length x) (cut x).cells) (rw is at parts.1);
+      blank = λ is. blank needs (place_after 0 (cut x).cells) x (cell_count_findings (length x) (cut x).cells) (rw is at parts.1);
     }

@@ -9,7 +9,7 @@ use Rattle.std.specs.BTreeMap.{UpdatesBy}
 use Rattle.std.proofs.lemmas.List.Folds.{list_any-append}
 use Rattle.std.proofs.lemmas.Map.Text.{btree_map_updates_str}
 use Rattle.check_findings.specs.declared.image.names.NameSet.{NameSet}
-use Rattle.check_findings.specs.Image.Lookups.{HasNames, has_name as has_key}
+use Rattle.check_findings.specs.Image.Lookups.{HasNames, holds_name}
 use Rattle.flash_map.specs.Areas.{has_name}
 use Rattle.std.specs.Borrow.{Bor}
 use Rattle.std.specs.List.{find, list_any}
@@ -26,7 +26,7 @@ pub has_more : (set : NameSet) (before : List (List ℕ)) (names : List (Bor (Li
 has_more set before names name has = rw (map-append (λ (n : Bor (List ℕ)). n.now) names (name ∷ []), sym (append_assoc before (texts names) (name.now ∷ []))) has
 
 -- another name
-pub one_more : (old new : NameSet) (before : List (List ℕ)) (bs name : List ℕ) (x : Unit {0}) → UpdatesBy (λ x y. slice_cmp nat_cmp x.now y.now) (λ k. slice_cmp nat_cmp bs k.now) old.names new.names (Some x) → has_key old name ≡ list_any (λ n. bytes_eq n name) before → has_key new name ≡ list_any (λ n. bytes_eq n name) (before ++ bs ∷ [])
+pub one_more : (old new : NameSet) (before : List (List ℕ)) (bs name : List ℕ) (x : Unit {0}) → UpdatesBy (λ x y. slice_cmp nat_cmp x.now y.now) (λ k. slice_cmp nat_cmp bs k.now) old.names new.names (Some x) → holds_name old name ≡ list_any (λ n. bytes_eq n name) before → holds_name new name ≡ list_any (λ n. bytes_eq n name) (before ++ bs ∷ [])
 one_more old new before bs name x puts has = grind (arith, common_steps, list_any-append (λ n. bytes_eq n name) before (bs ∷ []), btree_map_updates_str bs old.names new.names (Some x) puts name, has)
 
 -- a finding for another name

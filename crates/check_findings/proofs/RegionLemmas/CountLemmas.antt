@@ -6,8 +6,8 @@ use Rattle.flash_format.specs.Head.{head_of, is_free}
 use Rattle.flash_format.specs.Components.{components_from}
 use Rattle.check_findings.specs.declared.region.count.Count.{Count}
 use Rattle.check_findings.specs.declared.region.finding.RegionFinding.{RegionFinding}
-use Rattle.check_findings.specs.Region.RegionFindings.{count_findings, counts_of}
-use Rattle.check_findings.specs.Region.Reports.{counted}
+use Rattle.check_findings.specs.Region.RegionFindings.{count_findings, cell_count_findings}
+use Rattle.check_findings.specs.Region.Reports.{counts_at_end}
 use Rattle.check_findings.specs.Region.RegionFindings.{free_bytes, largest_room}
 use Rattle.check_findings.specs.Region.Reports.{nothing, count_after}
 
@@ -19,9 +19,9 @@ pub count_more : (n : Count) (at : ℕ) (x : List ℕ) (cells : List (List ℕ))
 unfolding components_from free_bytes largest_room
 count_more n at x cells = grind (arith, common_steps)
 
-pub count_none : (n : Count) (at : ℕ) → count_all n at [] ≡ counted n at
+pub count_none : (n : Count) (at : ℕ) → count_all n at [] ≡ counts_at_end n at
 unfolding components_from free_bytes largest_room
 count_none n at = grind (arith, common_steps)
 
-pub count_whole : (size : ℕ) (cells : List (List ℕ)) → count_all (nothing size) 0 cells ≡ counts_of size cells
+pub count_whole : (size : ℕ) (cells : List (List ℕ)) → count_all (nothing size) 0 cells ≡ cell_count_findings size cells
 count_whole size cells = grind (arith, common_steps)

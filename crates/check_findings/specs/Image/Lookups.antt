@@ -11,12 +11,12 @@ use Rattle.check_findings.specs.declared.image.names.NameSet.{NameSet}
 use Rattle.check_findings.specs.declared.image.starts.Starts.{Starts}
 use Rattle.check_findings.specs.Image.ImageFindings.{begins_at}
 
-abbrev pub has_name : NameSet → List ℕ → Bool
-has_name set name = is_some (get_by (λ k. slice_cmp nat_cmp name k.now) set.names)
+abbrev pub holds_name : NameSet → List ℕ → Bool
+holds_name set name = is_some (get_by (λ k. slice_cmp nat_cmp name k.now) set.names)
 
 -- the set has exactly these names
 abbrev pub HasNames : NameSet → List (List ℕ) → Type 0
-HasNames set names = (name : List ℕ) → has_name set name ≡ list_any (λ n. bytes_eq n name) names
+HasNames set names = (name : List ℕ) → holds_name set name ≡ list_any (λ n. bytes_eq n name) names
 
 -- the table has a size below `size` at `at`
 abbrev pub is_below : Starts → ℕ → ℕ → Bool

@@ -120,8 +120,8 @@ count_findings components free room =
     ∷ (if nat_le 28 room then findings.LargestContent (room - 28) else findings.NoRoom) ∷ []
 
 -- of the counts in a region of this size
-abbrev pub counts_of : ℕ → List (List ℕ) → List RegionFinding
-counts_of size cells =
+abbrev pub cell_count_findings : ℕ → List (List ℕ) → List RegionFinding
+cell_count_findings size cells =
     count_findings (length (components_from 0 cells)) (free_bytes cells)
     (largest_room size 0 0 cells)
 
@@ -133,7 +133,7 @@ walk_findings x =
     refused_or shape_findings (shape_fault x)
     (cells_findings 0 (cut x).cells
     ++ (end_findings x (place_after 0 (cut x).cells) (cut x).end
-    ++ counts_of (length x) (cut x).cells))
+    ++ cell_count_findings (length x) (cut x).cells))
 
 -- ---- shadowed components
 

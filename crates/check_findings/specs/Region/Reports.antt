@@ -25,8 +25,8 @@ abbrev pub IsCountBefore : ℕ → Count → Type 0
 IsCountBefore at n = (n.components ≤ at) × (n.free ≤ at)
 
 -- the findings of the counts, if the entries end here
-abbrev pub counted : Count → ℕ → List RegionFinding
-counted n end = count_findings n.components n.free (room_to n end)
+abbrev pub counts_at_end : Count → ℕ → List RegionFinding
+counts_at_end n end = count_findings n.components n.free (room_to n end)
 
 -- ---- marks
 

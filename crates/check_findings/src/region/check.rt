@@ -89,15 +89,15 @@ fn walk_region<F: Flash>(
             }
             Ok(Step::Tail(_)) => {
                 push_tail(paged, region, at, &mut findings)?;
-                return Ok(count.counted(findings, at)?);
+                return Ok(count.counts_at_end(findings, at)?);
             }
             Ok(Step::End) => {
                 findings.push(RegionFinding::Complete)?;
-                return Ok(count.counted(findings, size)?);
+                return Ok(count.counts_at_end(findings, size)?);
             }
             Err(WalkFault::Damaged { at, kind }) => {
                 findings.push(RegionFinding::Damaged { at, kind })?;
-                return Ok(count.counted(findings, at)?);
+                return Ok(count.counts_at_end(findings, at)?);
             }
             Err(WalkFault::RegionShape) => {
                 findings.push(RegionFinding::BadSize)?;

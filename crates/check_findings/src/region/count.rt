@@ -24,7 +24,8 @@ pub struct Count {
 }
 
 impl Count {
-    ghost use Rattle.check_findings.specs.Region.Reports.{IsCountBefore, count_after, counted};
+    ghost use Rattle.check_findings.specs.Region.Reports.{IsCountBefore, count_after};
+    ghost use Rattle.check_findings.specs.Region.Reports.{counts_at_end};
     ghost use Rattle.check_findings.specs.Region.Reports.{nothing, room_to};
 
     pub fn new(size: u64) -> Count
@@ -66,12 +67,12 @@ impl Count {
     }
 
     /// Returns all findings, if the entries with these findings end here.
-    pub fn counted(
+    pub fn counts_at_end(
         self,
         findings: Vec<RegionFinding>,
         end: u64,
     ) -> Result<Vec<RegionFinding>, AllocError>
-        ensures { IfOk result (λ all. all.items ≡ findings.items ++ counted self end) }
+        ensures { IfOk result (λ all. all.items ≡ findings.items ++ counts_at_end self end) }
     {
         let mut findings = findings;
         findings.push(match self.components {

@@ -19,8 +19,8 @@ abbrev pub seen_kind : Kind → SeenKind
 seen_kind kind = record { verdict = kind.verdict; code = kind.code.now; count = kind.count }
 
 -- of the first row of a kind
-abbrev pub kind_of : SeenRow → SeenKind
-kind_of row = record { verdict = row.verdict; code = row.code; count = 1 }
+abbrev pub row_kind : SeenRow → SeenKind
+row_kind row = record { verdict = row.verdict; code = row.code; count = 1 }
 
 abbrev pub is_of : SeenKind → SeenRow → Bool
 is_of kind row = is_verdict kind.verdict row.verdict && bytes_eq kind.code row.code
@@ -32,7 +32,7 @@ count_in (kind ∷ kinds) row = if is_of kind row then kind.count else count_in 
 
 -- the kinds after another row
 abbrev pub counted : List SeenKind → SeenRow → List SeenKind
-counted [] row = kind_of row ∷ []
+counted [] row = row_kind row ∷ []
 counted (kind ∷ kinds) row =
     if is_of kind row then record kind { count = kind.count + 1 } ∷ kinds
     else (kind ∷ counted kinds row)

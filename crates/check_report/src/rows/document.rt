@@ -13,7 +13,7 @@ ghost use Rattle.check_report.specs.Rows.Fields.{bytes_json, name_json};
 ghost use Rattle.check_report.specs.Rows.Fields.{seen_field};
 ghost use Rattle.check_report.specs.Rows.Reports.{between, ending, file_fields, member_tokens};
 ghost use Rattle.check_report.specs.Rows.Reports.{parts, starting};
-ghost use Rattle.check_report.specs.Rows.Writing.{AddsTokens};
+ghost use Rattle.check_report.specs.Rows.Effects.{AddsTokens};
 
 use crate::request::Files;
 use crate::rows::field::{Field, Value};

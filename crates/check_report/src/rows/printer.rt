@@ -2,7 +2,7 @@
 ghost use Rattle.std.specs.Prelude.{◌≡◌, ◌∷◌, [], false, map, IfOk};
 ghost use Rattle.check_report.specs.Rows.Fields.{seen_field};
 ghost use Rattle.check_report.specs.Rows.Reports.{between, ending, parts, starting};
-ghost use Rattle.check_report.specs.Rows.Writing.{Prints, PrintsLines};
+ghost use Rattle.check_report.specs.Rows.Effects.{Prints, PrintsLines};
 
 use crate::fault::WriteFault;
 use crate::request::Files;

@@ -4,7 +4,7 @@ ghost use Rattle.std.specs.List.{flat_map};
 ghost use Rattle.check_changes.specs.Lists.{only_if};
 ghost use Rattle.check_report.specs.Rows.Limits.{more_of, more_row, seen_kind};
 ghost use Rattle.check_report.specs.Rows.Rows.{row_line, seen_row};
-ghost use Rattle.check_report.specs.Rows.Writing.{Adds, Ends, IsSound, PrintsLines};
+ghost use Rattle.check_report.specs.Rows.Effects.{Adds, Ends, HasWritten, PrintsLines};
 
 use crate::fault::WriteFault;
 use crate::rows::kinds::{Counts, Kind, count_row};
@@ -65,7 +65,8 @@ impl<W: Sink + Drop> Printer<W> {
 
 impl<W: Sink + Drop> RowWriter<W> {
     pub fn new(alloc: Global, printer: Printer<W>, is_verbose: bool) -> RowWriter<W>
-        ensures sound { printer.follows ≡ false → IsSound W.contents printer is_verbose [] result }
+        ensures sound { printer.follows ≡ false
+            → HasWritten W.contents printer is_verbose [] result }
         ensures printer { result.printer ≡ printer }
     {
         RowWriter {

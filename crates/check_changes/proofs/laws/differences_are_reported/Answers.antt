@@ -1,4 +1,4 @@
-use Rattle.check_changes.proofs.AreaLemmas.Reported.{reported}
+use Rattle.check_changes.proofs.AreaLemmas.ReportedBytes.{reported}
 use Rattle.check_changes.proofs.laws.differences_are_reported.Goals as goal
 
 pub returns : goal.returns

@@ -1,4 +1,4 @@
-use Rattle.check_laws.proofs.Telling.{whole_region}
+use Rattle.check_laws.proofs.AreaOutputs.{whole_region}
 use Rattle.check_laws.proofs.laws.fit_regions_are_listed.Goals as goal
 
 pub returns : goal.returns

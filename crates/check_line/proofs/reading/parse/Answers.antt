@@ -1,6 +1,6 @@
 use Rattle.std.proofs.Common.{◌≡◌, []}
 use Rattle.clap.specs.Words.{HasKind}
-use Rattle.check_line.proofs.Matching.{by_faults, matched}
+use Rattle.check_line.proofs.Matches.{by_faults, matched}
 use Rattle.check_line.proofs.reading.parse.Goals as goal
 
 pub returns-in-Ok-try_get_matches_from : goal.returns-in-Ok-try_get_matches_from

@@ -1,8 +1,8 @@
 use Rattle.std.proofs.Common.{◌≡◌, rules, arith, inl, subst, sym}
 use Rattle.std.proofs.lemmas.List.{take_all}
 use Rattle.std.proofs.lemmas.Option.{slice_get-get_or}
-use Rattle.check_line.specs.CheckWords.{Refuses}
-use Rattle.check_line.proofs.Matching.{empty_is_accepted, some_word}
+use Rattle.check_line.specs.CheckWords.{IsRefusedFor}
+use Rattle.check_line.proofs.Matches.{empty_is_accepted, some_word}
 use Rattle.check_line.proofs.reading.wrong_word.Goals.{then-loop-n-test+in_ok-refuses+else-branch, else-loop-n-test}
 use Rattle.check_line.proofs.reading.wrong_word.Goals as goal
 
@@ -12,7 +12,7 @@ overflow_sub-n c = omega (arith, some_word c.args.kind c.args.words.now c.requir
 pub loop-n-init : goal.loop-n-init
 loop-n-init c = record {
   within = omega (arith, some_word c.args.kind c.args.words.now c.requires);
-  after = λ m more within. subst (λ ws. Refuses c.args.kind ws) (sym (take_all m c.args.words.now (omega (arith, more)))) c.requires;
+  after = λ m more within. subst (λ ws. IsRefusedFor c.args.kind ws) (sym (take_all m c.args.words.now (omega (arith, more)))) c.requires;
 }
 
 pub returns : goal.returns

@@ -1,11 +1,11 @@
 use Rattle.std.proofs.Common.{ℕ, ◌<◌, ◌≤◌, length, take}
-use Rattle.check_line.specs.CheckWords.{Refuses}
+use Rattle.check_line.specs.CheckWords.{IsRefusedFor}
 use Rattle.check_line.proofs.reading.wrong_word.Given as goal
 
 abbrev pub invariant-loop-n : goal.invariant-loop-n
 invariant-loop-n l = record {
   within : l.n < length l.words;
-  after : (m : ℕ) → l.n < m → m ≤ length l.words → Refuses l.kind (take m l.words);
+  after : (m : ℕ) → l.n < m → m ≤ length l.words → IsRefusedFor l.kind (take m l.words);
 }
 
 abbrev pub decreases-loop-n : goal.decreases-loop-n

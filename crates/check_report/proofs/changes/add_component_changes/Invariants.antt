@@ -1,6 +1,6 @@
 use Rattle.std.proofs.Common.{Ok, map, take}
 use Rattle.check_report.specs.Rows.Rows.{area_name}
-use Rattle.check_report.specs.Rows.Writing.{Adds}
+use Rattle.check_report.specs.Rows.Effects.{Adds}
 use Rattle.check_report.specs.ChangeRows.{component_change_row}
 use Rattle.check_report.proofs.changes.add_component_changes.Given as goal
 

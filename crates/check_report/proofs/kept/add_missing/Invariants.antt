@@ -1,6 +1,6 @@
 use Rattle.std.proofs.Common.{Ok, ◌++◌, map, take}
 use Rattle.std.specs.List.{flat_map}
-use Rattle.check_report.specs.Rows.Writing.{Adds}
+use Rattle.check_report.specs.Rows.Effects.{Adds}
 use Rattle.check_report.specs.ChangeRows.{missing_if}
 use Rattle.check_report.proofs.kept.add_missing.Given as goal
 

@@ -1,9 +1,9 @@
 use Rattle.std.proofs.Common.{Ok, take}
 use Rattle.std.specs.List.{flat_map}
-use Rattle.check_report.specs.Lists.{component_in}
-use Rattle.check_report.specs.Rows.Writing.{PrintsLines}
+use Rattle.check_report.specs.Lists.{component_lines}
+use Rattle.check_report.specs.Rows.Effects.{PrintsLines}
 use Rattle.check_report.proofs.list.list_area.Given as goal
 
 abbrev pub invariant-loop-finding : goal.invariant-loop-finding
 invariant-loop-finding g l = PrintsLines g.W.Sink.contents g.W.Sink.faults (Ok tt) l.initial.printer l.printer
-    (flat_map (component_in l.area) (take l.finding-index l.findings))
+    (flat_map (component_lines l.area) (take l.finding-index l.findings))

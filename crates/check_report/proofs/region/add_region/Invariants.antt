@@ -1,6 +1,6 @@
 use Rattle.std.proofs.Common.{Ok, take}
 use Rattle.std.specs.List.{flat_map}
-use Rattle.check_report.specs.Rows.Writing.{Adds}
+use Rattle.check_report.specs.Rows.Effects.{Adds}
 use Rattle.check_report.specs.FindingRows.{region_rows}
 use Rattle.check_report.proofs.region.add_region.Given as goal
 

@@ -1,6 +1,6 @@
 use Rattle.check_changes.specs.Components.ComponentChanges.{changes_between}
 use Rattle.flash_device.specs.Regions.{bytes_in}
-use Rattle.check_changes.proofs.AreaLemmas.Changing.{pushed-both}
+use Rattle.check_changes.proofs.AreaLemmas.ChangeSteps.{pushed-both}
 use Rattle.check_changes.proofs.ImageLemmas.{both-handed}
 use Rattle.check_changes.proofs.components.changes.list_changes.Goals as goal
 

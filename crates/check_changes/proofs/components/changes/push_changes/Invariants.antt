@@ -1,7 +1,7 @@
 use Rattle.std.proofs.Common.{◌≡◌, ◌++◌, ◌/◌, take, drop}
 use Rattle.std.specs.List.{flat_map}
-use Rattle.check_changes.specs.Components.ComponentChanges.{change_of}
-use Rattle.check_changes.specs.Components.Pairs.{regions_of}
+use Rattle.check_changes.specs.Components.ComponentChanges.{new_changes}
+use Rattle.check_changes.specs.Components.Pairs.{listed_regions}
 use Rattle.check_changes.specs.Components.Listings.{spans, states_in}
 use Rattle.check_changes.specs.Images.{HasReadBoth, OnBothIn}
 use Rattle.check_changes.proofs.components.changes.push_changes.Given as goal
@@ -15,7 +15,7 @@ invariant-loop-listed g l =
     let n = spans (take l.listed-index new) / 24 in
     record {
       read : HasReadBoth f k n n 0 0 l.initial.images l.images;
-      changes : OnBothIn f k l.initial.images (regions_of l.lists) (λ x y.
-          l.changes.items ++ flat_map (change_of (states_in x old) (states_in y new)) (states_in y (drop l.listed-index new))
-          ≡ l.initial.changes.items ++ flat_map (change_of (states_in x old) (states_in y new)) (states_in y new));
+      changes : OnBothIn f k l.initial.images (listed_regions l.lists) (λ x y.
+          l.changes.items ++ flat_map (new_changes (states_in x old) (states_in y new)) (states_in y (drop l.listed-index new))
+          ≡ l.initial.changes.items ++ flat_map (new_changes (states_in x old) (states_in y new)) (states_in y new));
     }

@@ -1,4 +1,4 @@
-use Rattle.check_changes.proofs.AreaLemmas.Changing.{flat_map-all, flat_map-more}
+use Rattle.check_changes.proofs.AreaLemmas.ChangeSteps.{flat_map-all, flat_map-more}
 use Rattle.check_changes.proofs.components.changes.push_removed.Goals as goal
 
 pub loop-listed-preserved : goal.loop-listed-preserved

@@ -1,7 +1,7 @@
 use Rattle.std.proofs.Common.{◌≡◌, arith}
 use Rattle.flash_device.proofs.DeviceLemmas.{length-bytes_in}
 use Rattle.check_changes.specs.Areas.AreaChanges.{is_difference}
-use Rattle.check_changes.proofs.ComponentLemmas.Reading.{differ-all, same-all, same-more}
+use Rattle.check_changes.proofs.ComponentLemmas.Reads.{differ-all, same-all, same-more}
 use Rattle.check_changes.proofs.ImageLemmas.{both-then, OnBoth-before}
 use Rattle.check_changes.proofs.components.comparison.same_bytes.Goals as goal
 

@@ -1,5 +1,5 @@
 use Rattle.check_changes.specs.Images.{HasReadBoth, OnBothIn}
-use Rattle.check_changes.proofs.ComponentLemmas.Reading.{AreSame}
+use Rattle.check_changes.proofs.ComponentLemmas.Reads.{AreSame}
 use Rattle.check_changes.proofs.components.comparison.same_bytes.Given as goal
 
 abbrev pub invariant-loop-number : goal.invariant-loop-number

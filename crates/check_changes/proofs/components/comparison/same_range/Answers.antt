@@ -1,5 +1,5 @@
 use Rattle.std.proofs.Common.{◌-◌, arith}
-use Rattle.check_changes.proofs.ComponentLemmas.Reading.{bytes_in-part}
+use Rattle.check_changes.proofs.ComponentLemmas.Reads.{bytes_in-part}
 use Rattle.check_changes.proofs.components.comparison.same_range.Goals as goal
 
 pub returns-clause-same : goal.returns-clause-same

@@ -1,6 +1,6 @@
 use Rattle.std.proofs.Common.{◌+◌, ap, refl, rules, sym, ◌∙◌}
 use Rattle.cbfs_walk.specs.Walks.{Walking}
-use Rattle.check_findings.proofs.RegionLemmas.Checking.{checking_start, checking_more, checking_end, checking_tail, checking_damage, checking_size, checking_absent}
+use Rattle.check_findings.proofs.RegionLemmas.WalkSteps.{checking_start, checking_more, checking_end, checking_tail, checking_damage, checking_size, checking_absent}
 use Rattle.check_findings.proofs.region.check.walk_region.Goals as goal
 
 pub returns-in-Ok-End-clause-after : goal.returns-in-Ok-End-clause-after
@@ -25,17 +25,17 @@ pub returns-in-Ok-Tail-clause-findings : goal.returns-in-Ok-Tail-clause-findings
 returns-in-Ok-Tail-clause-findings g c =
     let is = c.in-Ok-Tail.field-0-is in
     checking_tail g.F.Flash.facts c.args.region c.loop-cell.walk c.loop-cell.findings.items c.loop-cell.count _ _ c.requires c.loop-cell.invariant.0 _ c.loop-cell.at _ _ _ _ (rw is at c.in-Ok-Tail.ensures.answer) c.loop-cell.invariant.1
-    (rw is at c.in-Ok-Tail.ensures.after) c.in_ok-push_tail-in-Ok-Tail.ensures.found c.in_ok-counted-in-Ok-Tail.ensures
+    (rw is at c.in-Ok-Tail.ensures.after) c.in_ok-push_tail-in-Ok-Tail.ensures.found c.in_ok-counts_at_end-in-Ok-Tail.ensures
 
 pub returns-in-Ok-End-clause-findings : goal.returns-in-Ok-End-clause-findings
 returns-in-Ok-End-clause-findings g c =
     checking_end g.F.Flash.facts c.args.region c.loop-cell.walk c.loop-cell.findings.items c.loop-cell.count _ _ c.requires c.loop-cell.invariant.0 c.size-size.result _ _ (rw c.in-Ok-End.field-0-is at c.in-Ok-End.ensures.answer) c.size-size.ensures
-    c.in_ok-push-in-Ok-End.ensures.items c.in_ok-counted-in-Ok-End.ensures
+    c.in_ok-push-in-Ok-End.ensures.items c.in_ok-counts_at_end-in-Ok-End.ensures
 
 pub returns-in-Err-Damaged-clause-findings : goal.returns-in-Err-Damaged-clause-findings
 returns-in-Err-Damaged-clause-findings g c =
     checking_damage g.F.Flash.facts c.args.region c.loop-cell.walk c.loop-cell.findings.items c.loop-cell.count _ _ c.requires c.loop-cell.invariant.0 _ _ _ _ (rw c.in-Err-Damaged.field-0-is at c.in-Err-Damaged.ensures.answer)
-    (rw (c.in-Err-Damaged.at-is, c.in-Err-Damaged.kind-is) at c.in_ok-push-in-Err-Damaged.ensures.items) (rw c.in-Err-Damaged.at-is at c.in_ok-counted-in-Err-Damaged.ensures)
+    (rw (c.in-Err-Damaged.at-is, c.in-Err-Damaged.kind-is) at c.in_ok-push-in-Err-Damaged.ensures.items) (rw c.in-Err-Damaged.at-is at c.in_ok-counts_at_end-in-Err-Damaged.ensures)
 
 pub returns-in-Err-RegionShape-clause-findings : goal.returns-in-Err-RegionShape-clause-findings
 returns-in-Err-RegionShape-clause-findings g c =

@@ -1,5 +1,5 @@
 use Rattle.std.proofs.Common.{◌≡◌, ◌-◌}
-use Rattle.check_findings.proofs.RegionLemmas.Checking.{Checking}
+use Rattle.check_findings.proofs.RegionLemmas.WalkSteps.{Checking}
 use Rattle.check_findings.proofs.region.check.walk_region.Given as goal
 
 abbrev pub invariant-loop-cell : goal.invariant-loop-cell

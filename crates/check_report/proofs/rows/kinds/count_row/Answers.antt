@@ -1,6 +1,6 @@
 use Rattle.std.proofs.Common.{◌≡◌, ◌∙◌, ◌<◌, length, ap, arith, sym}
 use Rattle.std.proofs.lemmas.List.{get_or_default}
-use Rattle.check_report.proofs.Counting.{found_kinds, passed_more}
+use Rattle.check_report.proofs.RowCounts.{found_kinds, passed_more}
 use Rattle.check_report.proofs.rows.kinds.count_row.Goals as goal
 
 pub loop-i-preserved : goal.loop-i-preserved

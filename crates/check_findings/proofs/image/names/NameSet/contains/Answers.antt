@@ -1,7 +1,7 @@
 use Rattle.std.proofs.Common.{◌∙◌, ap}
 use Rattle.flash_format.specs.Flashmap.{text_of}
-use Rattle.check_findings.specs.Image.Lookups.{has_name}
+use Rattle.check_findings.specs.Image.Lookups.{holds_name}
 use Rattle.check_findings.proofs.image.names.NameSet.contains.Goals as goal
 
 pub returns : goal.returns
-returns c = λ names has. c.contains_key.ensures ∙ ap (has_name c.args.self.now) c.text.ensures.value ∙ has (text_of c.args.area.now.area.name)
+returns c = λ names has. c.contains_key.ensures ∙ ap (holds_name c.args.self.now) c.text.ensures.value ∙ has (text_of c.args.area.now.area.name)

@@ -1,7 +1,7 @@
 use Rattle.std.proofs.Common.{map, refl}
 use Rattle.check_report.specs.Rows.Limits.{more_of, seen_kind}
 use Rattle.check_report.specs.Rows.Rows.{row_line}
-use Rattle.check_report.proofs.Printed.{prints_none, prints_then}
+use Rattle.check_report.proofs.PrinterEffects.{prints_none, prints_then}
 use Rattle.check_report.proofs.rows.printer.Printer.more.Goals as goal
 
 pub loop-kind-init : goal.loop-kind-init

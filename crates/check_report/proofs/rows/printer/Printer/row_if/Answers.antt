@@ -1,4 +1,4 @@
-use Rattle.check_report.proofs.Printed.{prints_none}
+use Rattle.check_report.proofs.PrinterEffects.{prints_none}
 use Rattle.check_report.proofs.rows.printer.Printer.row_if.Goals as goal
 
 pub returns-else-is_shown : goal.returns-else-is_shown

@@ -18,7 +18,7 @@ use Rattle.check_changes.specs.declared.areas.change.AreaChange.{AreaChange}
 use Rattle.check_changes.specs.declared.areas.pairs.AreaPair.{AreaPair}
 use Rattle.check_changes.specs.declared.images.Both.{Both}
 use Rattle.check_changes.specs.Areas.Blocks.{blocks_of, block, differs, count_below}
-use Rattle.check_changes.specs.Areas.AreaChanges.{pairs, regions_of, holds, is_held, is_difference, is_own_difference, blocks_that, compared, content_changes, left_after, entry_changes, changes_in, gone_of, area_changes}
+use Rattle.check_changes.specs.Areas.AreaChanges.{pairs, pair_regions, holds, is_held, is_difference, is_own_difference, blocks_that, compared, content_changes, left_after, entry_changes, area_changes_in, gone_of, area_changes}
 use Rattle.check_changes.specs.Areas.Laws.{has_byte, reports, DifferAt, DifferencesAreReported}
 
 -- ---- one block
@@ -61,21 +61,21 @@ module _ (x y : List ℕ) (all : List AreaPair) where
   ranges old new = record { old = range_of old; new = range_of new }
 
   abbrev pair_changes : ℕ → AreaPair → List AreaChange
-  pair_changes left p = entry_changes p.old p.new ++ content_changes x y all p (compared left (regions_of (lengths_of x y) p))
+  pair_changes left p = entry_changes p.old p.new ++ content_changes x y all p (compared left (pair_regions (lengths_of x y) p))
 
   changes_in-reports : (at left : ℕ) (ps : List AreaPair) (p : AreaPair) → Contains ps p → ((left : ℕ) → list_any (reports at) (pair_changes left p) ≡ true)
-      → list_any (reports at) (changes_in left x y all ps) ≡ true
+      → list_any (reports at) (area_changes_in left x y all ps) ≡ true
   changes_in-reports at left [] p (k, lt, is) here = absurd (omega (arith, lt))
   changes_in-reports at left (q ∷ ps) p (zero, lt, is) here =
       any-left (reports at) (pair_changes left q) _ (subst (λ (q : AreaPair). list_any (reports at) (pair_changes left q) ≡ true) (sym is) (here left))
   changes_in-reports at left (q ∷ ps) p (suc k, lt, is) here =
-      any-right (reports at) (pair_changes left q) _ (changes_in-reports at (left_after left (regions_of (lengths_of x y) q)) ps p (k, omega (arith, lt), is) here)
+      any-right (reports at) (pair_changes left q) _ (changes_in-reports at (left_after left (pair_regions (lengths_of x y) q)) ps p (k, omega (arith, lt), is) here)
 
   content-reports : (at left : ℕ) (old new : NumberedArea) → old.area.size ≡ new.area.size → has_byte new at ≡ true → 0 < blocks_that (is_difference x y (ranges old new)) (ranges old new) → 0 < blocks_that (is_own_difference x y all (ranges old new)) (ranges old new) → (fits : Bool)
       → list_any (reports at) (content_changes x y all (pair old new) (if fits then Some (ranges old new) else None)) ≡ true
   content-reports at left old new same has some own fits = grind (arith, nat_tests)
 
-  regions_of-same : (old new : NumberedArea) → old.area.size ≡ new.area.size → area_end old.area ≤ length x → area_end new.area ≤ length y → regions_of (lengths_of x y) (pair old new) ≡ Some (ranges old new)
+  regions_of-same : (old new : NumberedArea) → old.area.size ≡ new.area.size → area_end old.area ≤ length x → area_end new.area ≤ length y → pair_regions (lengths_of x y) (pair old new) ≡ Some (ranges old new)
   regions_of-same old new same in_old in_new = grind (arith, nat_tests)
 
   -- smaller areas that hold a block
@@ -107,7 +107,7 @@ module _ (x y : List ℕ) (all : List AreaPair) where
   }
 
   abbrev IsReported : ℕ → Type 0
-  IsReported at = list_any (reports at) (changes_in (8 * length y) x y all all) ≡ true
+  IsReported at = list_any (reports at) (area_changes_in (8 * length y) x y all all) ≡ true
 
   -- a different byte in smaller areas is in a reported area
   abbrev AreReportedBelow : ℕ → Type 0
@@ -154,4 +154,4 @@ pub reported : DifferencesAreReported
 unfolding area_changes
 reported x y olds news old new i one d =
     let all = pairs olds news in
-    any-left (reports (new.area.offset + i)) (changes_in (8 * length y) x y all all) (flat_map (gone_of olds news) olds) (reported_below x y all (suc new.area.size) old new i one (omega arith) d)
+    any-left (reports (new.area.offset + i)) (area_changes_in (8 * length y) x y all all) (flat_map (gone_of olds news) olds) (reported_below x y all (suc new.area.size) old new i one (omega arith) d)

@@ -21,12 +21,12 @@ use Rattle.cbfs_walk.proofs.Shapes.{shaped_step}
 use Rattle.flash_format.specs.Head.{head_of, is_free}
 use Rattle.flash_format.specs.declared.head.DamageKind.{DamageKind}
 use Rattle.check_findings.specs.Region.Reports.{IsCountBefore, nothing, count_after}
-use Rattle.check_findings.specs.Region.RegionFindings.{cell_findings, cells_findings, counts_of, end_findings, tail_findings, shape_findings, walk_findings}
-use Rattle.check_findings.specs.Region.Reports.{counted}
+use Rattle.check_findings.specs.Region.RegionFindings.{cell_findings, cells_findings, cell_count_findings, end_findings, tail_findings, shape_findings, walk_findings}
+use Rattle.check_findings.specs.Region.Reports.{counts_at_end}
 use Rattle.check_findings.specs.declared.region.finding.RegionFinding.{RegionFinding}
 use Rattle.check_findings.specs.declared.region.finding.RegionFinding.TheVariants as findings
 use Rattle.check_findings.specs.declared.region.count.Count.{Count}
-use Rattle.check_findings.proofs.RegionLemmas.Walked.{Answers, Reached, reached_answer, reached_more, reached_start}
+use Rattle.check_findings.proofs.RegionLemmas.WalkParts.{Answers, Reached, reached_answer, reached_more, reached_start}
 use Rattle.check_findings.proofs.RegionLemmas.CountLemmas.{count_all, count_more, count_none, count_whole}
 
 -- ---- by the cut
@@ -65,7 +65,7 @@ whole_findings : (x : List ℕ) → walk_findings x ≡ findings_from x (nothing
 unfolding findings_from fault_findings walk_findings reading_of cut_findings last
 whole_findings x = go (shape_fault x)
   where
-    go : (o : Option WalkFault) → refused_or shape_findings o (cells_findings 0 (cut x).cells ++ last x (cut x).end (place_after 0 (cut x).cells) (counts_of (length x) (cut x).cells)) ≡ refused_or fault_findings o (cut_findings x 0 (cut x)) (nothing (length x))
+    go : (o : Option WalkFault) → refused_or shape_findings o (cells_findings 0 (cut x).cells ++ last x (cut x).end (place_after 0 (cut x).cells) (cell_count_findings (length x) (cut x).cells)) ≡ refused_or fault_findings o (cut_findings x 0 (cut x)) (nothing (length x))
     go None = ap (λ (m : List RegionFinding). cells_findings 0 (cut x).cells ++ last x (cut x).end (place_after 0 (cut x).cells) m) (sym (count_whole (length x) (cut x).cells))
     go (Some fault) = refl
 
@@ -139,33 +139,33 @@ module _ {F : Type 0} (facts : F → Device) (r : Range) (w : Walking) (found : 
       is_all ∙ sym ((answered a answer other h).1 ∙ ap (λ (l : List RegionFinding). found ++ l) is)
 
   -- the last findings and the counts
-  with_counts : (more next all : List RegionFinding) (end : ℕ) → next ≡ found ++ more → all ≡ next ++ counted count end → all ≡ found ++ (more ++ counted count end)
-  with_counts more next all end pushed is_all = is_all ∙ ap (λ (l : List RegionFinding). l ++ counted count end) pushed ∙ append_assoc found more (counted count end)
+  with_counts : (more next all : List RegionFinding) (end : ℕ) → next ≡ found ++ more → all ≡ next ++ counts_at_end count end → all ≡ found ++ (more ++ counts_at_end count end)
+  with_counts more next all end pushed is_all = is_all ∙ ap (λ (l : List RegionFinding). l ++ counts_at_end count end) pushed ∙ append_assoc found more (counts_at_end count end)
 
-  pub checking_end : (end : ℕ) (next all : List RegionFinding) → Answers facts w now (Ok steps.End) → end ≡ r.size → next ≡ found ++ findings.Complete ∷ [] → all ≡ next ++ counted count end
+  pub checking_end : (end : ℕ) (next all : List RegionFinding) → Answers facts w now (Ok steps.End) → end ≡ r.size → next ≡ found ++ findings.Complete ∷ [] → all ≡ next ++ counts_at_end count end
       → IsTrue (facts old.device).honest → all ≡ walk_findings x
   unfolding findings_by cut_findings cells_findings last
   checking_end end next all answer place pushed is_all =
       let same : end ≡ length x = place ∙ sym (length-bytes_in r (facts old.device).content lies.inside) in
-      stopped (Ok steps.End) (findings.Complete ∷ counted count end) all answer (λ e. cc) (with_counts (findings.Complete ∷ []) next all end pushed is_all)
-      (ap (λ m. findings.Complete ∷ m) (count_none count (length x)) ∙ ap (λ p. findings.Complete ∷ counted count p) (sym same))
+      stopped (Ok steps.End) (findings.Complete ∷ counts_at_end count end) all answer (λ e. cc) (with_counts (findings.Complete ∷ []) next all end pushed is_all)
+      (ap (λ m. findings.Complete ∷ m) (count_none count (length x)) ∙ ap (λ p. findings.Complete ∷ counts_at_end count p) (sym same))
 
   pub checking_tail : (at here n : ℕ) (mid : Pages F) (next all : List RegionFinding) → Answers facts w now (Ok (steps.Tail at)) → here ≡ w.at → HasRead facts n 0 now mid
-      → OnHonestIn facts mid.device r (λ y. next ≡ found ++ tail_findings here y) → all ≡ next ++ counted count here → IsTrue (facts old.device).honest → all ≡ walk_findings x
+      → OnHonestIn facts mid.device r (λ y. next ≡ found ++ tail_findings here y) → all ≡ next ++ counts_at_end count here → IsTrue (facts old.device).honest → all ≡ walk_findings x
   unfolding findings_by cut_findings cells_findings last
   checking_tail at here n mid next all answer place reads pushed is_all h =
       let k = honest_still i.reached.read.device.calls.same_honesty h in
       let content : (facts mid.device).content ≡ (facts old.device).content = reads.device.unchanged k ∙ i.reached.read.device.unchanged h in
       let same : at ≡ here = tail_place x w.at at (answered (Ok (steps.Tail at)) answer (λ e. cc) h).0 ∙ sym place in
-      stopped (Ok (steps.Tail at)) (tail_findings here x ++ counted count here) all answer (λ e. cc)
+      stopped (Ok (steps.Tail at)) (tail_findings here x ++ counts_at_end count here) all answer (λ e. cc)
       (with_counts (tail_findings here x) next all here (rw content at (pushed (honest_still reads.device.calls.same_honesty k))) is_all)
-      (ap (λ m. tail_findings at x ++ m) (count_none count at) ∙ ap (λ p. tail_findings p x ++ counted count p) same) h
+      (ap (λ m. tail_findings at x ++ m) (count_none count at) ∙ ap (λ p. tail_findings p x ++ counts_at_end count p) same) h
 
-  pub checking_damage : (at : ℕ) (kind : DamageKind) (next all : List RegionFinding) → Answers facts w now (Err (walk.Damaged at kind)) → next ≡ found ++ findings.Damaged at kind ∷ [] → all ≡ next ++ counted count at
+  pub checking_damage : (at : ℕ) (kind : DamageKind) (next all : List RegionFinding) → Answers facts w now (Err (walk.Damaged at kind)) → next ≡ found ++ findings.Damaged at kind ∷ [] → all ≡ next ++ counts_at_end count at
       → IsTrue (facts old.device).honest → all ≡ walk_findings x
   unfolding findings_by cut_findings cells_findings last
   checking_damage at kind next all answer pushed is_all =
-      stopped (Err (walk.Damaged at kind)) (findings.Damaged at kind ∷ counted count at) all answer (λ e. cc) (with_counts (findings.Damaged at kind ∷ []) next all at pushed is_all) (ap (λ m. findings.Damaged at kind ∷ m) (count_none count at))
+      stopped (Err (walk.Damaged at kind)) (findings.Damaged at kind ∷ counts_at_end count at) all answer (λ e. cc) (with_counts (findings.Damaged at kind ∷ []) next all at pushed is_all) (ap (λ m. findings.Damaged at kind ∷ m) (count_none count at))
 
   pub checking_size : (all : List RegionFinding) → Answers facts w now (Err walk.RegionShape) → all ≡ found ++ findings.BadSize ∷ [] → IsTrue (facts old.device).honest → all ≡ walk_findings x
   unfolding findings_by fault_findings

@@ -10,7 +10,7 @@ use Rattle.std.proofs.lemmas.Grind.{flat_map-append}
 use Rattle.check_report.specs.declared.rows.printer.Printer.{Printer}
 use Rattle.check_report.specs.Rows.Fields.{Line}
 use Rattle.check_report.specs.Rows.Reports.{follows_after, parts}
-use Rattle.check_report.specs.Rows.Writing.{HasPrinted, PrintsLines}
+use Rattle.check_report.specs.Rows.Effects.{HasPrinted, PrintsLines}
 use Rattle.check_report.proofs.ReportParts.{no_parts, parts_append}
 
 pub printed_both : {W : Type 0} (contents : W → Option (List ℕ)) (old mid new : Printer W) (b : Bool) (xs ys : List Line)

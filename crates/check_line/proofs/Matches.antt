@@ -4,7 +4,7 @@ use Rattle.clap.proofs.OnLiterals.{clap_on_literals}
 use Rattle.clap.specs.Words.{App, HasMatchesOf, IsAmong, Kinds, fault_of, found_of, is_simple, is_simple_and_free, matches_of, rows_of}
 use Rattle.clap.specs.declared.error.kind.ErrorKind.{ErrorKind}
 use Rattle.clap.specs.declared.parser.matches.ArgMatches.{ArgMatches}
-use Rattle.check_line.specs.CheckWords.{IsAccepted, Refuses, check_words, texts}
+use Rattle.check_line.specs.CheckWords.{IsAccepted, IsRefusedFor, check_words, texts}
 
 simple : is_simple_and_free check_words ≡ true
 unfolding clap_on_literals
@@ -32,6 +32,6 @@ matched a words m shape matches =
     (matches (ap (λ (a : App). is_simple a) shape ∙ simple_shape)).0
     ∙ ap (λ (a : App). matches_of a words) shape
 
-pub some_word : (k : ErrorKind) (words : List (Bor (List ℕ))) → Refuses k words → 0 < length words
+pub some_word : (k : ErrorKind) (words : List (Bor (List ℕ))) → IsRefusedFor k words → 0 < length words
 some_word k [] among = absurd (subst (λ (kinds : Kinds). IsAmong k kinds) empty_is_accepted among)
 some_word k (w ∷ ws) among = omega arith

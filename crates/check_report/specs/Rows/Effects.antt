@@ -50,7 +50,7 @@ abbrev pub shown_lines : Bool → List SeenRow → List Line
 shown_lines is_verbose rows = map row_line (shown_after is_verbose [] rows)
 
 -- The writer's kinds, counts and printed lines since the start are correct for these rows.
-pub record IsSound {W : Type 0} (contents : W → Option (List ℕ)) (start : Printer W)
+pub record HasWritten {W : Type 0} (contents : W → Option (List ℕ)) (start : Printer W)
     (verbose : Bool) (rows : List SeenRow) (writer : RowWriter W) : Type 0 where
   pub is_verbose : writer.is_verbose ≡ verbose
   pub kinds : map seen_kind writer.kinds.items ≡ kinds_of rows
@@ -64,8 +64,8 @@ pub record Adds {W : Type 0} (contents : W → Option (List ℕ)) (faults : W �
     (result : Result (Unit {0}) WriteFault) (old new : RowWriter W) (more : List SeenRow)
     : Type 0 where
   pub added : OnOk result ((start : Printer W) (verbose : Bool) (rows : List SeenRow)
-      → IsSound contents start verbose rows old
-      → IsSound contents start verbose (rows ++ more) new)
+      → HasWritten contents start verbose rows old
+      → HasWritten contents start verbose (rows ++ more) new)
   pub cause : faults old.printer.out + fault_count by_sink result ≤ faults new.printer.out
 
 -- A successful call prints all rows, more rows and the ending, and tells whether a row is bad.
@@ -73,7 +73,7 @@ pub record Ends {W : Type 0} (contents : W → Option (List ℕ)) (faults : W �
     (result : Result Bool WriteFault) (old new : RowWriter W) (more : List SeenRow) : Type 0
   where
     pub ended : IfOk result (λ is_bad. (start : Printer W) (verbose : Bool)
-        (rows : List SeenRow) → IsSound contents start verbose rows old
+        (rows : List SeenRow) → HasWritten contents start verbose rows old
         → (is_bad ≡ list_any is_bad_row (rows ++ more)) ×
         Appends (contents start.out) (contents new.printer.out)
         (rows_text start.form verbose (rows ++ more)))

@@ -14,7 +14,7 @@ use Rattle.cbfs_walk.specs.Shapes.{refused_or}
 use Rattle.cbfs_walk.specs.CellReadings.{place_after}
 use Rattle.cbfs_walk.specs.declared.walk.WalkFault.{WalkFault}
 use Rattle.check_findings.specs.Laws.{UnshadowedAreFound}
-use Rattle.check_findings.specs.Region.RegionFindings.{all_marked, component_finding, cells_findings, counts_of, end_findings, is_named, shape_findings, region_findings, walk_findings}
+use Rattle.check_findings.specs.Region.RegionFindings.{all_marked, component_finding, cells_findings, cell_count_findings, end_findings, is_named, shape_findings, region_findings, walk_findings}
 use Rattle.check_findings.specs.declared.region.finding.RegionFinding.{RegionFinding}
 use Rattle.check_findings.specs.declared.region.finding.RegionFinding.TheVariants.{Deleted}
 
@@ -67,7 +67,7 @@ module _ (c : Component) where
 pub unshadowed_found : UnshadowedAreFound
 unfolding region_findings walk_findings component_in IsFirst
 unshadowed_found x c good listed none =
-    let last = end_findings x (place_after 0 (cut x).cells) (cut x).end ++ counts_of (length x) (cut x).cells in
+    let last = end_findings x (place_after 0 (cut x).cells) (cut x).end ++ cell_count_findings (length x) (cut x).cells in
     let all = cells_findings 0 (cut x).cells ++ last in
     let first = unshadowed c [] last 0 (cut x).cells listed
     (λ there. none (subst (λ (o : Option WalkFault). Contains (all_marked [] (refused_or shape_findings o all)) (component_finding true c)) (sym good) there)) in

@@ -5,7 +5,7 @@ use Rattle.flash_device.specs.Device.{Device}
 use Rattle.check_changes.specs.declared.areas.change.AreaChange.{AreaChange}
 use Rattle.check_changes.specs.declared.areas.pairs.AreaPair.{AreaPair}
 use Rattle.check_changes.specs.declared.images.Images.{Images}
-use Rattle.check_changes.specs.Areas.AreaChanges.{changes_in, compared, content_changes, entry_changes, left_after, regions_of}
+use Rattle.check_changes.specs.Areas.AreaChanges.{area_changes_in, compared, content_changes, entry_changes, left_after, pair_regions}
 use Rattle.check_changes.specs.Images.{HasReadBoth, OnBoth, lengths, lengths_of}
 use Rattle.check_changes.proofs.ImageLemmas.{OnBoth-before}
 use Rattle.std.proofs.Math.Seq.{drop-cons}
@@ -27,19 +27,19 @@ flat_map-all f h xs i before all end is = sym (append-nil before) ∙ ap (λ l. 
 -- another pair
 module _ {F G : Type 0} (f : F → Device) (g : G → Device) (pairs : List AreaPair) where
   pub changes_in-more : {i m n rest : ℕ} (left : ℕ) (d : AreaPair) (before : List AreaChange) {mid after : List AreaChange} {old now : Images F G} (all : List ℕ → List ℕ → List AreaChange) → i < length pairs
-      → HasReadBoth f g m n 0 0 old now → OnBoth f g old (λ x y. before ++ changes_in left x y pairs (drop i pairs) ≡ all x y)
-      → mid ≡ before ++ entry_changes (get_or pairs i d).old (get_or pairs i d).new → rest ≡ left_after left (regions_of (lengths f g now) (get_or pairs i d))
-      → OnBoth f g now (λ x y. after ≡ mid ++ content_changes x y pairs (get_or pairs i d) (compared left (regions_of (lengths_of x y) (get_or pairs i d))))
-      → OnBoth f g old (λ x y. after ++ changes_in rest x y pairs (drop (i + 1) pairs) ≡ all x y)
+      → HasReadBoth f g m n 0 0 old now → OnBoth f g old (λ x y. before ++ area_changes_in left x y pairs (drop i pairs) ≡ all x y)
+      → mid ≡ before ++ entry_changes (get_or pairs i d).old (get_or pairs i d).new → rest ≡ left_after left (pair_regions (lengths f g now) (get_or pairs i d))
+      → OnBoth f g now (λ x y. after ≡ mid ++ content_changes x y pairs (get_or pairs i d) (compared left (pair_regions (lengths_of x y) (get_or pairs i d))))
+      → OnBoth f g old (λ x y. after ++ area_changes_in rest x y pairs (drop (i + 1) pairs) ≡ all x y)
   changes_in-more {i} {m} {n} {rest} left d before {mid} {after} {old} {now} all lt read so_far entered less pushed = λ h k.
       let p = get_or pairs i d in
       let x = (f old.old_image.device).content in
       let y = (g old.new_image.device).content in
       let here = entry_changes p.old p.new in
-      let content = content_changes x y pairs p (compared left (regions_of (lengths_of x y) p)) in
-      let later = changes_in rest x y pairs (drop (i + 1) pairs) in
-      let told = OnBoth-before f g (λ x y. (rest ≡ left_after left (regions_of (lengths_of x y) p)) × (after ≡ mid ++ content_changes x y pairs p (compared left (regions_of (lengths_of x y) p)))) read (λ h k. (less, pushed h k)) h k in
-      let split : changes_in left x y pairs (drop i pairs) ≡ (here ++ content) ++ later = rw (told.0, add-one, drop-cons pairs i d lt) refl in
+      let content = content_changes x y pairs p (compared left (pair_regions (lengths_of x y) p)) in
+      let later = area_changes_in rest x y pairs (drop (i + 1) pairs) in
+      let told = OnBoth-before f g (λ x y. (rest ≡ left_after left (pair_regions (lengths_of x y) p)) × (after ≡ mid ++ content_changes x y pairs p (compared left (pair_regions (lengths_of x y) p)))) read (λ h k. (less, pushed h k)) h k in
+      let split : area_changes_in left x y pairs (drop i pairs) ≡ (here ++ content) ++ later = rw (told.0, add-one, drop-cons pairs i d lt) refl in
       rw (told.1, entered, append_assoc before here content, append_assoc before (here ++ content) later, ← split) (so_far h k)
 
 -- two lists, one after the other
