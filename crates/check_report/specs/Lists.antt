@@ -2,13 +2,14 @@
 use Rattle.std.specs.Prelude.{ℕ, List, [], ◌∷◌}
 use Rattle.std.specs.List.{flat_map}
 use lib.Chars.{codes}
+use Rattle.flash_format.specs.Texts.{printed_compression, printed_type}
 use Rattle.check_findings.specs.declared.region.finding.Content.{Content}
 use Rattle.check_findings.specs.declared.region.finding.RegionFinding.{RegionFinding}
 use Rattle.check_findings.specs.declared.region.finding.RegionFinding.TheVariants.{Component}
 use Rattle.check_findings.specs.declared.image.finding.ImageFinding.{ImageFinding}
 use Rattle.check_findings.specs.declared.image.finding.ImageFinding.TheVariants.{Region}
 use Rattle.check_report.specs.Rows.Fields.{Line, count_value, name_value, offset_value}
-use Rattle.check_report.specs.Rows.Fields.{printed_compression, printed_type, text_value}
+use Rattle.check_report.specs.Rows.Fields.{text_value}
 use Rattle.check_report.specs.Rows.Rows.{area_name}
 use Rattle.check_report.specs.FindingRows.{hash_words}
 

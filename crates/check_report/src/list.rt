@@ -11,17 +11,25 @@ use crate::region::hash_words;
 use crate::rows::{Field, Printer, Value};
 use check_findings::{Content, ImageFinding, RegionFinding};
 use flash_device::Sink;
+use flash_format::{compression_name, type_name};
 
 fn component_fields<'a>(area: &'a [u8], at: u64, name: &'a [u8], content: Content) -> [Field<'a>; 7]
     ensures { map seen_field result ≡ (component_line area.now at name.now content).fields }
 {
+    let compression = compression_name(content.compression);
     [
         ("area", Value::Name(area)),
         ("component", Value::Name(name)),
         ("position", Value::Offset(at)),
-        ("type", Value::of_type(content.kind)),
+        (
+            "type",
+            Value::name_or(type_name(content.kind), content.kind),
+        ),
         ("length", Value::Count(u64::from(content.len))),
-        ("compression", Value::of_compression(content.compression)),
+        (
+            "compression",
+            Value::name_or(compression, content.compression),
+        ),
         ("hash", Value::Text(hash_words(content.hash).1)),
     ]
 }

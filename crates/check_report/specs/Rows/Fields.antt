@@ -1,5 +1,5 @@
 -- Fields as text and JSON. This project defines the text.
-use Rattle.std.specs.Prelude.{ℕ, List, [], ◌∷◌, ◌++◌, Option, Some, None, map, ◌==◌, unwrap_or}
+use Rattle.std.specs.Prelude.{ℕ, List, [], ◌∷◌, ◌++◌, Option, Some, None, map}
 use Rattle.std.specs.Prelude.{if◌then◌else◌}
 use Rattle.std.specs.List.{flat_map}
 use Rattle.std.specs.Option.{option_map_or}
@@ -9,7 +9,6 @@ use lib.Chars.{codes}
 use Rattle.json.specs.Json.{Json, number, string, array, object, Items, no_items, item, Members}
 use Rattle.json.specs.Json.{no_members, member}
 use Rattle.flash_format.specs.Texts.{hexadecimal, printed_name, tab, line_feed}
-use Rattle.flash_format.specs.TypeNames.{name_of_type}
 use Rattle.check_report.specs.declared.rows.field.Value.{Value}
 use Rattle.check_report.specs.declared.rows.field.Value.TheVariants as values
 use Rattle.std.specs.Borrow.{Bor}
@@ -64,15 +63,6 @@ seen_value (values.Name name) = name_value name.now
 seen_value (values.Count n) = count_value n
 seen_value (values.Offset n) = offset_value n
 seen_value (values.Hexadecimal n) = text_value (hexadecimal n)
-
--- the name of a type, or else its number
-unfoldable pub printed_type : ℕ → List ℕ
-printed_type kind = unwrap_or (name_of_type kind) (hexadecimal kind)
-
--- the name of a compression, or else its number
-unfoldable pub printed_compression : ℕ → List ℕ
-printed_compression n = if n == 0 then codes "none"
-    else (if n == 1 then codes "LZMA" else (if n == 2 then codes "LZ4" else hexadecimal n))
 
 -- ---- fields
 

@@ -1,10 +1,8 @@
 //! The fields of a line.
-ghost use Rattle.std.specs.Prelude.{◌≡◌};
-ghost use Rattle.std.specs.Option.{option_copied, option_map_or};
-ghost use Rattle.check_report.specs.Rows.Fields as of;
+ghost use Rattle.std.specs.Prelude.{◌≡◌, unwrap_or};
+ghost use Rattle.std.specs.Option.{option_copied};
+ghost use Rattle.flash_format.specs.Texts.{hexadecimal};
 ghost use Rattle.check_report.specs.Rows.Fields.{seen_value, text_value};
-
-use flash_format::type_name;
 
 #[derive(Clone, Copy)]
 pub enum Value<'a> {
@@ -30,27 +28,14 @@ pub enum Value<'a> {
 pub type Field<'a> = (&'static str, Value<'a>);
 
 impl<'a> Value<'a> {
-    /// Returns the name of a type, or else its number.
-    #[tactic(auto, unfolding(crate::specs::Rows::Fields::printed_type))]
-    pub fn of_type(kind: u32) -> Value<'a>
-        ensures { seen_value result ≡ text_value (of.printed_type kind) }
+    /// Returns a name, or else a number.
+    pub fn name_or(name: Option<&'a str>, number: u32) -> Value<'a>
+        ensures { seen_value result
+            ≡ text_value (unwrap_or (option_copied name.entry) (hexadecimal number)) }
     {
-        match type_name(kind) {
+        match name {
             Some(name) => Value::Text(name),
-            None => Value::Hexadecimal(u64::from(kind)),
-        }
-    }
-
-    /// Returns the name of a compression, or else its number.
-    #[tactic(auto, unfolding(crate::specs::Rows::Fields::printed_compression))]
-    pub fn of_compression(compression: u32) -> Value<'a>
-        ensures { seen_value result ≡ text_value (of.printed_compression compression) }
-    {
-        match compression {
-            0 => Value::Text("none"),
-            1 => Value::Text("LZMA"),
-            2 => Value::Text("LZ4"),
-            _ => Value::Hexadecimal(u64::from(compression)),
+            None => Value::Hexadecimal(u64::from(number)),
         }
     }
 }
