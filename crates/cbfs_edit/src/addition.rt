@@ -249,7 +249,6 @@ fn is_bad_type(kind: u32) -> bool
     kind == 0 || kind == 0xffff_ffff
 }
 
-/// Returns the length of the digest's attribute.
 fn attribute_len(hash: HashChoice) -> usize
     ensures is { (content : List ℕ) → result ≡ hash_len (digest_of hash content) }
     ensures short { result ≤ 76 }

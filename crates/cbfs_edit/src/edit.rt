@@ -61,7 +61,6 @@ pub fn apply_all<F: Flash, S: Source>(
     }
 }
 
-/// Applies an edit.
 fn apply<F: Flash, S: Source>(paged: &mut Paged<F>, region: Region, edit: &mut Edit<'_, S>) -> Reply
     requires { LiesOn region (F.facts paged.old.device) }
 

@@ -148,7 +148,6 @@ impl<'a> Line<'a> {
         }
     }
 
-    /// Returns the requested content offset.
     fn spot(&self) -> Option<Spot>
         ensures { result ≡ spot_by (option_text (codes "alignment") self.now)
             (option_text (codes "base") self.now) }
@@ -179,7 +178,6 @@ fn creation<'a>(list: &'a str) -> Result<Command<'a>, Refusal>
     Ok(Command::Create { regions })
 }
 
-/// Splits a list at the first comma, if any.
 fn first_name<'a>(list: &'a str) -> (&'a str, Option<&'a str>)
     ensures names { split_names list.entry.now ≡ result.0.now ∷ names_of result.1 }
     ensures shorter { IfSome result.1 (λ rest. length rest.now < length list.entry.now) }
@@ -199,7 +197,6 @@ fn refusal_of(error: Error) -> Refusal
     }
 }
 
-/// Converts matches with a subcommand.
 fn line_of<'a>(image: &'a str, mut matches: ArgMatches<'a>) -> Line<'a>
     requires { has_subcommand matches ≡ true }
     ensures { Some result

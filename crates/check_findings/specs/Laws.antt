@@ -47,8 +47,6 @@ Nest a b = ((area_end a ≤ b.offset) ⊎ (area_end b ≤ a.offset)) ⊎ (Holds 
 abbrev pub HoldsMap : FoundMap → Area → Type 0
 HoldsMap map area = (area.offset ≤ map.at) × (map.at + map_len map.head ≤ area_end area)
 
--- The map has the image's size, and no later map exists. Each area lies inside the image, has a
--- text name that finds the area, and nests with each area. The first area `FMAP` contains the map.
 pub record IsSound (image : List ℕ) (map : FoundMap) : Type 0 where
   pub found : found_in image ≡ Some map
   pub size : map.head.size ≡ length image
@@ -61,7 +59,6 @@ pub record IsSound (image : List ℕ) (map : FoundMap) : Type 0 where
   pub held : IsSomeAnd (find (has_name (codes "FMAP")) (map_areas image map))
       (λ a. HoldsMap map a.area)
 
--- a map without other findings is sound
 abbrev pub CleanMapsAreSound : Type 0
 CleanMapsAreSound = (image : List ℕ) (map : FoundMap)
     → map_findings image ≡ of_map.Map map ∷ [] → IsSound image map
@@ -98,14 +95,12 @@ LosesNothing x = (c : Component) → Contains (components x) c → component_in 
 abbrev pub IsIntact : Component → Type 0
 IsIntact c = (stored : Digest) → hash_state c.attributes c.content ≢ Invalid stored
 
--- a good size, a first entry, no damaged entry, intact components, and a blank tail, if any
 pub record IsWhole (x : List ℕ) : Type 0 where
   pub shaped : shape_fault x ≡ None
   pub undamaged : (kind : DamageKind) → (cut x).end ≢ damage kind
   pub intact : All IsIntact (components x)
   pub blank : (cut x).end ≡ tail → IsBlankTail (place_after 0 (cut x).cells) x
 
--- a command finds the area by name, and the area is whole and loses nothing
 pub record IsFit (image : List ℕ) (a : NumberedArea) : Type 0 where
   pub reached : region_of image (text_of a.area.name) ≡ Ok (range_of a)
   pub whole : IsWhole (bytes_of image a)

@@ -47,7 +47,6 @@ pub struct CheckLine<'a> {
     pub needs: Vec<Need<'a>>,
 }
 
-/// Splits a list at its commas.
 fn names_of<'a>(alloc: Global, list: &'a str) -> Result<Vec<&'a [u8]>, AllocError>
     ensures { IfOk result (λ names. texts names.items ≡ parts_of (Some list.entry.now)) }
 {
@@ -76,7 +75,6 @@ fn names_given<'a>(alloc: Global, list: Option<&'a str>) -> Result<Vec<&'a [u8]>
     Ok(names)
 }
 
-/// Splits a list at the first comma, if any.
 fn first_part<'a>(list: &'a str) -> (&'a str, Option<&'a str>)
     ensures parts { parts_of (Some list.entry.now)
         ≡ result.0.now ∷ parts_of (option_map (λ t. t.now) result.1) }
@@ -110,7 +108,6 @@ fn needs_given<'a>(alloc: Global, list: Option<&'a str>) -> Result<Vec<Need<'a>>
     Ok(needs)
 }
 
-/// Returns an option's value or a path.
 fn text<'a>(matches: &ArgMatches<'a>, id: &str) -> Option<&'a str>
     ensures { option_map (λ t. t.now) result ≡ first_of id.now (rows_of (found_of matches.now)) }
 {

@@ -18,7 +18,6 @@ fn place_of(offset: &str) -> Option<NeededPlace>
     read_number(offset).map(|number| NeededPlace::At(u64::from(number)))
 }
 
-/// Splits at the last `@`.
 fn split_at_last<'a>(text: &'a str) -> Option<(&'a str, &'a str)>
     ensures { option_map (λ parts. (parts.0.now, parts.1.now)) result
         ≡ split_last text.entry.now }

@@ -7,7 +7,6 @@ ghost use Rattle.check_line.specs.CheckWords.{check_words, flag, long_option, sh
 use clap::{Arg, ArgAction, Command};
 use std::alloc::{AllocError, Global};
 
-/// Returns the option `-C VALUE`.
 fn short<'a>(alloc: Global, letter: char, id: &'a str) -> Arg<'a>
     ensures rule { rule_of result ≡ short_option letter id.entry.now }
     ensures local { result.global ≡ false }
@@ -15,7 +14,6 @@ fn short<'a>(alloc: Global, letter: char, id: &'a str) -> Arg<'a>
     Arg::new(alloc, id).short(letter)
 }
 
-/// Returns the option `--NAME VALUE`.
 fn long<'a>(alloc: Global, name: &'a str) -> Arg<'a>
     ensures rule { rule_of result ≡ long_option name.entry.now }
     ensures local { result.global ≡ false }
@@ -23,7 +21,6 @@ fn long<'a>(alloc: Global, name: &'a str) -> Arg<'a>
     Arg::new(alloc, name).long(name)
 }
 
-/// Removes the value.
 fn flag<'a>(option: Arg<'a>) -> Arg<'a>
     ensures rule { rule_of result ≡ flag (rule_of option.entry) }
     ensures local { result.global ≡ option.entry.global }

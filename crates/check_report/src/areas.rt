@@ -9,7 +9,6 @@ use crate::rows::{Row, Verdict};
 use check_changes::{AreaChange, MapChange};
 use flash_map::NumberedArea;
 
-/// Returns the row of a difference of an area.
 fn changed<'a>(kept: &[&[u8]], area: &'a NumberedArea, mut row: Row<'a>) -> Row<'a>
     ensures { seen_row result ≡ of.changed (names_in kept.now) area.now (seen_row row.entry) }
 {

@@ -71,7 +71,6 @@ fn difference_row<'a>(v: Verdict, what: Difference) -> Row<'a>
     }
 }
 
-/// Returns the row of a change in this area.
 fn component_change_row<'a>(v: Verdict, area: &'a [u8], change: &'a ComponentChange) -> Row<'a>
     ensures { seen_row result ≡ of.component_change_row v area.now change.now }
 {

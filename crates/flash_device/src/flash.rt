@@ -12,12 +12,11 @@ pub const COMMIT_LENGTH: usize = 28;
 #[derive(Clone, Copy, Debug, PartialEq, Eq, Drop)]
 pub struct FlashFault;
 
-/// An image on a chip, in a file or in memory: a constant number of bytes, at offsets from 0.
+/// An image on a chip, in a file or in memory, with byte offsets.
 ///
-/// Contracts see its `facts`: content, numbers of calls and faults, and whether it is honest. Each
-/// call states its effect also if it fails, so that the contract of an edit can state the image
-/// after a stop at any call. Std's `Read`, `Write` and `Seek` were rejected: they state no content
-/// after an error, and a current position that each function would have to restore.
+/// Each call states its effect also if it fails, so contracts of edits state the image after a stop
+/// at any call. Std's `Read`, `Write` and `Seek` were rejected: they state no content after an
+/// error, and add a current position.
 pub trait Flash: Drop {
     ghost facts: { Self → Device };
 

@@ -13,8 +13,8 @@ pub struct SinkFault;
 
 /// The receiver of output. A call may accept only a part of the bytes.
 ///
-/// Std's `Write` was rejected: it states no number of faults, and a contract needs one to state
-/// that a reported output fault has occurred. `WriteSink` adapts any writer.
+/// Std's `Write` was rejected: it counts no faults, so no contract could state that a reported
+/// output fault occurred.
 pub trait Sink {
     /// The bytes, if known.
     ghost contents: { Self → Option (List ℕ) };

@@ -6,10 +6,7 @@ ghost use Rattle.flash_device.specs.Device.{Device, OneRead};
 #[derive(Clone, Copy, Debug, PartialEq, Eq, Drop)]
 pub struct SourceFault;
 
-/// A file or memory that a command only reads, at offsets from 0.
-///
-/// It is no `Flash`, so a command cannot change it, and contracts count its calls and faults apart
-/// from those of the image.
+/// A file or memory that a command only reads, with byte offsets.
 pub trait Source: Drop {
     ghost facts: { Self → Device };
 

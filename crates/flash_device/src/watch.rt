@@ -3,8 +3,7 @@ ghost use Rattle.std.specs.Prelude.{◌≡◌, ℕ, List, ◌++◌};
 
 /// An observer of copied bytes in order, such as a hasher.
 ///
-/// A copy shows each piece to its watcher, so the digest of a content needs no second read, and no
-/// memory for the content.
+/// The digest of a copied content needs no second read.
 pub trait Watch: Drop {
     /// The bytes possibly seen.
     ghost saw: { Self → List ℕ → Type 0 };

@@ -160,7 +160,6 @@ fn is_erased(bytes: &[u8]) -> bool
     bytes == &ERASED[..bytes.len()]
 }
 
-/// Returns the longer part outside a removed range.
 fn longer_rest(from: u64, to: u64, at: u64, end: u64) -> (u64, u64)
     requires stretch { from ≤ to }
     requires range { at ≤ end }

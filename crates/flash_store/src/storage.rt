@@ -15,8 +15,7 @@ pub enum StorageFault {
 
 /// A file, by single system calls. A call may move fewer bytes than requested, or be interrupted.
 ///
-/// The loops over short and interrupted calls are proved above this trait. A trait with complete
-/// transfers was rejected: the loops would be assumed, not proved.
+/// A trait with complete transfers was rejected: its loops would be assumed, not proved.
 pub trait Storage: Drop {
     /// Content and faithfulness: each call has the effect of its result.
     ghost facts: { Self → Stored };

@@ -50,7 +50,6 @@ impl<S: Storage> StoredFlash<S> {
         storage
     }
 
-    /// Counts a call and its fault.
     fn counted(&mut self, answer: Result<(), StorageFault>) -> Result<(), FlashFault>
         ensures passed { OnOk answer
             (IsOk result × (self.new ≡ record self.old { calls = self.old.calls + 1 })) }

@@ -78,7 +78,6 @@ impl<R: Read> ReadText<R> {
 /// The maximum number of consecutive interruptions of a read.
 const TRIES: u32 = 1000;
 
-/// Repeats an interrupted read.
 fn read_again<R: Read>(reader: &mut R, room: &mut [u8]) -> Result<usize, ReadFault>
     ensures bound { ReadsAtMost result room.new }
     ensures bytes { ReadConsumes (R.remaining reader.old) (R.remaining reader.new) result room.new }

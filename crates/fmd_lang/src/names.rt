@@ -23,7 +23,6 @@ pub fn check_names_of(alloc: Global, root: &Section) -> Result<(), FmdFault>
     check_names(alloc, &all)
 }
 
-/// Pushes all names in preorder.
 fn push_names<'s>(section: &'s Section, all: &mut Vec<&'s [u8]>) -> Result<(), FmdFault>
     ensures ok { OnOk result (map (λ r. r.now) all.new.items
         ≡ map (λ r. r.now) all.old.items ++ names (view section.now)) }
@@ -48,7 +47,6 @@ fn check_names(alloc: Global, names: &[&[u8]]) -> Result<(), FmdFault>
     }
 }
 
-/// Returns the number of the first duplicate.
 fn first_duplicate(alloc: Global, names: &[&[u8]]) -> Result<Option<usize>, FmdFault>
     ensures ok { IfOk result (λ found. found ≡ duplicate 0 [] (map (λ r. r.now) names.now)) }
     ensures err { IfErr result (λ fault. fault ≡ FmdFault.Memory) }

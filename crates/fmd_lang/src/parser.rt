@@ -73,7 +73,6 @@ fn root(alloc: Global, text: &[u8]) -> Result<(Section, usize), FmdFault>
     }
 }
 
-/// Parses a section after the name.
 #[cycle(section)]
 fn section(
     alloc: Global,
@@ -102,7 +101,6 @@ fn section(
     Ok((section, to))
 }
 
-/// Parses optional sections in braces.
 #[cycle(section)]
 fn body(
     alloc: Global,
@@ -149,7 +147,6 @@ fn sections(
     }
 }
 
-/// Parses optional annotations.
 fn annotations(text: &[u8], from: usize, depth: u32) -> Result<(u16, usize), FmdFault>
     ensures { Parses AreAnnotations (past 0, depth) (past 1, depth) text.now from result }
 {
@@ -160,7 +157,6 @@ fn annotations(text: &[u8], from: usize, depth: u32) -> Result<(u16, usize), Fmd
     }
 }
 
-/// Parses the annotations after `(`.
 fn first_annotation(text: &[u8], from: usize, depth: u32) -> Result<(u16, usize), FmdFault>
     ensures { Parses (λ flags. Until CloseParen (HaveFlags flags)) (in_annotations false, depth)
         (past 1, depth) text.now from result }
@@ -218,7 +214,6 @@ fn annotation_flag(bytes: &[u8]) -> Option<u16>
     }
 }
 
-/// Parses an optional offset.
 fn offset(text: &[u8], from: usize, depth: u32) -> Result<(Option<u32>, usize), FmdFault>
     ensures { Parses IsOffset (past 1, depth) (past 2, depth) text.now from result }
 {
@@ -232,7 +227,6 @@ fn offset(text: &[u8], from: usize, depth: u32) -> Result<(Option<u32>, usize), 
     }
 }
 
-/// Parses a required number.
 fn number(text: &[u8], from: usize, depth: u32) -> Result<(u32, usize), FmdFault>
     ensures { Parses (λ n. One (HasValue n)) (at_sign, depth) (past 2, depth) text.now from result }
 {
@@ -243,7 +237,6 @@ fn number(text: &[u8], from: usize, depth: u32) -> Result<(u32, usize), FmdFault
     }
 }
 
-/// Parses an optional size.
 fn size(text: &[u8], from: usize, depth: u32) -> Result<(Option<u32>, usize), FmdFault>
     ensures { Parses IsSize (past 2, depth) (past 3, depth) text.now from result }
 {

@@ -22,7 +22,6 @@ use flash_device::{Flash, Paged, Sink};
 use flash_format::{AttrHead, Digest, digest_text, push_text};
 use flash_map::Region;
 
-/// Appends a tag's eight digits.
 fn push_tag(row: &mut Row, tag: u32)
     requires { array_vec_len row.old + 8 ≤ ROW_LEN }
     ensures { Pushes row.old (encode_lower (big_bytes 4 tag)) 8 row.new }

@@ -51,7 +51,6 @@ pub fn difference<F: Flash, G: Flash>(
     Ok(None)
 }
 
-/// Returns the range of the stored content.
 fn content(cell: &Cell) -> Range<u64>
     requires { cell.now.at + (cell.now.head.offset + cell.now.head.len) < 2 ^ 32 }
     ensures start { result.start ≡ cell.now.at + cell.now.head.offset }
@@ -61,7 +60,6 @@ fn content(cell: &Cell) -> Range<u64>
     start..start + u64::from(cell.head.len)
 }
 
-/// Returns the range between name and content.
 fn attributes(cell: &Cell) -> Range<u64>
     requires inside { cell.now.at + cell.now.head.offset < 2 ^ 32 }
     requires order { name_end cell.now.head ≤ cell.now.head.offset }

@@ -1,6 +1,5 @@
 //! The form of a report.
 
-/// The form of a report.
 #[derive(Clone, Copy)]
 pub enum Form {
     /// A line of tab-separated fields for each row.

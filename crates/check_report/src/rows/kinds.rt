@@ -73,7 +73,6 @@ impl Counts {
         ]
     }
 
-    /// Counts a row.
     pub fn with(mut self, verdict: Verdict) -> Result<Counts, AllocError>
         ensures { IfOk result (λ counts. counts ≡ tallied self verdict) }
     {

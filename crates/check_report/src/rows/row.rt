@@ -18,7 +18,6 @@ pub enum Verdict {
 }
 
 impl Verdict {
-    /// Returns `bad`, `remark` or `change`.
     pub fn word(self) -> &'static str
         ensures { result.now ≡ verdict_word self }
     {
@@ -29,7 +28,6 @@ impl Verdict {
         }
     }
 
-    /// Returns `Bad` or `Remark`.
     pub fn of_finding(is_bad: bool) -> Verdict
         ensures { result ≡ finding_verdict is_bad }
     {
@@ -53,7 +51,6 @@ impl Verdict {
     }
 }
 
-/// A row of a report.
 #[derive(Clone, Copy)]
 pub struct Row<'a> {
     pub verdict: Verdict,

@@ -52,7 +52,6 @@ fn push_field(text: &mut Vec<u8>, field: Field<'_>) -> Result<(), AllocError>
     }
 }
 
-/// Returns a line.
 pub fn line(alloc: Global, head: &str, fields: &[Field<'_>]) -> Result<Vec<u8>, AllocError>
     ensures { IfOk result (λ text. text.items
         ≡ line_text (record { head = head.now; fields = map seen_field fields.now })) }
