@@ -33,9 +33,6 @@ good_shape : (needs : Bool) (size absent : Bool) (rest : List RegionFinding)
     → (cond size (Some faults.RegionShape) (cond absent (Some faults.NotCbfs) None) ≡ None) × (list_any (is_bad_region needs) rest ≡ false)
 good_shape needs size absent rest fit = grind (arith, common_steps, fit)
 
-undamaged : (needs : Bool) (bytes : List ℕ) (at : ℕ) (end : End) (rest : List RegionFinding) → list_any (is_bad_region needs) (end_findings bytes at end ++ rest) ≡ false → (kind : DamageKind) → end ≢ damage kind
-undamaged needs bytes at end rest fit kind is = false≢true (sym (rw is at fit))
-
 intact_cell : (needs : Bool) (at : ℕ) (x : List ℕ) (others : List Component) (free : Bool)
     → list_any (is_bad_region needs) (cond free (only_if ((head_of x).kind == 0) (findings.Deleted at)) (component_finding false (component_at at x) ∷ [])) ≡ false → All IsIntact others
     → All IsIntact (cond free others (component_at at x ∷ others))
@@ -73,7 +70,7 @@ fit_region needs x fit =
     let parts = none_of (is_bad_region needs) (cells_findings 0 (cut x).cells) _ all.1 in
     record {
       shaped = all.0;
-      undamaged = undamaged needs x (place_after 0 (cut x).cells) (cut x).end (counts_of (length x) (cut x).cells) parts.1;
+      undamaged = λ kind is. false≢true (sym (rw is at parts.1));
       intact = intact needs 0 (cut x).cells parts.0;
       blank = λ is. blank needs (place_after 0 (cut x).cells) x (counts_of (length x) (cut x).cells) (rw is at parts.1);
     }
