@@ -46,10 +46,6 @@ intact needs at (x ∷ cells) fit =
     let parts = none_of (is_bad_region needs) (cell_findings at x) _ fit in
     intact_cell needs at x (components_from (at + length x) cells) (is_free (head_of x)) parts.0 (intact needs (at + length x) cells parts.1)
 
-blank : (needs : Bool) (at : ℕ) (x : List ℕ) (rest : List RegionFinding) → list_any (is_bad_region needs) (tail_findings at x ++ rest) ≡ false → IsBlankTail at x
-unfolding tail_findings
-blank needs at x rest fit = none_filled at (tail_bytes at x) (grind (arith, common_steps, fit))
-
 -- a mark makes no finding good
 bad_marked : (needs : Bool) (earlier : List RegionFinding) (f : RegionFinding) → is_bad_region needs (marked earlier f) ≡ false → is_bad_region needs f ≡ false
 bad_marked needs earlier (findings.Component at name is content) fit = grind (arith, common_steps, fit)
@@ -64,7 +60,7 @@ none_bad needs earlier (f ∷ all) fit =
 
 -- a region without bad findings is whole
 pub fit_region : (needs : Bool) (x : List ℕ) → list_any (is_bad_region needs) (region_findings x) ≡ false → IsWhole x
-unfolding region_findings walk_findings
+unfolding region_findings walk_findings tail_findings
 fit_region needs x fit =
     let all = good_shape needs (has_bad_size (length x)) (is_absent (entry x)) _ (none_bad needs [] _ fit) in
     let parts = none_of (is_bad_region needs) (cells_findings 0 (cut x).cells) _ all.1 in
@@ -72,5 +68,5 @@ fit_region needs x fit =
       shaped = all.0;
       undamaged = λ kind is. false≢true (sym (rw is at parts.1));
       intact = intact needs 0 (cut x).cells parts.0;
-      blank = λ is. blank needs (place_after 0 (cut x).cells) x (counts_of (length x) (cut x).cells) (rw is at parts.1);
+      blank = λ is. let at = place_after 0 (cut x).cells in let fit = rw is at parts.1 in none_filled at (tail_bytes at x) (grind (arith, common_steps, fit));
     }

@@ -58,10 +58,6 @@ unfolding all_marked
 of_marks name earlier [] = refl
 of_marks name earlier (f ∷ all) = grind (arith, common_steps, of_mark name earlier f, of_marks name (f ∷ earlier) all)
 
-of_shape : (name : List ℕ) (fault : WalkFault) → first_content name (shape_findings fault) ≡ None
-of_shape name walk.RegionShape = refl
-of_shape name other = refl
-
 -- a search finds the name with this content
 abbrev HasContent : List ℕ → List ℕ → Content → Type 0
 HasContent x name content = (c : Component) × (component_in x name ≡ Ok (Some c)) × (component_content c ≡ content)
@@ -91,7 +87,8 @@ has_content x name content is = go (shape_fault x) refl (sym (of_marks name [] (
     listed (Some c) e here good = (c, rw (good, here) refl, cc)
 
     go : (o : Option WalkFault) → shape_fault x ≡ o → first_content name (refused_or shape_findings o (cells_findings 0 cells ++ (ended ++ counts_of (length x) cells))) ≡ Some content → HasContent x name content
-    go (Some fault) bad e = absurd (let none = of_shape name fault in cc)
+    go (Some walk.RegionShape) bad e = absurd cc
+    go (Some other) bad e = absurd cc
     go None good e = listed (first_named name (components x)) (sym (of_cells name 0 cells _ (none_among name _ none)) ∙ e) refl good
 
 -- ---- an image
