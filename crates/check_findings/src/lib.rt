@@ -6,7 +6,6 @@ mod laws;
 mod lists;
 mod map;
 mod region;
-mod text;
 
 pub use image::{
     CheckedImage, ImageFinding, Need, NeedFinding, NeededPlace, RegionFindings, cbfs_areas,
@@ -17,6 +16,5 @@ pub use laws::{
     fit_regions_lose_nothing, needs_are_there, unshadowed_components_are_found,
 };
 pub use lists::{Elements, push, push_if};
-pub use map::{CheckedMap, MapFinding, check_map};
+pub use map::{CheckedMap, MapFinding, check_map, is_text};
 pub use region::{Content, HashFinding, Name, RegionFinding, check_region};
-pub use text::is_text;

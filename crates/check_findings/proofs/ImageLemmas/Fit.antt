@@ -11,12 +11,12 @@ use Rattle.flash_format.specs.Head.{head_of, is_free}
 use Rattle.flash_format.specs.Entry.{entry}
 use Rattle.flash_format.specs.Cut.{End, damage, cut}
 use Rattle.flash_format.specs.Components.{Component, component_at, components_from}
-use Rattle.cbfs_walk.specs.CellReadings.{place_after}
+use Rattle.cbfs_walk.specs.Shaped.{place_after}
 use Rattle.cbfs_walk.specs.Shapes.{has_bad_size, is_absent, refused_or}
 use Rattle.cbfs_walk.specs.declared.walk.WalkFault.TheVariants as faults
 use Rattle.std.proofs.lemmas.Grind.{common_steps}
 use Rattle.check_findings.specs.Laws.{IsBlankTail}
-use Rattle.check_findings.specs.Region.RegionFindings.{all_marked, cell_findings, cells_findings, component_finding, cell_count_findings, end_findings, marked, region_findings, shape_findings, tail_bytes, tail_findings, walk_findings}
+use Rattle.check_findings.specs.Region.RegionFindings.{all_marked, cell_findings, cells_findings, component_finding, counts_of, end_findings, marked, region_findings, shape_findings, tail_bytes, tail_findings, walk_findings}
 use Rattle.check_findings.specs.declared.region.finding.RegionFinding.{RegionFinding}
 use Rattle.check_findings.specs.declared.region.finding.RegionFinding.TheVariants as findings
 use Rattle.check_findings.proofs.MapLemmas.Sound.{none_of}
@@ -33,9 +33,6 @@ good_shape : (needs : Bool) (size absent : Bool) (rest : List RegionFinding)
     → (cond size (Some faults.RegionShape) (cond absent (Some faults.NotCbfs) None) ≡ None) × (list_any (is_bad_region needs) rest ≡ false)
 good_shape needs size absent rest fit = grind (arith, common_steps, fit)
 
-undamaged : (needs : Bool) (bytes : List ℕ) (at : ℕ) (end : End) (rest : List RegionFinding) → list_any (is_bad_region needs) (end_findings bytes at end ++ rest) ≡ false → (kind : DamageKind) → end ≢ damage kind
-undamaged needs bytes at end rest fit kind is = false≢true (sym (rw is at fit))
-
 intact_cell : (needs : Bool) (at : ℕ) (x : List ℕ) (others : List Component) (free : Bool)
     → list_any (is_bad_region needs) (cond free (only_if ((head_of x).kind == 0) (findings.Deleted at)) (component_finding false (component_at at x) ∷ [])) ≡ false → All IsIntact others
     → All IsIntact (cond free others (component_at at x ∷ others))
@@ -48,10 +45,6 @@ intact needs at [] fit = All-nil IsIntact
 intact needs at (x ∷ cells) fit =
     let parts = none_of (is_bad_region needs) (cell_findings at x) _ fit in
     intact_cell needs at x (components_from (at + length x) cells) (is_free (head_of x)) parts.0 (intact needs (at + length x) cells parts.1)
-
-blank : (needs : Bool) (at : ℕ) (x : List ℕ) (rest : List RegionFinding) → list_any (is_bad_region needs) (tail_findings at x ++ rest) ≡ false → IsBlankTail at x
-unfolding tail_findings
-blank needs at x rest fit = none_filled at (tail_bytes at x) (grind (arith, common_steps, fit))
 
 -- a mark makes no finding good
 bad_marked : (needs : Bool) (earlier : List RegionFinding) (f : RegionFinding) → is_bad_region needs (marked earlier f) ≡ false → is_bad_region needs f ≡ false
@@ -67,13 +60,13 @@ none_bad needs earlier (f ∷ all) fit =
 
 -- a region without bad findings is whole
 pub fit_region : (needs : Bool) (x : List ℕ) → list_any (is_bad_region needs) (region_findings x) ≡ false → IsWhole x
-unfolding region_findings walk_findings
+unfolding region_findings walk_findings tail_findings
 fit_region needs x fit =
     let all = good_shape needs (has_bad_size (length x)) (is_absent (entry x)) _ (none_bad needs [] _ fit) in
     let parts = none_of (is_bad_region needs) (cells_findings 0 (cut x).cells) _ all.1 in
     record {
       shaped = all.0;
-      undamaged = undamaged needs x (place_after 0 (cut x).cells) (cut x).end (cell_count_findings (length x) (cut x).cells) parts.1;
+      undamaged = λ kind is. false≢true (sym (rw is at parts.1));
       intact = intact needs 0 (cut x).cells parts.0;
-      blank = λ is. blank needs (place_after 0 (cut x).cells) x (cell_count_findings (length x) (cut x).cells) (rw is at parts.1);
+      blank = λ is. let at = place_after 0 (cut x).cells in let fit = rw is at parts.1 in none_filled at (tail_bytes at x) (grind (arith, common_steps, fit));
     }

@@ -29,11 +29,6 @@ use Rattle.check_findings.specs.Image.Verdicts.{is_bad, is_bad_map, is_bad_regio
 use Rattle.check_findings.proofs.ImageLemmas.Fit.{fit_region}
 use Rattle.check_findings.proofs.ImageLemmas.Regions.{regions_of}
 
--- ---- names of areas are different
-
-fit_names : (n : ℕ) (map : FoundMap) (next : Option FoundMap) (areas : List NumberedArea) → list_any is_bad_map (findings_of n map next areas) ≡ false → list_any is_bad_map (flat_map (name_findings areas) areas) ≡ false
-fit_names n map next areas fit = grind (arith, common_steps, list_any-append, fit)
-
 -- ---- a name finds its first area
 
 find_area : (name : List ℕ) (k : ℕ) (areas : List Area) → option_map (λ (a : NumberedArea). a.area) (find (has_name name) (numbered_from k areas)) ≡ find (is_area name) areas
@@ -63,7 +58,7 @@ fit_areas image None found fit = All-nil (IsReached image)
 fit_areas image (Some map) found fit =
     let areas = map_areas image map in
     All-weaker (Contains areas) (IsReached image)
-    (λ a there fits. reached image (text_of a.area.name) map a found (named is_bad_map _ a (λ first. refl) (fit_names (length image) map (found_from (map.at + 1) image) areas fit) there) fits)
+    (λ a there fits. reached image (text_of a.area.name) map a found (named is_bad_map _ a (λ first. refl) (grind (arith, common_steps, list_any-append, fit)) there) fits)
     areas (All-contains_itself areas)
 
 -- ---- checked areas

@@ -83,13 +83,10 @@ named test areas a passes none there =
 nest : (a b : Area) → ends_inside a b ≡ false → ends_inside b a ≡ false → Nest a b
 nest a b one other = grind (arith, common_steps, one, other)
 
-compared : (areas : List NumberedArea) (many : Bool) → list_any every (cond many (findings.TooManyAreas ∷ []) (flat_map (overlap_with areas) areas)) ≡ false → list_any every (flat_map (overlap_with areas) areas) ≡ false
-unfolding every
-compared areas many e = grind (arith, common_steps, e)
-
 nested : (areas : List NumberedArea) → list_any every (overlap_findings areas) ≡ false → (a b : NumberedArea) → Contains areas a → Contains areas b → Nest a.area b.area
+unfolding every
 nested areas none a b there here =
-    let each = none_each every (overlap_with areas) areas (compared areas (nat_lt 4096 (length areas)) none) in
+    let each = none_each every (overlap_with areas) areas (grind (arith, common_steps, none)) in
     let alone = uncaused (findings.Overlap a) (find (overlap a) areas) (All-contains (λ (c : NumberedArea). list_any every (overlap_with areas c) ≡ false) areas a each there) in
     let parts = or_parts (ends_inside a.area b.area) (ends_inside b.area a.area) (All-contains (λ (c : NumberedArea). overlap a c ≡ false) areas b (find-none (overlap a) areas alone) here) in
     nest a.area b.area parts.0 parts.1

@@ -2,6 +2,7 @@
 
 ghost use Rattle.std.specs.Prelude.{◌≡◌, ◌+◌, ◌^◌, ◌<◌, ◌≤◌, ◌++◌, IfOk, OnOk};
 ghost use Rattle.std.specs.List.{find, flat_map};
+ghost use Rattle.std.specs.Str.{is_utf8};
 ghost use lib.Chars.{codes};
 ghost use Rattle.flash_format.specs.Flashmap.{map_len};
 ghost use Rattle.check_findings.specs.Map.MapFindings.{area_findings, findings_of};
@@ -12,7 +13,6 @@ use crate::lists::{Pushed, push, push_if};
 use crate::map::finding::{MapFinding, MapFindings};
 use crate::map::names::push_name_findings;
 use crate::map::overlaps::push_overlap_findings;
-use crate::text::is_text;
 use flash_format::Area;
 use flash_map::{FoundMap, NumberedArea};
 use std::alloc::{AllocError, Global};
@@ -54,6 +54,13 @@ fn push_area_findings(findings: &mut MapFindings, len: u64, areas: &[NumberedAre
         push_if(findings, is_bytes, MapFinding::AreaNameNotText(*a))?;
     }
     Ok(())
+}
+
+/// Returns whether the bytes are UTF-8.
+pub fn is_text(bytes: &[u8]) -> bool
+    ensures { result ≡ is_utf8 bytes.now }
+{
+    str::from_utf8(bytes).is_ok()
 }
 
 fn push_map_area_findings(

@@ -8,3 +8,4 @@ mod overlaps;
 
 pub use check::{CheckedMap, check_map};
 pub use finding::MapFinding;
+pub use findings::is_text;

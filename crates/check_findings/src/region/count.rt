@@ -69,12 +69,11 @@ impl Count {
     /// Returns all findings, if the entries with these findings end here.
     pub fn counts_at_end(
         self,
-        findings: Vec<RegionFinding>,
+        mut findings: Vec<RegionFinding>,
         end: u64,
     ) -> Result<Vec<RegionFinding>, AllocError>
         ensures { IfOk result (λ all. all.items ≡ findings.items ++ counts_at_end self end) }
     {
-        let mut findings = findings;
         findings.push(match self.components {
             0 => RegionFinding::NoComponents,
             components => RegionFinding::Components(components),
