@@ -3,6 +3,3 @@ mod Counting
 mod ReportParts
 mod SoundRows
 mod Printed
-pub mod BadRows
-mod ShownRows
-mod CountedRows
