@@ -60,9 +60,9 @@ by_verdict count is step c (r ∷ rs) =
     by_verdict count is step (tallied c r.verdict) rs ∙ rw (step c r.verdict, sum_by-cons (λ (x : SeenRow). if is x.verdict then 1 else 0) r rs) (omega arith)
 
 pub returns : goal.returns
-returns c = λ rows. record {
-  bad = by_verdict (λ c. c.bad) (is_verdict Bad) (λ c v. (steps c v).0) (counts_of []) rows ∙ omega arith;
-  remarks = by_verdict (λ c. c.remarks) (is_verdict Remark) (λ c v. (steps c v).1) (counts_of []) rows ∙ omega arith;
-  changes = by_verdict (λ c. c.changes) (is_verdict Change) (λ c v. (steps c v).2) (counts_of []) rows ∙ omega arith;
+returns c = λ rows. let none : Counts = counts_of [] in record {
+  bad = by_verdict (λ c. c.bad) (is_verdict Bad) (λ c v. (steps c v).0) none rows ∙ omega arith;
+  remarks = by_verdict (λ c. c.remarks) (is_verdict Remark) (λ c v. (steps c v).1) none rows ∙ omega arith;
+  changes = by_verdict (λ c. c.changes) (is_verdict Change) (λ c v. (steps c v).2) none rows ∙ omega arith;
   kinds = λ row. by_kind [] rows row ∙ omega arith;
 }

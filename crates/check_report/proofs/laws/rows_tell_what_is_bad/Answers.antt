@@ -65,4 +65,5 @@ bad_finding asked names (NotChecked a false) = refl
 bad_finding asked names (NoArea number) = refl
 
 pub returns : goal.returns
-returns c = λ asked names. bad_rows (rows_of asked names) (is_bad asked.needs_hashes) (bad_finding asked names)
+returns c = λ asked names.
+    bad_rows (rows_of asked names) (is_bad asked.needs_hashes) (bad_finding asked names)
