@@ -1,3 +1,1 @@
-mod Arguments
 mod Matches
-mod NeedLemmas

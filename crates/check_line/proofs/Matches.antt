@@ -6,13 +6,9 @@ use Rattle.clap.specs.declared.error.kind.ErrorKind.{ErrorKind}
 use Rattle.clap.specs.declared.parser.matches.ArgMatches.{ArgMatches}
 use Rattle.check_line.specs.CheckWords.{IsAccepted, IsRefusedFor, check_words, texts}
 
-simple : is_simple_and_free check_words ≡ true
+simple : (is_simple_and_free check_words ≡ true) × (is_simple check_words ≡ true)
 unfolding clap_on_literals
-simple = refl
-
-simple_shape : is_simple check_words ≡ true
-unfolding clap_on_literals
-simple_shape = refl
+simple = (refl, refl)
 
 pub empty_is_accepted : IsAccepted []
 unfolding clap_on_literals
@@ -23,13 +19,13 @@ pub by_faults : (P : Kinds → Type 0) (a : App) (words : List (Bor (List ℕ)))
     → (is_simple_and_free a ≡ true → P (fault_of a (texts words))) → P (fault_of check_words (texts words))
 by_faults P a words shape holds =
     subst (λ (a : App). P (fault_of a (texts words))) shape
-    (holds (ap (λ (a : App). is_simple_and_free a) shape ∙ simple))
+    (holds (ap (λ (a : App). is_simple_and_free a) shape ∙ simple.0))
 
 -- accepted arguments have the defined matches
 pub matched : (a : App) (words : List (List ℕ)) (m : ArgMatches) → a ≡ check_words
     → HasMatchesOf a words m → rows_of (found_of m) ≡ matches_of check_words words
 matched a words m shape matches =
-    (matches (ap (λ (a : App). is_simple a) shape ∙ simple_shape)).0
+    (matches (ap (λ (a : App). is_simple a) shape ∙ simple.1)).0
     ∙ ap (λ (a : App). matches_of a words) shape
 
 pub some_word : (k : ErrorKind) (words : List (Bor (List ℕ))) → IsRefusedFor k words → 0 < length words

@@ -3,6 +3,3 @@ mod RowCounts
 mod ReportParts
 mod SoundRows
 mod PrinterEffects
-pub mod BadRows
-mod ShownRows
-mod CountedRows

@@ -11,12 +11,12 @@ use Rattle.flash_format.specs.Head.{head_of, is_free}
 use Rattle.flash_format.specs.Entry.{entry}
 use Rattle.flash_format.specs.Cut.{End, damage, cut}
 use Rattle.flash_format.specs.Components.{Component, component_at, components_from}
-use Rattle.cbfs_walk.specs.Shaped.{place_after}
+use Rattle.cbfs_walk.specs.CellReadings.{place_after}
 use Rattle.cbfs_walk.specs.Shapes.{has_bad_size, is_absent, refused_or}
 use Rattle.cbfs_walk.specs.declared.walk.WalkFault.TheVariants as faults
 use Rattle.std.proofs.lemmas.Grind.{common_steps}
 use Rattle.check_findings.specs.Laws.{IsBlankTail}
-use Rattle.check_findings.specs.Region.RegionFindings.{all_marked, cell_findings, cells_findings, component_finding, counts_of, end_findings, marked, region_findings, shape_findings, tail_bytes, tail_findings, walk_findings}
+use Rattle.check_findings.specs.Region.RegionFindings.{all_marked, cell_findings, cells_findings, component_finding, cell_count_findings, end_findings, marked, region_findings, shape_findings, tail_bytes, tail_findings, walk_findings}
 use Rattle.check_findings.specs.declared.region.finding.RegionFinding.{RegionFinding}
 use Rattle.check_findings.specs.declared.region.finding.RegionFinding.TheVariants as findings
 use Rattle.check_findings.proofs.MapLemmas.Sound.{none_of}

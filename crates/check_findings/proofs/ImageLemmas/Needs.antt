@@ -6,13 +6,13 @@ use Rattle.std.specs.Option.{option_map}
 use Rattle.std.proofs.lemmas.Grind.{common_steps}
 use Rattle.flash_format.specs.Cut.{cut}
 use Rattle.flash_format.specs.Components.{Component, components_from, components}
-use Rattle.cbfs_walk.specs.Finding.{component_in, first_named}
+use Rattle.cbfs_walk.specs.Search.{component_in, first_named}
 use Rattle.cbfs_walk.specs.Shapes.{shape_fault, refused_or}
-use Rattle.cbfs_walk.specs.Shaped.{place_after}
+use Rattle.cbfs_walk.specs.CellReadings.{place_after}
 use Rattle.cbfs_walk.specs.declared.walk.WalkFault.{WalkFault}
 use Rattle.cbfs_walk.specs.declared.walk.WalkFault.TheVariants as walk
 use Rattle.check_findings.specs.Region.RegionFindings.{free_bytes, largest_room}
-use Rattle.check_findings.specs.Region.RegionFindings.{all_marked, cells_findings, component_content, counts_of, end_findings, marked, region_findings, shape_findings, walk_findings}
+use Rattle.check_findings.specs.Region.RegionFindings.{all_marked, cells_findings, component_content, cell_count_findings, end_findings, marked, region_findings, shape_findings, walk_findings}
 use Rattle.flash_format.specs.Flashmap.{is_area}
 use Rattle.check_findings.specs.Image.Needs.{Wish, content_named, first_content, unmet, unmet_by}
 use Rattle.check_findings.specs.Laws.{IsMet, NeedsAreThere}
@@ -77,16 +77,16 @@ has_content x name content is = go (shape_fault x) refl (sym (of_marks name [] (
     None-of f = content_named name f ≡ None
 
     -- the findings after the entries have no content
-    none : All None-of (ended ++ counts_of (length x) cells)
-    none = All-append None-of ended (counts_of (length x) cells)
+    none : All None-of (ended ++ cell_count_findings (length x) cells)
+    none = All-append None-of ended (cell_count_findings (length x) cells)
         (All-weaker (IsIn end_part) None-of (λ f. no_content name end_part f (λ e. cc)) ended (of_end x (place_after 0 cells) (cut x).end))
-        (All-weaker (IsIn count_part) None-of (λ f. no_content name count_part f (λ e. cc)) (counts_of (length x) cells) (of_counts (length (components_from 0 cells)) (free_bytes cells) (largest_room (length x) 0 0 cells)))
+        (All-weaker (IsIn count_part) None-of (λ f. no_content name count_part f (λ e. cc)) (cell_count_findings (length x) cells) (of_counts (length (components_from 0 cells)) (free_bytes cells) (largest_room (length x) 0 0 cells)))
 
     listed : (o : Option Component) → option_map component_content o ≡ Some content → first_named name (components x) ≡ o → shape_fault x ≡ None → HasContent x name content
     listed None e here good = absurd cc
     listed (Some c) e here good = (c, rw (good, here) refl, cc)
 
-    go : (o : Option WalkFault) → shape_fault x ≡ o → first_content name (refused_or shape_findings o (cells_findings 0 cells ++ (ended ++ counts_of (length x) cells))) ≡ Some content → HasContent x name content
+    go : (o : Option WalkFault) → shape_fault x ≡ o → first_content name (refused_or shape_findings o (cells_findings 0 cells ++ (ended ++ cell_count_findings (length x) cells))) ≡ Some content → HasContent x name content
     go (Some walk.RegionShape) bad e = absurd cc
     go (Some other) bad e = absurd cc
     go None good e = listed (first_named name (components x)) (sym (of_cells name 0 cells _ (none_among name _ none)) ∙ e) refl good

@@ -6,4 +6,5 @@ use Rattle.check_report.proofs.names.need_areas.Goals as goal
 
 pub returns : goal.returns
 returns c = map_from_collect _ c.collect.ensures.ran
-    (YieldsList-from_map_by _ (λ r. r.now) (λ (n : Need). n.area.now) (YieldsList-from_slice c.args.needs.now cc) c.map.ensures.closure (λ x r q k. search rules))
+    (YieldsList-from_map_by _ (λ r. r.now) (λ (n : Need). n.area.now)
+    (YieldsList-from_slice c.args.needs.now cc) c.map.ensures.closure (λ x r q k. search rules))

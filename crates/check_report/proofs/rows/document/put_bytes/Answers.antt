@@ -6,5 +6,6 @@ use Rattle.check_report.proofs.rows.document.put_bytes.Goals as goal
 
 pub returns : goal.returns
 returns c =
-    let all = rw (take_all c.loop-byte.byte-index c.args.bytes.now c.loop-byte-test.false) at c.loop-byte.invariant in
-    rw (bytes_tokens c.args.bytes.now) (search (rules, IfOk-equal, append_assoc, all.tokens, all.before))
+    let bytes = c.args.bytes.now in
+    let all = rw (take_all _ bytes c.loop-byte-test.false) at c.loop-byte.invariant in
+    rw (bytes_tokens bytes) (search (rules, IfOk-equal, append_assoc, all.tokens, all.before))

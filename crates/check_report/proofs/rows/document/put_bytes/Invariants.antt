@@ -5,4 +5,5 @@ use Rattle.check_report.specs.Rows.Effects.{AddsTokens}
 use Rattle.check_report.proofs.rows.document.put_bytes.Given as goal
 
 abbrev pub invariant-loop-byte : goal.invariant-loop-byte
-invariant-loop-byte l = AddsTokens (Ok tt) l.fn.writer l.writer (begin_array ∷ map (λ b. number (decimal b)) (take l.byte-index l.bytes))
+invariant-loop-byte l = AddsTokens (Ok tt) l.fn.writer l.writer
+    (begin_array ∷ map (λ b. number (decimal b)) (take l.byte-index l.bytes))

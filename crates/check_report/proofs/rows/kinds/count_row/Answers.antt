@@ -14,5 +14,7 @@ returns-then-is_of-clause-kinds c =
     let inv = c.loop-i.invariant in
     let lt : c.loop-i.i < length c.args.kinds.now.items = omega (arith, ap length inv.same) in
     let here = rw inv.same at c.index.ensures in
-    let same : c.index_mut.result.now ≡ c.index.result.now = rw inv.same at c.index_mut.ensures.value ∙ get_or_default _ _ _ _ lt ∙ sym here in
-    rw (inv.same, same) (found_kinds _ _ _ c.index.result.now _ lt here (sym c.is_of.ensures ∙ c.if-is_of.true) inv.passed c.in_ok-kinds.ensures)
+    let same : c.index_mut.result.now ≡ c.index.result.now =
+    rw inv.same at c.index_mut.ensures.value ∙ get_or_default _ _ _ _ lt ∙ sym here in
+    let is = sym c.is_of.ensures ∙ c.if-is_of.true in
+    rw (inv.same, same) (found_kinds _ _ _ _ _ lt here is inv.passed c.in_ok-kinds.ensures)

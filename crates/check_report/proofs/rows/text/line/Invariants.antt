@@ -4,4 +4,5 @@ use Rattle.check_report.specs.Rows.Fields.{field_text, seen_field}
 use Rattle.check_report.proofs.rows.text.line.Given as goal
 
 abbrev pub invariant-loop-field : goal.invariant-loop-field
-invariant-loop-field l = l.text.items ≡ l.head ++ flat_map field_text (map seen_field (take l.field-index l.fields))
+invariant-loop-field l = l.text.items ≡ l.head
+    ++ flat_map field_text (map seen_field (take l.field-index l.fields))

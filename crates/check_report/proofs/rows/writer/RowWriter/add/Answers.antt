@@ -6,7 +6,12 @@ use Rattle.check_report.proofs.rows.writer.RowWriter.add.Goals.{then-self, else-
 
 pub returns : goal.returns
 returns g c =
-    let shown : c.if-self.is_shown ≡ (c.args.self.now.is_verbose || nat_lt c.in_ok-before.before 16) =
-    elim c.if-self.branch [ then-self w ↦ search (rules, tests) | else-self w ↦ search (rules, tests) ] in
-    adds_row g.W.Sink.contents g.W.Sink.faults _ c.args.self.now _ _ refl c.in_ok-before.ensures.kinds c.in_ok-self.ensures
-    (rw (shown, c.in_ok-before.ensures.before) at c.row_if.ensures)
+    let old = c.args.self.now in
+    let before = c.in_ok-before.ensures in
+    let shown : c.if-self.is_shown ≡ (old.is_verbose || nat_lt c.in_ok-before.before 16) =
+    elim c.if-self.branch [
+      | then-self w ↦ search (rules, tests)
+      | else-self w ↦ search (rules, tests)
+    ] in
+    adds_row g.W.Sink.contents g.W.Sink.faults _ old _ _ refl before.kinds c.in_ok-self.ensures
+    (rw (shown, before.before) at c.row_if.ensures)
