@@ -9,7 +9,7 @@ mod region;
 
 pub use image::{
     CheckedImage, ImageFinding, Need, NeedFinding, NeededPlace, RegionFindings, cbfs_areas,
-    check_image, is_bad_hash, is_bad_map, unmet,
+    check_image, is_bad_hash, unmet,
 };
 pub use laws::{
     blank_tails_are_known, clean_maps_are_sound, fit_images_are_whole, fit_regions_are_whole,

@@ -13,4 +13,4 @@ pub use choice::cbfs_areas;
 pub use finding::{ImageFinding, RegionFindings};
 pub use image::{CheckedImage, check_image};
 pub use needs::{Need, NeedFinding, NeededPlace, unmet};
-pub use verdict::{is_bad_hash, is_bad_map};
+pub use verdict::is_bad_hash;
