@@ -53,3 +53,5 @@ module _ {F S W : Type 0} {facts : F → Device} {sources : S → Device} {conte
     outcome = λ honest serves. h.left honest (λ reads. refl);
     stopped = λ honest serves. h.stopped honest (λ reads. refl);
   }
+
+pub ruleset runs = (told_runs, fed_runs, removal_runs)

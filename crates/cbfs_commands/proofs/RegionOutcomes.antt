@@ -1,5 +1,5 @@
 -- The outcome of a command on a region depends only on the region's bytes.
-use Rattle.std.proofs.Common.{◌≡◌, ℕ, false, List, [], length, Result, Ok, Err, ◌==◌, refl, sym, ◌∙◌}
+use Rattle.std.proofs.Common.{◌≡◌, ℕ, false, List, [], length, Result, Ok, Err, ◌==◌, refl}
 use Rattle.std.specs.Prelude.{if◌then◌else◌}
 use Rattle.std.specs.Result.{result_unwrap_or}
 use Rattle.flash_device.specs.Device.{overwritten}
@@ -12,8 +12,7 @@ use Rattle.cbfs_commands.specs.declared.refusal.Refusal.TheVariants as refusals
 use Rattle.cbfs_commands.specs.Effects.{changes, effect, edits, outcome, Task, on_region}
 use Rattle.cbfs_commands.specs.Effects as tasks
 use Rattle.cbfs_commands.specs.Refusals.{edit_refusal, fault_or}
-use Rattle.cbfs_commands.specs.Outcomes.{Outcome, StopsIn, extract_region, print_region, printed_in}
-use Rattle.cbfs_commands.specs.Printouts.{Printout, shows}
+use Rattle.cbfs_commands.specs.Outcomes.{Outcome, StopsIn}
 use Rattle.cbfs_commands.specs.Laws.{OutcomesAreOfTheRegion}
 use Rattle.cbfs_commands.proofs.RegionPlaces.{alike_over, region_lies}
 
@@ -22,12 +21,6 @@ module _ (name : List ℕ) (region : Range) (image other : List ℕ) (here : reg
   -- equal outputs, and equal bytes of the region
   abbrev Alike : Outcome → Outcome → Type 0
   Alike a b = (b.printout ≡ a.printout) × (bytes_in region b.image ≡ bytes_in region a.image)
-
-  printout : (tell : List ℕ → Printout) → Alike (record { printout = printed_in image name tell; image = image }) (record { printout = printed_in other name tell; image = other })
-  printout tell =
-      let first : printed_in image name tell ≡ tell (bytes_in region image) = rw here refl in
-      let last : printed_in other name tell ≡ tell (bytes_in region image) = rw (there, same) refl in
-      (last ∙ sym first, same)
 
   made : (source : List ℕ) (make : Range → List ℕ → List ℕ → Result (List ℕ) Refusal) → let d = changes (edits name false make StopsIn) in Alike (outcome d image source) (outcome d other source)
   made source make = rw (here, there, same) (go (make region (bytes_in region image) source))
@@ -42,14 +35,12 @@ module _ (name : List ℕ) (region : Range) (image other : List ℕ) (here : reg
       go (Ok bytes) = (refl, alike_over region image other bytes (region_lies image name region here) (region_lies other name region there) same)
 
   each : (task : Task) (source : List ℕ) → let d = effect (on_region name task) in Alike (outcome d image source) (outcome d other source)
-  each (tasks.print verbose) source = printout (λ x. print_region x verbose)
-  each (tasks.extract component) source = printout (λ x. extract_region x component)
   each (tasks.add component kind hash spot) source =
       let new : NewComponent = new_component component kind hash source in
       made source (λ found x s. fault_or (λ fault. Err (edit_refusal fault)) (addition_in x new spot) (λ place. Ok (added x new place)))
   each (tasks.remove component) source = made source (λ found x s. fault_or (λ fault. Err (edit_refusal fault)) (removal_in x component) (λ group. Ok (removed x group)))
-  each tasks.read source = printout shows
   each tasks.write source = made source (λ found x s. if length s == found.size then Ok s else Err refusals.SourceSize)
+  each _ source = rw (here, there, same) (refl, refl)
 
 pub outcomes_of_region : OutcomesAreOfTheRegion
 outcomes_of_region name task region image other source here there same = each name region image other here there same task source

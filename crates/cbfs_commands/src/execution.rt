@@ -20,6 +20,7 @@ use crate::remove::remove;
 use crate::write::write;
 use flash_device::{Flash, Paged, Sink, Source};
 
+#[tactic(auto, using(crate::proofs::CommandEffects::runs))]
 fn dispatch<F: Flash, S: Source, W: Sink>(
     paged: &mut Paged<F>,
     command: &Command,
