@@ -9,7 +9,6 @@ use crate::fault::ChangeFault;
 use crate::images::{Images, RegionPair};
 use flash_device::{Flash, PIECE};
 
-/// Returns the number of blocks of `len` bytes.
 pub fn blocks_of(len: u64) -> u64
     requires { len ≤ 2 ^ 32 }
     ensures { result ≡ blocks_of len }
@@ -25,7 +24,6 @@ pub struct Differing {
     pub own: u32,
 }
 
-/// Returns the numbers among the first `len` blocks.
 pub fn different_in<F: Flash, G: Flash>(
     images: &mut Images<F, G>,
     regions: &RegionPair,

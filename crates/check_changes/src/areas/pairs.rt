@@ -40,7 +40,6 @@ impl AreaPair {
             .is_some_and(|old| old.area.size == self.new.area.size)
     }
 
-    /// Returns whether the pair contains this block of `outer`.
     fn holds(&self, lens: Lengths, outer: RegionPair, number: u64) -> bool
         requires fit { (lens.old < 2 ^ 32) × (lens.new < 2 ^ 32) }
         requires inside { LieWithin lens outer }

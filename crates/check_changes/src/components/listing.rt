@@ -23,7 +23,6 @@ pub struct Listed {
 }
 
 impl Listed {
-    /// Copies the component's name.
     pub fn copied_name(&self, alloc: Global) -> Result<Name, AllocError>
         ensures { IfOk result (λ name. name ≡ self.now.name) }
     {

@@ -59,7 +59,6 @@ fn put_hexadecimal(writer: &mut Writer, n: u64) -> Result<(), AllocError>
     }
 }
 
-/// Writes a field, if it has a JSON value.
 fn put_member(writer: &mut Writer, field: Field<'_>) -> Result<(), AllocError>
     ensures { AddsTokens result writer.old writer.new (member_tokens (seen_field field.entry)) }
 {

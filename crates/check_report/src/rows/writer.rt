@@ -51,7 +51,6 @@ impl<W: Sink + Drop> Printer<W> {
         }
     }
 
-    /// Prints a row for each kind with hidden rows.
     fn more(&mut self, kinds: &[Kind]) -> Result<(), WriteFault>
         ensures { PrintsLines W.contents W.faults result self.old self.new
             (flat_map (λ kind. map row_line (more_of (seen_kind kind))) kinds.now) }
