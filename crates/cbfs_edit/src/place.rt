@@ -93,7 +93,7 @@ pub fn find_place<F: Flash>(
 }
 
 /// Advances the search over a cell.
-#[tactic(auto, unfolding(flash_format::specs::Components::components_from, crate::specs::Removals::by_rows))]
+#[tactic(auto, unfolding(crate::specs::Removals::by_rows))]
 fn pass<F: Flash>(
     paged: &mut Paged<F>,
     region: Region,

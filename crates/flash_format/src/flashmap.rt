@@ -32,7 +32,7 @@ impl FmapHead {
     pub const LENGTH: usize = 56;
 
     /// Decodes a head, or returns `None` without the signature.
-    #[tactic(auto, unfolding(crate::specs::Flashmap::fmap_head_of, crate::specs::Flashmap::has_signature))]
+    #[tactic(auto, unfolding(crate::specs::Flashmap::has_signature))]
     pub fn read(bytes: &[u8; Self::LENGTH]) -> Option<FmapHead>
         ensures { result
             ≡ (if has_signature bytes.now then Some (fmap_head_of bytes.now) else None) }

@@ -39,7 +39,7 @@ struct Token<'t> {
 }
 
 /// Returns the tree of a text, or the first fault.
-#[tactic(auto, unfolding(crate::specs::Faults::first_fault, crate::specs::Words::words, crate::specs::Words::words_after))]
+#[tactic(auto, unfolding(crate::specs::Faults::first_fault))]
 pub fn parse(alloc: Global, text: &[u8]) -> Result<Section, FmdFault>
     ensures tree { IfOk result (λ t. IsSection (view t) (words text.now)) }
     ensures refused { FailsWith (first_fault text.now) result }
