@@ -9,7 +9,7 @@ use Rattle.check_report.specs.declared.rows.kinds.Counts.{Counts}
 use Rattle.check_report.specs.declared.rows.row.Verdict.{Verdict}
 use Rattle.check_report.specs.declared.rows.row.Verdict.TheVariants.{Bad}
 use Rattle.check_report.specs.Rows.Rows.{SeenRow, is_bad_row, is_verdict, tallied}
-use Rattle.check_changes.specs.Lists.{only_if}
+use Rattle.check_findings.specs.Lists.{only_if}
 use Rattle.check_report.specs.Rows.Limits.{SeenKind, count_in, counted, is_of, seen_kind, shown_after}
 
 -- the first i kinds aren't the row's

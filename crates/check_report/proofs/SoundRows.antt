@@ -14,7 +14,7 @@ use Rattle.check_report.specs.declared.rows.printer.Printer.{Printer}
 use Rattle.check_report.specs.declared.rows.writer.RowWriter.{RowWriter}
 use Rattle.check_report.specs.Rows.Fields.{Line}
 use Rattle.check_report.specs.Rows.Rows.{SeenRow, counts_of, is_bad_row, row_line, tallied}
-use Rattle.check_changes.specs.Lists.{only_if}
+use Rattle.check_findings.specs.Lists.{only_if}
 use Rattle.check_report.specs.Rows.Limits.{count_in, counted, kinds_of, limited_rows, more_of, seen_kind, shown_after, shown_rows}
 use Rattle.check_report.specs.Rows.Reports.{ending, follows_after, heading, parts, report, rows_text}
 use Rattle.check_report.specs.Rows.Effects.{Adds, Ends, HasPrinted, HasWritten, PrintsLines, shown_lines}

@@ -20,7 +20,7 @@ use Rattle.check_changes.specs.declared.components.change.Difference.TheVariants
 use Rattle.check_changes.specs.declared.components.change.ComponentChange.{ComponentChange}
 use Rattle.check_changes.specs.declared.components.change.ComponentChange.TheVariants as components
 use Rattle.check_findings.specs.Image.ImageFindings.{has_one_of}
-use Rattle.check_changes.specs.Lists.{only_if}
+use Rattle.check_findings.specs.Lists.{only_if}
 use Rattle.check_report.specs.declared.rows.row.Verdict.{Verdict}
 use Rattle.check_report.specs.declared.rows.row.Verdict.TheVariants as verdicts
 use Rattle.check_report.specs.FindingRows.{missing_row}

@@ -35,7 +35,7 @@ use Rattle.check_findings.specs.declared.image.finding.ImageFinding.TheVariants.
 use Rattle.check_findings.specs.Image.Needs.{Wish, unmet}
 use Rattle.check_findings.specs.declared.image.needs.NeedFinding.{NeedFinding}
 use Rattle.check_findings.specs.declared.image.needs.NeedFinding.TheVariants.{Missing, Elsewhere}
-use Rattle.check_changes.specs.Lists.{only_if}
+use Rattle.check_findings.specs.Lists.{only_if}
 use Rattle.check_findings.specs.Image.Verdicts.{is_bad_hash}
 use Rattle.check_report.specs.declared.request.Asked.{Asked}
 use Rattle.check_report.specs.Names.{Names}

@@ -1,7 +1,7 @@
 //! The rows of a report.
 ghost use Rattle.std.specs.Prelude.{◌≡◌, ◌∷◌, ◌||◌, [], false, nat_lt, map, if◌then◌else◌};
 ghost use Rattle.std.specs.List.{flat_map};
-ghost use Rattle.check_changes.specs.Lists.{only_if};
+ghost use Rattle.check_findings.specs.Lists.{only_if};
 ghost use Rattle.check_report.specs.Rows.Limits.{more_of, more_row, seen_kind};
 ghost use Rattle.check_report.specs.Rows.Rows.{row_line, seen_row};
 ghost use Rattle.check_report.specs.Rows.Effects.{Adds, Ends, HasWritten, PrintsLines};

@@ -6,7 +6,7 @@ use Rattle.std.specs.Str.{bytes_eq}
 use Rattle.std.proofs.lemmas.Slice.Eq.{bytes_eq-Decides}
 use Rattle.check_report.specs.declared.rows.row.Verdict.TheVariants.{Bad}
 use Rattle.check_report.specs.Rows.Rows.{SeenRow, is_bad_row, is_verdict, verdict_word}
-use Rattle.check_changes.specs.Lists.{only_if}
+use Rattle.check_findings.specs.Lists.{only_if}
 use Rattle.check_report.specs.Rows.Limits.{SeenKind, count_in, counted, is_of, shown_after}
 use Rattle.check_report.proofs.laws.limits_lose_no_bad_row.Goals as goal
 

@@ -17,7 +17,7 @@ use Rattle.check_findings.specs.declared.map.finding.MapFinding.TheVariants as o
 use Rattle.check_findings.specs.declared.image.finding.ImageFinding.{ImageFinding}
 use Rattle.check_findings.specs.declared.image.finding.ImageFinding.TheVariants.{Map, Region, NotChecked, NoArea}
 use Rattle.check_findings.specs.Image.Verdicts.{is_bad, is_bad_hash, is_bad_map, is_bad_region}
-use Rattle.check_changes.specs.Lists.{only_if}
+use Rattle.check_findings.specs.Lists.{only_if}
 use Rattle.check_report.specs.Rows.Rows.{SeenRow, at_component}
 use Rattle.check_report.specs.FindingRows.{component_rows, has_hash_row, hash_row, map_row, region_rows, rows_of}
 use Rattle.check_report.specs.Rows.Rows.{area_name, is_bad_row}
