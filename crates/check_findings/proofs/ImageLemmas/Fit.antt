@@ -1,22 +1,20 @@
 -- Regions without bad findings.
 use Rattle.std.proofs.Common.{◌==◌}
 use Rattle.check_findings.specs.Lists.{only_if}
-use Rattle.std.proofs.Common.{arith, ◌≡◌, ◌≢◌, ℕ, ◌+◌, Bool, true, false, cond, List, [], ◌∷◌, ◌++◌, Some, None, Contains, All, length, sym, ap, ◌∙◌}
+use Rattle.std.proofs.Common.{arith, ◌≡◌, ℕ, ◌+◌, Bool, true, false, cond, List, [], ◌∷◌, Some, None, Contains, All, length, sym, ap, ◌∙◌}
 use Rattle.std.specs.List.{list_any}
 use Rattle.std.proofs.lemmas.Bool.{false≢true, or_parts}
 use Rattle.std.proofs.lemmas.List.Elements.{All-nil, All-cons}
 use Rattle.std.proofs.lemmas.List.Folds.{list_any_at}
-use Rattle.flash_format.specs.declared.head.DamageKind.{DamageKind}
 use Rattle.flash_format.specs.Head.{head_of, is_free}
 use Rattle.flash_format.specs.Entry.{entry}
-use Rattle.flash_format.specs.Cut.{End, damage, cut}
+use Rattle.flash_format.specs.Cut.{cut}
 use Rattle.flash_format.specs.Components.{Component, component_at, components_from}
 use Rattle.cbfs_walk.specs.CellReadings.{place_after}
 use Rattle.cbfs_walk.specs.Shapes.{has_bad_size, is_absent, refused_or}
 use Rattle.cbfs_walk.specs.declared.walk.WalkFault.TheVariants as faults
 use Rattle.std.proofs.lemmas.Grind.{common_steps}
-use Rattle.check_findings.specs.Laws.{IsBlankTail}
-use Rattle.check_findings.specs.Region.RegionFindings.{all_marked, cell_findings, cells_findings, component_finding, cell_count_findings, end_findings, marked, region_findings, shape_findings, tail_bytes, tail_findings, walk_findings}
+use Rattle.check_findings.specs.Region.RegionFindings.{all_marked, cell_findings, cells_findings, component_finding, marked, region_findings, shape_findings, tail_bytes, tail_findings, walk_findings}
 use Rattle.check_findings.specs.declared.region.finding.RegionFinding.{RegionFinding}
 use Rattle.check_findings.specs.declared.region.finding.RegionFinding.TheVariants as findings
 use Rattle.check_findings.proofs.MapLemmas.Sound.{none_of}

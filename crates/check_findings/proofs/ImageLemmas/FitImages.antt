@@ -3,7 +3,7 @@ use Rattle.std.proofs.lemmas.List.Folds.{list_any-append}
 use Rattle.check_findings.specs.declared.image.finding.ImageFinding.TheVariants.{Region}
 use Rattle.std.proofs.Common.{arith, ◌≡◌, ◌∙◌, ℕ, ◌+◌, ◌≤◌, Bool, true, false, ◌||◌, cond, All, Contains, List, [], ◌∷◌, ◌++◌, ◌*◌, drop, length, nat_le, Option, Some, None, Ok, refl, sym, ap, subst}
 use Rattle.std.specs.Prelude.{filter, map}
-use Rattle.std.specs.List.{find, flat_map, list_any}
+use Rattle.std.specs.List.{find, list_any}
 use Rattle.std.specs.Option.{option_map, option_map_or}
 use Rattle.std.proofs.lemmas.Bool.{and_parts, le-ltb, leb-true, or_parts}
 use Rattle.std.proofs.lemmas.List.Elements.{All-nil, All-cons, All-head, All-tail, All-filter, All-weaker, All-contains_itself, filter_passes}
@@ -16,7 +16,7 @@ use Rattle.flash_map.specs.Regions.{region_of, region_under}
 use Rattle.check_findings.specs.declared.map.finding.MapFinding.{MapFinding}
 use Rattle.check_findings.specs.declared.map.finding.MapFinding.TheVariants.{NoMap}
 use Rattle.flash_map.specs.declared.areas.NumberedArea.{NumberedArea}
-use Rattle.check_findings.specs.Map.MapFindings.{findings_of, map_findings, name_findings}
+use Rattle.check_findings.specs.Map.MapFindings.{findings_of, map_findings}
 use Rattle.flash_map.specs.Areas.{area_end, has_name, image_areas, map_areas, numbered_from}
 use Rattle.check_findings.proofs.MapLemmas.Sound.{named, none_of}
 use Rattle.check_findings.specs.declared.image.finding.ImageFinding.{ImageFinding}

@@ -5,13 +5,15 @@ ghost use Rattle.check_findings.specs.Region.RegionFindings.{all_marked};
 ghost use Rattle.check_findings.specs.Region.Reports.{mark_at};
 
 use crate::lists::{Pushed, push_if};
-use crate::region::finding::RegionFinding;
+use crate::region::finding::{Name, RegionFinding};
 use std::alloc::{AllocError, Global};
 use std::collections::HashSet;
 use std::hash::RandomState;
 
-/// Returns the indices of components with the name of an earlier component. Random keys hash the
-/// names, since an image's author chooses them.
+/// Names, hashed with random keys, since an image's author chooses names.
+type Names<'a> = HashSet<&'a Name, RandomState>;
+
+/// Returns the indices of components with the name of an earlier component.
 fn shadowed(
     alloc: Global,
     keys: RandomState,
@@ -20,11 +22,11 @@ fn shadowed(
     ensures { IfOk result (λ indices.
         fold mark_at findings.now indices.items ≡ all_marked [] findings.now) }
 {
-    let mut names = HashSet::with_capacity_and_hasher(alloc, findings.len(), keys)?;
+    let mut names: Names = HashSet::with_capacity_and_hasher(alloc, findings.len(), keys)?;
     let mut indices = Vec::new(alloc);
     for i in 0..findings.len() {
         if let RegionFinding::Component { name, .. } = &findings[i] {
-            let is_new = names.insert(name.as_slice())?;
+            let is_new = names.insert(name)?;
             push_if(&mut indices, !is_new, i)?;
         }
     }

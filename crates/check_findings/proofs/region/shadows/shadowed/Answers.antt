@@ -15,7 +15,7 @@ loop-i-preserved c =
     let here : drop i all ≡ f ∷ drop (i + 1) all = rw (add-one i) (drop-cons all i f c.loop-i-test.true ∙ ap (λ (g : RegionFinding). g ∷ drop (suc i) all) (sym c.index-findings-i.is)) in
     elim c.match-findings-i.branch [
       | in-Component+in_ok-is_new+in_ok-push_if w ↦ rw (w.names-is, w.indices-is, w.in_ok-push_if.ensures)
-          (marking_component c.loop-i.names w.insert.new.self all c.loop-i.indices.items i _ w.as_slice.result _ _ _ c.loop-i.invariant (rw (w.in-Component.is, sym w.as_slice.ensures) at here) w.in_ok-is_new.ensures.updates w.in_ok-is_new.ensures.added)
+          (marking_component c.loop-i.names w.insert.new.self all c.loop-i.indices.items i _ (record { ref_ptr = (0, 0); now = w.in-Component.name }) _ _ _ c.loop-i.invariant (rw w.in-Component.is at here) w.in_ok-is_new.ensures.updates w.in_ok-is_new.ensures.added)
       | in_default w ↦ rw (w.names-is, w.indices-is) (marking_other _ all _ i f c.loop-i.invariant here w.in_default.not-Component)
     ]
 
