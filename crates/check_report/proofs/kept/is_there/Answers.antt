@@ -8,6 +8,5 @@ use Rattle.check_report.proofs.kept.is_there.Goals as goal
 pub returns : goal.returns
 returns c = any_from_yields_List (has_name c.args.name.now) _ _ _ c.any.ensures.ran
     (YieldsList-from_chain (YieldsList-from_slice c.args.old_areas.now cc)
-    (YieldsList-from_slice c.args.new_areas.now cc)
-    c.chain-areas.ensures.first_done c.chain-areas.ensures.second_done)
-    (λ x b q k. search (rules, tests))
+    (YieldsList-from_slice c.args.new_areas.now cc) c.chain-areas.ensures.first_done
+    c.chain-areas.ensures.second_done) (λ x b q k. search (rules, tests))
