@@ -527,7 +527,7 @@ limits() {
         cbfstool tried.rom print -v | awk '/^new\t/ { inside = 1; next } /^[^\t]/ { inside = 0 } inside' > listed
         [ ! -s listed ] || fail "claims: -t $type makes: $(cat listed)"
     done < <(item t | sed '/^or a number/,$d' | quoted)
-    [ "$(item t | sed '/^or a number/,$d' | quoted | sort)" = "$(sed -n '/^const NAMED/,/^];/s/^ *(.*, "\(.*\)"),$/\1/p' \
+    [ "$(item t | sed '/^or a number/,$d' | quoted | sort)" = "$(sed -n '/^const TYPES/,/^];/s/^ *(.*, "\(.*\)"),$/\1/p' \
         "$top/crates/flash_format/src/type_names.rt" | grep -vx -e null -e deleted | sort)" ] || fail "claims: other types than the sources'"
     # digests
     for text in $(item A | sed '/^The default/,$d' | quoted); do

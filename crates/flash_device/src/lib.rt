@@ -16,7 +16,7 @@ mod watch;
 pub use counter::Counter;
 pub use fail_at::FailAt;
 pub use fail_source::FailSource;
-pub use flash::{COMMIT_LENGTH, Flash, FlashFault, PIECE};
+pub use flash::{Flash, FlashFault, PIECE};
 pub use laws::{separate_edits_swap, separate_writes_swap, writes_are_seen_by_regions};
 pub use mem_flash::MemFlash;
 pub use mem_source::MemSource;
