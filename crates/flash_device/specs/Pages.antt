@@ -125,28 +125,19 @@ pub record HasFilled {T E : Type 0} (at n byte : ℕ) (old new : Device)
 
 -- A copy of a source's first n bytes. `copied`, `stopped` and `part` are for an honest device and
 -- source, `outside` for an honest device.
-pub record HasCopiedIn {F S T : Type 0} (facts : F → Device) (source_facts : S → Device) (at n : ℕ)
-    (device device_now : F) (source source_now : S) (result : Result T CopyFault) : Type 0 where
-  pub calls : Calls ((n + 4095) / 4096) (fault_count by_device result)
-      (facts device) (facts device_now)
-  pub source_calls : Calls ((n + 4095) / 4096) (fault_count by_source result)
-      (source_facts source) (source_facts source_now)
+pub record HasCopiedIn {T : Type 0} (at n : ℕ) (old new source source_now : Device)
+    (result : Result T CopyFault) : Type 0 where
+  pub calls : Calls ((n + 4095) / 4096) (fault_count by_device result) old new
+  pub source_calls : Calls ((n + 4095) / 4096) (fault_count by_source result) source source_now
   pub no_output : IsErrOf result causes.Output → ⊥
-  pub same_source : IsTrue (source_facts source).honest
-      → (source_facts source_now).content ≡ (source_facts source).content
-  pub copied : IsTrue (facts device).honest → IsTrue (source_facts source).honest
-      → OnOk result ((facts device_now).content
-      ≡ overwritten (facts device).content at (take n (source_facts source).content))
-  pub stopped : IsTrue (facts device).honest → IsTrue (source_facts source).honest
-      → IsErrOf result causes.Source
-      → FirstWritten at (take n (source_facts source).content)
-      (facts device).content (facts device_now).content
-  pub part : IsTrue (facts device).honest → IsTrue (source_facts source).honest
-      → IsErrOf result causes.Device
-      → PartWritten at (take n (source_facts source).content)
-      (facts device).content (facts device_now).content
-  pub outside : IsTrue (facts device).honest
-      → SameOutside at n (facts device).content (facts device_now).content
+  pub same_source : IsTrue source.honest → source_now.content ≡ source.content
+  pub copied : IsTrue old.honest → IsTrue source.honest
+      → OnOk result (new.content ≡ overwritten old.content at (take n source.content))
+  pub stopped : IsTrue old.honest → IsTrue source.honest → IsErrOf result causes.Source
+      → FirstWritten at (take n source.content) old.content new.content
+  pub part : IsTrue old.honest → IsTrue source.honest → IsErrOf result causes.Device
+      → PartWritten at (take n source.content) old.content new.content
+  pub outside : IsTrue old.honest → SameOutside at n old.content new.content
 
 -- A copy of n bytes into a sink. `copied` and `part` are for honest devices.
 pub record HasCopiedOut {F W T : Type 0} (facts : F → Device) (contents : W → Option (List ℕ))
@@ -159,9 +150,7 @@ pub record HasCopiedOut {F W T : Type 0} (facts : F → Device) (contents : W �
   pub faults : failures out ≤ failures out_now
   pub output : IsErrOf result causes.Output → failures out < failures out_now
   pub no_source : IsErrOf result causes.Source → ⊥
-  pub copied : IsTrue (facts old.device).honest
-      → OnOk result (Appends (contents out) (contents out_now)
-      (slice_range (facts old.device).content at (at + n)))
-  pub part : IsTrue (facts old.device).honest
-      → OnErr result (AppendsPart (contents out) (contents out_now)
-      (slice_range (facts old.device).content at (at + n)))
+  pub copied : OnHonest facts old.device (λ image.
+      OnOk result (Appends (contents out) (contents out_now) (slice_range image at (at + n))))
+  pub part : OnHonest facts old.device (λ image.
+      OnErr result (AppendsPart (contents out) (contents out_now) (slice_range image at (at + n))))

@@ -324,8 +324,8 @@ impl<F: Flash> Paged<F> {
         requires inside { at + n ≤ length (F.facts self.old.device).content }
         requires in_source { n ≤ length (S.facts source.old).content }
 
-        ensures after { HasCopiedIn F.facts S.facts at n self.old.device self.new.device source.old
-            source.new result }
+        ensures after { HasCopiedIn at n (F.facts self.old.device) (F.facts self.new.device)
+            (S.facts source.old) (S.facts source.new) result }
         ensures dropped { self.new.held ≡ Nothing }
     {
         self.copy_in_watched(at, n, source, &mut Unwatched)?;
@@ -343,8 +343,8 @@ impl<F: Flash> Paged<F> {
         requires inside { at + n ≤ length (F.facts self.old.device).content }
         requires in_source { n ≤ length (S.facts source.old).content }
 
-        ensures after { HasCopiedIn F.facts S.facts at n self.old.device self.new.device source.old
-            source.new (as_copy result) }
+        ensures after { HasCopiedIn at n (F.facts self.old.device) (F.facts self.new.device)
+            (S.facts source.old) (S.facts source.new) (as_copy result) }
         ensures dropped { self.new.held ≡ Nothing }
         // If the source is honest, on any device.
         ensures shown { IsTrue (S.facts source.old).honest → (seen : List ℕ)
@@ -429,8 +429,8 @@ fn copy_pieces<F: Flash, S: Source, W: Watch>(
     requires inside { at + n ≤ length (F.facts device.old).content }
     requires in_source { n ≤ length (S.facts source.old).content }
 
-    ensures after { HasCopiedIn F.facts S.facts at n device.old device.new source.old
-        source.new (as_copy result) }
+    ensures after { HasCopiedIn at n (F.facts device.old) (F.facts device.new)
+        (S.facts source.old) (S.facts source.new) (as_copy result) }
     ensures shown { IsTrue (S.facts source.old).honest → (seen : List ℕ) → W.saw watch.old seen
         → OnOk result (W.saw watch.new (seen ++ take n (S.facts source.old).content)) }
 {
