@@ -1,11 +1,12 @@
 -- The command line by clap's definition, and its command.
 use Rattle.std.specs.Prelude.{ℕ, Bool, false, List, [], ◌∷◌, length, ◌==◌, ◌||◌, nat_lt}
 use Rattle.std.specs.Prelude.{Option, Some, None, Result, Ok, Err, option_map, option_and_then}
-use Rattle.std.specs.Prelude.{unwrap_or, if◌then◌else◌}
+use Rattle.std.specs.Prelude.{find, unwrap_or, if◌then◌else◌}
 use Rattle.std.specs.Borrow.{Bor}
 use Rattle.std.specs.List.{list_any, slice_split}
 use Rattle.std.specs.Option.{option_map_or}
 use Rattle.std.specs.Str.{bytes_eq}
+use Prim.Native.String.{String}
 use lib.Chars.{codes}
 use Rattle.clap.specs.Words.{Row, first_of}
 use Rattle.clap.specs.Words as clap
@@ -20,7 +21,7 @@ use Rattle.cbfs_edit.specs.declared.addition.HashChoice.TheVariants.{Plain}
 use Rattle.cbfs_edit.specs.Additions.{choice_of}
 use Rattle.cbfs_edit.specs.declared.place.Spot.{Spot}
 use Rattle.cbfs_edit.specs.declared.place.Spot.TheVariants.{First, Aligned, Fixed}
-use Rattle.cbfs_commands.specs.Effects.{Request, request_of}
+use Rattle.cbfs_commands.specs.Effects.{Request, Task, request_of}
 use Rattle.cbfs_commands.specs.Effects as requests
 use Rattle.cbfs_commands.specs.declared.command.Command.{Command}
 use Rattle.cbfs_commands.specs.declared.refusal.Refusal.{Refusal}
@@ -45,21 +46,9 @@ abbrev pub texts_of : List (List ℕ) → Option Texts
 texts_of [] = None
 texts_of (image ∷ rest) = option_map (with_image image) (clap.subcommand_of command_line rest)
 
-abbrev pub option_text : List ℕ → Texts → Option (List ℕ)
-option_text id t = first_of id t.options
-
--- the value of `-r`, or the default
-abbrev pub region_named : Texts → List ℕ
-region_named t = unwrap_or (option_text (codes "region") t) (codes "COREBOOT")
-
 -- if `-v` is present
 abbrev pub verbose_by : Option (List ℕ) → Bool
 verbose_by text = option_map_or (λ told. bytes_eq told (codes "true")) text false
-
--- a missing option is a bad command line
-abbrev pub unless_missing : Option (List ℕ) → Result Request Refusal → Result Request Refusal
-unless_missing None r = Err refusals.Usage
-unless_missing (Some text) r = r
 
 -- the value of `-a` or `-b`, not both
 abbrev pub spot_by : Option (List ℕ) → Option (List ℕ) → Option Spot
@@ -92,33 +81,43 @@ abbrev pub creation_of : List (List ℕ) → Result Request Refusal
 creation_of names = if nat_lt 16 (length names) || list_any (λ name. length name == 0) names
     then Err refusals.Usage else Ok (requests.create names)
 
-abbrev pub command_of : Texts → Result Request Refusal
-command_of t =
-    if bytes_eq t.subcommand (codes "print")
-    then Ok (requests.on_region (region_named t)
-    (requests.print (verbose_by (option_text (codes "verbose") t))))
-    else (if bytes_eq t.subcommand (codes "layout") then Ok requests.layout
-    else (if bytes_eq t.subcommand (codes "extract")
-    then unless_missing (option_text (codes "file") t)
-    (unless_missing (option_text (codes "name") t) (Ok (requests.on_region (region_named t)
-    (requests.extract (unwrap_or (option_text (codes "name") t) [])))))
-    else (if bytes_eq t.subcommand (codes "add")
-    then addition (region_named t) (option_text (codes "name") t) (option_text (codes "file") t)
-    (option_and_then type_of_text (option_text (codes "type") t))
-    (hash_by (option_text (codes "hash") t))
-    (spot_by (option_text (codes "alignment") t) (option_text (codes "base") t))
-    else (if bytes_eq t.subcommand (codes "remove")
-    then unless_missing (option_text (codes "name") t) (Ok (requests.on_region (region_named t)
-    (requests.remove (unwrap_or (option_text (codes "name") t) []))))
-    else (if bytes_eq t.subcommand (codes "read")
-    then unless_missing (option_text (codes "file") t)
-    (Ok (requests.on_region (region_named t) requests.read))
-    else (if bytes_eq t.subcommand (codes "write")
-    then unless_missing (option_text (codes "file") t)
-    (Ok (requests.on_region (region_named t) requests.write))
-    else (if bytes_eq t.subcommand (codes "create")
-    then unless_missing (option_text (codes "file") t) (creation_of (split_names (region_named t)))
-    else Err refusals.Usage)))))))
+-- ---- the request
+
+module _ (t : Texts) where
+  abbrev pub text : String → Option (List ℕ)
+  text id = first_of (codes id) t.options
+
+  -- the value of `-r`, or the default
+  abbrev pub region_named : List ℕ
+  region_named = unwrap_or (text "region") (codes "COREBOOT")
+
+  abbrev pub on_region : Task → Result Request Refusal
+  on_region task = Ok (requests.on_region region_named task)
+
+  -- a missing option is a bad command line
+  abbrev pub with_file : Result Request Refusal → Result Request Refusal
+  with_file request = option_map_or (λ path. request) (text "file") (Err refusals.Usage)
+
+  abbrev pub with_name : (List ℕ → Task) → Result Request Refusal
+  with_name task = option_map_or (λ name. on_region (task name)) (text "name") (Err refusals.Usage)
+
+  -- by subcommand
+  abbrev pub requests_of : List (String × Result Request Refusal)
+  requests_of = ("print", on_region (requests.print (verbose_by (text "verbose"))))
+      ∷ ("layout", Ok requests.layout) ∷ ("extract", with_file (with_name requests.extract))
+      ∷ (
+        "add",
+        addition region_named (text "name") (text "file")
+            (option_and_then type_of_text (text "type")) (hash_by (text "hash"))
+            (spot_by (text "alignment") (text "base")),
+      ) ∷ ("remove", with_name requests.remove)
+      ∷ ("read", with_file (on_region requests.read))
+      ∷ ("write", with_file (on_region requests.write))
+      ∷ ("create", with_file (creation_of (split_names region_named))) ∷ []
+
+  abbrev pub command_of : Result Request Refusal
+  command_of = option_map_or (λ row. row.1)
+      (find (λ row. bytes_eq t.subcommand (codes row.0)) requests_of) (Err refusals.Usage)
 
 abbrev pub request_answer : Result Command Refusal → Result Request Refusal
 request_answer (Ok command) = Ok (request_of command)

@@ -3,11 +3,11 @@
 ghost use Rattle.std.specs.Prelude.{◌≡◌, ◌≢◌, ◌<◌, ◌⊎◌, [], ◌∷◌, length, Some, IfSome, IfOk, IfErr};
 ghost use Rattle.std.specs.Prelude.{codes, drop, map, option_map, option_and_then, true};
 ghost use Rattle.flash_format.specs.TypeNames.{type_of_text};
-ghost use Rattle.clap.specs.Words.{fault_of, has_subcommand, kind_of, subcommand_rows_of};
+ghost use Rattle.clap.specs.Words.{fault_of, first_of, has_subcommand, kind_of, subcommand_rows_of};
 ghost use Rattle.cbfs_line.specs.Subcommands.{command_line};
 ghost use Rattle.cbfs_line.specs.CommandLine.{addition, command_of, creation_of, hash_by, split_names};
 ghost use Rattle.cbfs_line.specs.CommandLine.{names_of, refusal_by, request_answer, spot_by};
-ghost use Rattle.cbfs_line.specs.CommandLine.{option_text, texts_of, verbose_by, with_image};
+ghost use Rattle.cbfs_line.specs.CommandLine.{text, texts_of, verbose_by, with_file, with_image};
 
 use crate::words::whole_command;
 use arrayvec::ArrayVec;
@@ -53,13 +53,13 @@ impl<'a> Line<'a> {
 
     /// Returns the path of `-f`, or of `-M` for `create`.
     pub fn file(&self) -> Option<&'a str>
-        ensures { option_map (λ t. t.now) result ≡ option_text (codes "file") self.now }
+        ensures { option_map (λ t. t.now) result ≡ text self.now "file" }
     {
         self.option("file")
     }
 
     fn option(&self, id: &str) -> Option<&'a str>
-        ensures { option_map (λ t. t.now) result ≡ option_text id.now self.now }
+        ensures { option_map (λ t. t.now) result ≡ first_of id.now self.now.options }
     {
         self.options.get_str(id)
     }
@@ -91,20 +91,29 @@ impl<'a> Line<'a> {
                 }),
                 None => Err(Refusal::Usage),
             },
-            "read" if self.file().is_some() => Ok(Command::Read { region }),
-            "write" if self.file().is_some() => Ok(Command::Write { region }),
-            "create" if self.file().is_some() => creation(regions),
+            "read" => self.with_file(Ok(Command::Read { region })),
+            "write" => self.with_file(Ok(Command::Write { region })),
+            "create" => self.with_file(creation(regions)),
             _ => Err(Refusal::Usage),
+        }
+    }
+
+    fn with_file(&self, command: Result<Command<'a>, Refusal>) -> Result<Command<'a>, Refusal>
+        ensures { request_answer result ≡ with_file self.now (request_answer command.entry) }
+    {
+        match self.file() {
+            Some(_) => command,
+            None => Err(Refusal::Usage),
         }
     }
 
     fn addition(&self, region: &'a [u8]) -> Result<Command<'a>, Refusal>
         ensures { request_answer result ≡ addition region.entry.now
-            (option_text (codes "name") self.now) (option_text (codes "file") self.now)
-            (option_and_then type_of_text (option_text (codes "type") self.now))
-            (hash_by (option_text (codes "hash") self.now))
-            (spot_by (option_text (codes "alignment") self.now)
-            (option_text (codes "base") self.now)) }
+            (text self.now "name") (text self.now "file")
+            (option_and_then type_of_text (text self.now "type"))
+            (hash_by (text self.now "hash"))
+            (spot_by (text self.now "alignment")
+            (text self.now "base")) }
     {
         let (Some(name), Some(_)) = (self.option("name"), self.file()) else {
             return Err(Refusal::Usage);
@@ -122,7 +131,7 @@ impl<'a> Line<'a> {
     }
 
     fn verbose(&self) -> bool
-        ensures { result ≡ verbose_by (option_text (codes "verbose") self.now) }
+        ensures { result ≡ verbose_by (text self.now "verbose") }
     {
         match self.option("verbose") {
             Some(text) => text == "true",
@@ -131,7 +140,7 @@ impl<'a> Line<'a> {
     }
 
     fn kind(&self) -> Option<u32>
-        ensures { result ≡ option_and_then type_of_text (option_text (codes "type") self.now) }
+        ensures { result ≡ option_and_then type_of_text (text self.now "type") }
     {
         match self.option("type") {
             Some(text) => type_number(text),
@@ -140,7 +149,7 @@ impl<'a> Line<'a> {
     }
 
     fn hash(&self) -> Option<HashChoice>
-        ensures { result ≡ hash_by (option_text (codes "hash") self.now) }
+        ensures { result ≡ hash_by (text self.now "hash") }
     {
         match self.option("hash") {
             Some(name) => Algorithm::named(name).map(HashChoice::from),
@@ -149,8 +158,8 @@ impl<'a> Line<'a> {
     }
 
     fn spot(&self) -> Option<Spot>
-        ensures { result ≡ spot_by (option_text (codes "alignment") self.now)
-            (option_text (codes "base") self.now) }
+        ensures { result ≡ spot_by (text self.now "alignment")
+            (text self.now "base") }
     {
         match (self.option("alignment"), self.option("base")) {
             (None, None) => Some(Spot::First),
