@@ -62,13 +62,6 @@ abbrev pub hash_by : Option (List ℕ) → Option HashChoice
 hash_by None = Some Plain
 hash_by (Some name) = option_map choice_of (algorithm_named name)
 
--- requires name, file and valid options
-abbrev pub addition : List ℕ → Option (List ℕ) → Option (List ℕ) → Option ℕ → Option HashChoice
-    → Option Spot → Result Request Refusal
-addition region (Some name) (Some file) (Some kind) (Some hash) (Some spot) =
-    Ok (requests.on_region region (requests.add name kind hash spot))
-addition region _ _ _ _ _ = Err refusals.Usage
-
 -- between commas
 abbrev pub split_names : List ℕ → List (List ℕ)
 split_names list = slice_split (λ b. b == 44) list
@@ -101,17 +94,23 @@ module _ (t : Texts) where
   abbrev pub with_name : (List ℕ → Task) → Result Request Refusal
   with_name task = option_map_or (λ name. on_region (task name)) (text "name") (Err refusals.Usage)
 
+  -- requires a name and valid options
+  abbrev pub addition_by : Option (List ℕ) → Option ℕ → Option HashChoice → Option Spot
+      → Result Request Refusal
+  addition_by (Some name) (Some kind) (Some hash) (Some spot) =
+      on_region (requests.add name kind hash spot)
+  addition_by _ _ _ _ = Err refusals.Usage
+
+  abbrev pub addition : Result Request Refusal
+  addition = with_file (addition_by (text "name") (option_and_then type_of_text (text "type"))
+      (hash_by (text "hash")) (spot_by (text "alignment") (text "base")))
+
   -- by subcommand
   abbrev pub requests_of : List (String × Result Request Refusal)
   requests_of = ("print", on_region (requests.print (verbose_by (text "verbose"))))
-      ∷ ("layout", Ok requests.layout) ∷ ("extract", with_file (with_name requests.extract))
-      ∷ (
-        "add",
-        addition region_named (text "name") (text "file")
-            (option_and_then type_of_text (text "type")) (hash_by (text "hash"))
-            (spot_by (text "alignment") (text "base")),
-      ) ∷ ("remove", with_name requests.remove)
-      ∷ ("read", with_file (on_region requests.read))
+      ∷ ("layout", Ok requests.layout)
+      ∷ ("extract", with_file (with_name requests.extract)) ∷ ("add", addition)
+      ∷ ("remove", with_name requests.remove) ∷ ("read", with_file (on_region requests.read))
       ∷ ("write", with_file (on_region requests.write))
       ∷ ("create", with_file (creation_of (split_names region_named))) ∷ []
 

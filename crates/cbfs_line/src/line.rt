@@ -7,7 +7,7 @@ ghost use Rattle.clap.specs.Words.{fault_of, first_of, has_subcommand, kind_of, 
 ghost use Rattle.cbfs_line.specs.Subcommands.{command_line};
 ghost use Rattle.cbfs_line.specs.CommandLine.{addition, command_of, creation_of, hash_by, split_names};
 ghost use Rattle.cbfs_line.specs.CommandLine.{names_of, refusal_by, request_answer, spot_by};
-ghost use Rattle.cbfs_line.specs.CommandLine.{text, texts_of, verbose_by, with_file, with_image};
+ghost use Rattle.cbfs_line.specs.CommandLine.{region_named, text, texts_of, verbose_by, with_file, with_image};
 
 use crate::words::whole_command;
 use arrayvec::ArrayVec;
@@ -68,7 +68,7 @@ impl<'a> Line<'a> {
     pub fn command(&self) -> Result<Command<'a>, Refusal>
         ensures { request_answer result ≡ command_of self.now }
     {
-        let regions = self.option("region").unwrap_or(DEFAULT_REGION);
+        let regions = self.regions();
         let region = regions.as_bytes();
         match self.subcommand {
             "print" => Ok(Command::Print {
@@ -83,7 +83,7 @@ impl<'a> Line<'a> {
                 }),
                 _ => Err(Refusal::Usage),
             },
-            "add" => self.addition(region),
+            "add" => self.addition(),
             "remove" => match self.option("name") {
                 Some(name) => Ok(Command::Remove {
                     region,
@@ -107,14 +107,17 @@ impl<'a> Line<'a> {
         }
     }
 
-    fn addition(&self, region: &'a [u8]) -> Result<Command<'a>, Refusal>
-        ensures { request_answer result ≡ addition region.entry.now
-            (text self.now "name") (text self.now "file")
-            (option_and_then type_of_text (text self.now "type"))
-            (hash_by (text self.now "hash"))
-            (spot_by (text self.now "alignment")
-            (text self.now "base")) }
+    /// Returns the value of `-r`, or the default.
+    fn regions(&self) -> &'a str
+        ensures { result.now ≡ region_named self.now }
     {
+        self.option("region").unwrap_or(DEFAULT_REGION)
+    }
+
+    fn addition(&self) -> Result<Command<'a>, Refusal>
+        ensures { request_answer result ≡ addition self.now }
+    {
+        let region = self.regions().as_bytes();
         let (Some(name), Some(_)) = (self.option("name"), self.file()) else {
             return Err(Refusal::Usage);
         };
