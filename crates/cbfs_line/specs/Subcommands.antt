@@ -1,47 +1,41 @@
 -- The subcommands of cbfstool and their options.
 use Rattle.std.specs.Prelude.{ℕ, Bool, true, false, List, [], ◌∷◌, Some}
+use Prim.Native.String.{String}
 use lib.Chars.{codes}
 use Rattle.clap.specs.Words.{App, Rule, Shape, new_rule}
 use Rattle.clap.specs.Simple.{new_shape}
-use Rattle.clap.specs.declared.builder.action.ArgAction.{ArgAction}
 use Rattle.clap.specs.declared.builder.action.ArgAction.TheVariants.{Set, SetTrue}
 
--- a single letter
-abbrev pub rule_of : List ℕ → ℕ → ArgAction → Bool → Rule
-rule_of id letter action required =
-    record (new_rule id) { short = Some letter; action = Some action; required = required }
-
--- with a value
-abbrev pub option_of : List ℕ → ℕ → Bool → Rule
-option_of id letter required = rule_of id letter Set required
+-- with a value; the letter is a character
+abbrev pub option_of : String → ℕ → Bool → Rule
+option_of id letter required =
+    record (new_rule (codes id)) { short = Some letter; action = Some Set; required = required }
 
 abbrev pub region_option : Rule
-region_option = option_of (codes "region") 114 false
+region_option = option_of "region" 114 false
 
 abbrev pub file_option : Rule
-file_option = option_of (codes "file") 102 true
+file_option = option_of "file" 102 true
 
 abbrev pub name_option : Rule
-name_option = option_of (codes "name") 110 true
+name_option = option_of "name" 110 true
 
-abbrev pub subcommand_of : List ℕ → List Rule → Shape
-subcommand_of name options = record (new_shape name) { rules = options }
+abbrev pub verbose_option : Rule
+verbose_option = record (option_of "verbose" 118 false) { action = Some SetTrue }
 
--- `-v` takes no value; `-M` of create names a file
+abbrev pub subcommand : String → List Rule → Shape
+subcommand name options = record (new_shape (codes name)) { rules = options }
+
+-- `-M` of create names a file
 abbrev pub subcommands : List Shape
-subcommands =
-    subcommand_of (codes "print") (region_option ∷ rule_of (codes "verbose") 118 SetTrue false ∷ [])
-    ∷ subcommand_of (codes "layout") []
-    ∷ subcommand_of (codes "extract") (region_option ∷ file_option ∷ name_option ∷ [])
-    ∷ subcommand_of (codes "add")
-    (region_option ∷ name_option ∷ file_option ∷ option_of (codes "type") 116 true
-    ∷ option_of (codes "alignment") 97 false
-    ∷ option_of (codes "base") 98 false ∷ option_of (codes "hash") 65 false ∷ [])
-    ∷ subcommand_of (codes "remove") (region_option ∷ name_option ∷ [])
-    ∷ subcommand_of (codes "read") (region_option ∷ file_option ∷ [])
-    ∷ subcommand_of (codes "write") (region_option ∷ file_option ∷ [])
-    ∷ subcommand_of (codes "create") (option_of (codes "file") 77 true ∷ region_option ∷ [])
-    ∷ []
+subcommands = subcommand "print" (region_option ∷ verbose_option ∷ []) ∷ subcommand "layout" []
+    ∷ subcommand "extract" (region_option ∷ file_option ∷ name_option ∷ [])
+    ∷ subcommand "add" (region_option ∷ name_option ∷ file_option ∷ option_of "type" 116 true
+    ∷ option_of "alignment" 97 false ∷ option_of "base" 98 false ∷ option_of "hash" 65 false ∷ [])
+    ∷ subcommand "remove" (region_option ∷ name_option ∷ [])
+    ∷ subcommand "read" (region_option ∷ file_option ∷ [])
+    ∷ subcommand "write" (region_option ∷ file_option ∷ [])
+    ∷ subcommand "create" (option_of "file" 77 true ∷ region_option ∷ []) ∷ []
 
 -- the arguments after IMAGE
 abbrev pub command_line : App

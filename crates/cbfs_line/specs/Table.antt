@@ -1,10 +1,9 @@
 -- Tables of options and subcommands as clap commands.
-use Rattle.std.specs.Prelude.{◌≡◌, ℕ, List, [], ◌∷◌, false}
+use Rattle.std.specs.Prelude.{◌≡◌, ℕ, List, [], ◌∷◌, false, Some}
 use Rattle.std.specs.Borrow.{Bor}
-use Rattle.clap.specs.Words.{App, Rule, app_of, new_app, with_rule, with_subcommand}
+use Rattle.clap.specs.Words.{App, Rule, app_of, new_app, new_rule, with_rule, with_subcommand}
 use Rattle.clap.specs.declared.builder.command.Command.{Command}
 use Rattle.clap.specs.declared.builder.command.Command.TheViews.{out-Command as fields_of}
-use Rattle.cbfs_line.specs.Subcommands.{rule_of}
 use Rattle.cbfs_line.specs.declared.words.TableOption.{TableOption}
 
 -- as defined, without a global option
@@ -13,7 +12,8 @@ pub record IsLocal (command : Command) (app : App) : Type 0 where
   pub shape : app_of command ≡ app
 
 abbrev pub rule_by : TableOption → Rule
-rule_by o = rule_of o.id.now o.letter o.action o.required
+rule_by o = record (new_rule o.id.now)
+    { short = Some o.letter; action = Some o.action; required = o.required }
 
 abbrev pub with_options : App → List TableOption → App
 with_options a [] = a
