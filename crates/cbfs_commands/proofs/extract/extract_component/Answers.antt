@@ -2,9 +2,6 @@
 use Rattle.std.proofs.Common.{rules}
 use Rattle.cbfs_commands.proofs.extract.extract_component.Goals as goal
 
-pub returns : goal.returns
-returns g c = search rules
-
 pub returns-in_err-packing : goal.returns-in_err-packing
 returns-in_err-packing g c =
     record { read = search rules; sink = search rules; output = search rules; no_source = search rules; printout = search rules }

@@ -1,11 +1,8 @@
-use Rattle.std.proofs.Common.{arith, rules}
+use Rattle.std.proofs.Common.{arith}
 use Rattle.flash_device.specs.Regions.{bytes_in}
 use Rattle.flash_device.proofs.DeviceLemmas.{length-bytes_in}
 use Rattle.cbfs_edit.proofs.FormatLemmas.{format_done, format_stopped}
 use Rattle.cbfs_edit.proofs.formatting.format.Goals as goal
-
-pub returns-clause-after : goal.returns-clause-after
-returns-clause-after g c = search rules
 
 pub returns-clause-formatted : goal.returns-clause-formatted
 returns-clause-formatted g c honest =

@@ -1,10 +1,6 @@
-use Rattle.std.proofs.Common.{rules}
 use Rattle.flash_device.proofs.DeviceLemmas.{honest_still}
 use Rattle.cbfs_edit.proofs.Removals.{image_of, removal_leaves}
 use Rattle.cbfs_edit.proofs.removal.remove.Goals as goal
-
-pub returns-clause-refused : goal.returns-clause-refused
-returns-clause-refused g c = search rules
 
 pub returns-in_err-write_empty_entry-clause-stopped : goal.returns-in_err-write_empty_entry-clause-stopped
 returns-in_err-write_empty_entry-clause-stopped g c honest = λ is.
@@ -12,9 +8,6 @@ returns-in_err-write_empty_entry-clause-stopped g c honest = λ is.
     c.requires.inside c.requires.below (c.find_group.ensures.after.device.unchanged honest)
     (c.in_ok-group.ensures.answer honest)
     (c.write_empty_entry.ensures.left (honest_still c.find_group.ensures.after.device.calls.same_honesty honest))
-
-pub returns-clause-after : goal.returns-clause-after
-returns-clause-after g c = search rules
 
 pub returns-clause-image : goal.returns-clause-image
 returns-clause-image g c honest =

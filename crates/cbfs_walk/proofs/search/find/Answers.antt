@@ -1,4 +1,4 @@
-use Rattle.std.proofs.Common.{inr, rules}
+use Rattle.std.proofs.Common.{inr}
 use Rattle.std.proofs.lemmas.Result.{err_from_is_err_and}
 use Rattle.cbfs_walk.proofs.SearchSteps.{searching_start, searching_more, found_first, found_answer, last_after, last_answer, searching_err}
 use Rattle.cbfs_walk.proofs.search.find.Goals as goal
@@ -10,9 +10,6 @@ pub loop-cell-preserved : goal.loop-cell-preserved
 loop-cell-preserved g c =
     searching_more _ c.args.region c.args.name.now c.loop-cell.walk _ _ c.requires c.loop-cell.invariant _ c.in-Cell.cell _ c.in_ok-is_component-in-Cell.field-0 c.in-Cell.is
     c.in_ok-cell.ensures.cell c.in_ok-cell.ensures.after c.in_ok-cell.ensures.answer c.in_ok-is_component-in-Cell.ensures.named _ _ c.if-branch.false c.in_ok-cell.ensures.moved c.in_ok-is_component-in-Cell.ensures.after.read
-
-pub returns-then-branch-clause-after : goal.returns-then-branch-clause-after
-returns-then-branch-clause-after g c = search rules
 
 pub returns-then-branch-clause-answer : goal.returns-then-branch-clause-answer
 returns-then-branch-clause-answer g c = λ h.

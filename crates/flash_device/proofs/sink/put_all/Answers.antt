@@ -1,4 +1,4 @@
-use Rattle.std.proofs.Common.{arith, rules}
+use Rattle.std.proofs.Common.{arith}
 use Rattle.std.proofs.KnownBytes.{Appends-trans}
 use Rattle.std.proofs.lemmas.List.{length-drop, take_rest}
 use Rattle.std.proofs.Math.Seq.{take-add}
@@ -15,9 +15,3 @@ loop-done-preserved g c =
       rw (take-add c.loop-done.done n bytes) joined,
       omega (arith, had.2, c.put.ensures.faults),
     )
-
-pub returns-clause-cause : goal.returns-clause-cause
-returns-clause-cause g c = search rules
-
-pub returns-clause-part : goal.returns-clause-part
-returns-clause-part g c = search rules

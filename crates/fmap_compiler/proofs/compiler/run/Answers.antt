@@ -4,12 +4,6 @@ use Rattle.std.proofs.KnownBytes.{Keeps-refl}
 use Rattle.fmap_compiler.proofs.Compilations.{HasTable-prefix, Refuses-known}
 use Rattle.fmap_compiler.proofs.compiler.run.Goals as goal
 
-pub returns-clause-read_cause : goal.returns-clause-read_cause
-returns-clause-read_cause g c = search rules
-
-pub returns-clause-output_cause : goal.returns-clause-output_cause
-returns-clause-output_cause g c = search rules
-
 pub returns-clause-ok : goal.returns-clause-ok
 returns-clause-ok g c =
     HasTable-prefix _ _ _ c.deref.result.now c.in_ok-table.table.items c.deref-2.result.now c.in_ok-text.ensures.text

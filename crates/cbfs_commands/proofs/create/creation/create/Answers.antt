@@ -3,9 +3,6 @@ use Rattle.flash_device.proofs.DeviceLemmas.{honest_still}
 use Rattle.cbfs_commands.proofs.CreationEffects.{all-written, creation_done, creation_stopped}
 use Rattle.cbfs_commands.proofs.create.creation.create.Goals as goal
 
-pub returns-in_err-plan : goal.returns-in_err-plan
-returns-in_err-plan g c = search rules
-
 pub returns-in_err-fill : goal.returns-in_err-fill
 returns-in_err-fill g c = creation_stopped _ (search rules) (search rules) (search rules)
 

@@ -1,8 +1,0 @@
-use Rattle.std.proofs.Common.{rules}
-use Rattle.flash_device.proofs.paged.Paged.fill.Goals as goal
-
-pub returns-clause-after : goal.returns-clause-after
-returns-clause-after g c = search rules
-
-pub returns-clause-dropped : goal.returns-clause-dropped
-returns-clause-dropped g c = search rules
