@@ -6,7 +6,7 @@ use Rattle.flash_device.proofs.DeviceLemmas.{honest_still}
 use Rattle.flash_device.proofs.WindowLemmas.{HasRead-none, HasRead-then, HasRead-within}
 use Rattle.check_changes.specs.declared.images.Images.{Images}
 use Rattle.check_changes.specs.declared.fault.ChangeFault.{ChangeFault}
-use Rattle.check_changes.specs.Faults.{by_old, by_new}
+use Rattle.check_changes.specs.Images.{by_old, by_new}
 use Rattle.check_changes.specs.Images.{HasReadBoth, HasReadFor, OnBoth}
 
 module _ {F G : Type 0} (f : F → Device) (g : G → Device) where

@@ -6,11 +6,11 @@ use Rattle.std.proofs.lemmas.List.Sums.{sum_by-append}
 use Rattle.flash_device.specs.Device.{Device}
 use Rattle.flash_map.specs.declared.areas.NumberedArea.{NumberedArea}
 use Rattle.check_findings.specs.declared.image.finding.ImageFinding.{ImageFinding}
-use Rattle.check_findings.specs.Image.RegionAreas.{region_area, region_areas, sum_sizes}
+use Rattle.check_findings.specs.ImageFindings.{region_area, region_areas, sum_sizes}
 use Rattle.check_changes.specs.declared.images.Images.{Images}
 use Rattle.check_changes.specs.declared.regions.change.RegionChange.{RegionChange}
 use Rattle.check_changes.specs.Images.{HasReadBoth, OnBoth, lengths}
-use Rattle.check_changes.specs.Regions.RegionChanges.{region_changes_in, region_changes}
+use Rattle.check_changes.specs.Regions.{region_changes_in, region_changes}
 use Rattle.check_changes.proofs.ImageLemmas.{both-none, both-then, both-within, OnBoth-before}
 
 module _ {F G : Type 0} (f : F → Device) (g : G → Device) (olds : List NumberedArea) (findings : List ImageFinding) where

@@ -1,4 +1,73 @@
-pub mod ComponentChanges
-pub mod Listings
-pub mod Firsts
-pub mod Pairs
+-- Changes of components. This project defines their choice and order.
+use Rattle.std.specs.Prelude.{ℕ, Bool, not, false, ◌&&◌, List, [], ◌∷◌, ◌++◌, length, slice_range, map, is_none, Option, Some, None, ◌==◌, if◌then◌else◌}
+use Rattle.std.specs.Bool.{then_some}
+use Rattle.std.specs.List.{find, flat_map}
+use Rattle.std.specs.Option.{option_map_or, option_to_list}
+use Rattle.std.specs.Str.{bytes_eq}
+use Rattle.flash_format.specs.Head.{head_of}
+use Rattle.flash_format.specs.Components.{Component, components}
+use Rattle.cbfs_walk.specs.Cells.{attributes_start, content_start}
+use Rattle.cbfs_walk.specs.Hashes.{content_at}
+use Rattle.cbfs_walk.specs.Shapes.{shape_fault, refused_or}
+use Rattle.cbfs_walk.specs.declared.cell.Cell.{Cell}
+use Rattle.check_findings.specs.Lists.{only_if}
+use Rattle.check_changes.specs.Areas.{if_changed}
+use Rattle.check_changes.specs.declared.components.change.ComponentDifference.{ComponentDifference}
+use Rattle.check_changes.specs.declared.components.change.ComponentDifference.TheVariants.{Added, Removed, «Type», Length, Content, Attributes, MovedFrom}
+use Rattle.check_changes.specs.declared.components.change.ComponentChange.{ComponentChange}
+use Rattle.check_changes.specs.declared.components.listing.Listed.{Listed}
+
+-- a component by its name and cell
+abbrev pub listed_of : Component → Listed
+listed_of c = let h = head_of c.bytes in
+    record { name = c.name; cell = record { at = c.at; head = h; span = length c.bytes } }
+
+-- the components of a region, up to a damage; none without a valid shape
+unfoldable pub listed_in : List ℕ → List Listed
+listed_in x = refused_or (λ fault. []) (shape_fault x) (map listed_of (components x))
+
+abbrev pub first_of : List ℕ → List Listed → Option Listed
+first_of name all = find (λ l. bytes_eq name l.name) all
+
+-- the component is the first of its name
+abbrev pub is_first_of : List Listed → Listed → Bool
+is_first_of all l = option_map_or (λ first. first.cell.at == l.cell.at) (first_of l.name all) false
+
+-- the bytes between name and content
+abbrev pub attributes_at : List ℕ → Cell → List ℕ
+attributes_at x c = slice_range x (attributes_start c) (content_start c)
+
+-- the first difference between components of regions x and y
+abbrev pub difference : List ℕ → List ℕ → Cell → Cell → Option ComponentDifference
+difference x y old new = if not (old.head.kind == new.head.kind) then Some «Type»
+    else (if not (old.head.len == new.head.len) then Some Length
+    else (if not (bytes_eq (content_at x old) (content_at y new)) then Some Content
+    else then_some (not (bytes_eq (attributes_at x old) (attributes_at y new))) Attributes))
+
+-- the differences from the first old namesake, if any
+abbrev pub differences : List ℕ → List ℕ → Option Listed → Listed → List ComponentDifference
+differences x y None new = Added ∷ []
+differences x y (Some old) new = option_to_list (difference x y old.cell new.cell)
+    ++ if_changed old.cell.at new.cell.at MovedFrom
+
+abbrev pub component_change : Listed → ComponentDifference → ComponentChange
+component_change l what = record { at = l.cell.at; name = l.name; what = what }
+
+-- the changes of a new component, if no namesake precedes it
+abbrev pub new_changes : List ℕ → List ℕ → List Listed → List Listed → Listed → List ComponentChange
+new_changes x y old new l = if is_first_of new l
+    then map (component_change l) (differences x y (first_of l.name old) l) else []
+
+-- the removal of an old component without a new namesake
+abbrev pub removal_of : List Listed → List Listed → Listed → List ComponentChange
+removal_of old new l =
+    only_if (is_none (first_of l.name new) && is_first_of old l) (component_change l Removed)
+
+-- changes in the order of the new region, then removals in the order of the old region
+unfoldable pub changes_between : List ℕ → List ℕ → List Listed → List Listed → List ComponentChange
+changes_between x y old new =
+    flat_map (new_changes x y old new) new ++ flat_map (removal_of old new) old
+
+-- the changes from region x to region y
+abbrev pub component_changes : List ℕ → List ℕ → List ComponentChange
+component_changes x y = changes_between x y (listed_in x) (listed_in y)

@@ -1,65 +1,67 @@
--- Two images on two devices.
-use Rattle.std.specs.Prelude.{ℕ, ◌+◌, ◌≤◌, ◌&&◌, List, Result, IsTrue, Option, Some, None, length, nat_le, if◌then◌else◌}
+-- Two images on two devices, and the faults of a comparison.
+use Rattle.std.specs.Prelude.{ℕ, ◌+◌, ◌≤◌, List, Result, length}
 use Rattle.flash_device.specs.Device.{Device, fault_count}
-use Rattle.flash_device.specs.Pages.{HasRead}
+use Rattle.flash_device.specs.Pages.{HasRead, OnHonest}
 use Rattle.flash_device.specs.Regions.{Range, LiesOn, bytes_in}
-use Rattle.flash_map.specs.declared.areas.NumberedArea.{NumberedArea}
-use Rattle.flash_map.specs.Areas.{area_end}
-use Rattle.check_findings.specs.Image.ImageFindings.{range_of}
+use Rattle.flash_map.specs.declared.fault.CheckFault.{CheckFault}
+use Rattle.flash_map.specs.declared.fault.CheckFault.TheVariants as check
 use Rattle.check_changes.specs.declared.fault.ChangeFault.{ChangeFault}
+use Rattle.check_changes.specs.declared.fault.ChangeFault.TheVariants as faults
 use Rattle.check_changes.specs.declared.images.Images.{Images}
 use Rattle.check_changes.specs.declared.images.Both.{Both}
-use Rattle.check_changes.specs.Faults.{by_old, by_new}
+
+-- ---- faults
+
+-- the number of refused calls of the old device in a fault
+abbrev pub by_old : ChangeFault → ℕ
+by_old faults.OldDevice = 1
+by_old _ = 0
+
+-- of the new device
+abbrev pub by_new : ChangeFault → ℕ
+by_new faults.NewDevice = 1
+by_new _ = 0
+
+-- the fault of a check of an image on this device
+abbrev pub of_check : ChangeFault → CheckFault → ChangeFault
+of_check device check.Device = device
+of_check device check.Memory = faults.Memory
+
+-- ---- lengths and regions
 
 abbrev pub lengths_of : List ℕ → List ℕ → Both ℕ
 lengths_of x y = record { old = length x; new = length y }
 
-abbrev pub lengths : {F G : Type 0} → (F → Device) → (G → Device) → Images F G → Both ℕ
-lengths f g images =
-    lengths_of (f images.old_image.device).content (g images.new_image.device).content
+abbrev pub LieWithin : Both ℕ → Both Range → Type 0
+LieWithin lens r = (r.old.start + r.old.size ≤ lens.old) × (r.new.start + r.new.size ≤ lens.new)
 
-pub record LieWithin (lens : Both ℕ) (regions : Both Range) : Type 0 where
-  pub in_old : regions.old.start + regions.old.size ≤ lens.old
-  pub in_new : regions.new.start + regions.new.size ≤ lens.new
+-- ---- images on devices
 
--- regions on the devices of the images
-pub record LieOn {F G : Type 0} (f : F → Device) (g : G → Device) (images : Images F G)
-    (regions : Both Range) : Type 0 where
-  pub old : LiesOn regions.old (f images.old_image.device)
-  pub new : LiesOn regions.new (g images.new_image.device)
+module _ {F G : Type 0} (f : F → Device) (g : G → Device) where
+  abbrev pub lengths : Images F G → Both ℕ
+  lengths i = lengths_of (f i.old_image.device).content (g i.new_image.device).content
 
--- two areas as regions, if both lie in their images
-abbrev pub regions_within : Both ℕ → NumberedArea → NumberedArea → Option (Both Range)
-regions_within lens old new =
-    if nat_le (area_end old.area) lens.old && nat_le (area_end new.area) lens.new
-    then Some (record { old = range_of old; new = range_of new }) else None
+  -- regions on the devices of the images
+  abbrev pub LieOn : Images F G → Both Range → Type 0
+  LieOn i r = LiesOn r.old (f i.old_image.device) × LiesOn r.new (g i.new_image.device)
 
--- P of both images, if both devices are honest
-abbrev pub OnBoth : {F G : Type 0} → (F → Device) → (G → Device) → Images F G
-    → (List ℕ → List ℕ → Type 0) → Type 0
-OnBoth f g images P =
-    IsTrue (f images.old_image.device).honest → IsTrue (g images.new_image.device).honest
-    → P (f images.old_image.device).content (g images.new_image.device).content
+  -- P of both images, if both devices are honest
+  abbrev pub OnBoth : Images F G → (List ℕ → List ℕ → Type 0) → Type 0
+  OnBoth i P = OnHonest f i.old_image.device (λ x. OnHonest g i.new_image.device (P x))
 
--- P of a region of each image
-abbrev pub OnBothIn : {F G : Type 0} → (F → Device) → (G → Device) → Images F G → Both Range
-    → (List ℕ → List ℕ → Type 0) → Type 0
-OnBothIn f g images regions P =
-    OnBoth f g images (λ x y. P (bytes_in regions.old x) (bytes_in regions.new y))
+  -- P of a region of each image
+  abbrev pub OnBothIn : Images F G → Both Range → (List ℕ → List ℕ → Type 0) → Type 0
+  OnBothIn i r P = OnBoth i (λ x y. P (bytes_in r.old x) (bytes_in r.new y))
 
--- the images after at most m and n reads, a and b of them refused
-pub record HasReadBoth {F G : Type 0} (f : F → Device) (g : G → Device) (m n a b : ℕ)
-    (before after : Images F G) : Type 0 where
-  pub of_old : HasRead f m a before.old_image after.old_image
-  pub of_new : HasRead g n b before.new_image after.new_image
+  -- the images after at most m and n reads, a and b of them refused
+  pub record HasReadBoth (m n a b : ℕ) (before after : Images F G) : Type 0 where
+    pub of_old : HasRead f m a before.old_image after.old_image
+    pub of_new : HasRead g n b before.new_image after.new_image
 
--- the same; the result names the device that refused a read
-abbrev pub HasReadFor : {F G T : Type 0} → (F → Device) → (G → Device) → ℕ → ℕ
-    → Images F G → Images F G → Result T ChangeFault → Type 0
-HasReadFor f g m n before after result =
-    HasReadBoth f g m n (fault_count by_old result) (fault_count by_new result) before after
+  -- the same; the result names the device that refused a read
+  abbrev pub HasReadFor : {T : Type 0} (m n : ℕ) (i j : Images F G) → Result T ChangeFault → Type 0
+  HasReadFor m n i j r = HasReadBoth m n (fault_count by_old r) (fault_count by_new r) i j
 
--- the same with a common bound
-abbrev pub HasCompared : {F G T : Type 0} → (F → Device) → (G → Device) → ℕ
-    → Images F G → Images F G → Result T ChangeFault → Type 0
-HasCompared f g n before after result = HasReadFor f g n n before after result
+  -- the same with a common bound
+  abbrev pub HasCompared : {T : Type 0} (n : ℕ) (i j : Images F G) → Result T ChangeFault → Type 0
+  HasCompared n i j r = HasReadFor n n i j r

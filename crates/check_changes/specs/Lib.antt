@@ -1,5 +1,7 @@
-pub mod Faults
 pub mod Images
 pub mod Areas
+pub mod Blocks
+pub mod Laws
 pub mod Components
+pub mod Listings
 pub mod Regions

@@ -16,7 +16,7 @@ pub enum ChangeFault {
 }
 
 impl ChangeFault {
-    ghost use Rattle.check_changes.specs.Faults.{of_check};
+    ghost use Rattle.check_changes.specs.Images.{of_check};
 
     /// Returns the fault of a check of the old image.
     pub fn of_old(fault: CheckFault) -> ChangeFault

@@ -1,12 +1,12 @@
 //! The two images.
 ghost use Rattle.std.specs.Prelude.{◌≡◌, ◌+◌, ◌*◌, ◌^◌, ◌<◌, ◌≤◌, Some, IfOk, IfSome};
-ghost use Rattle.check_changes.specs.Areas.AreaChanges.{compared, left_after};
-ghost use Rattle.check_changes.specs.Areas.Blocks.{differs};
-ghost use Rattle.check_changes.specs.Images.{HasCompared, LieOn, LieWithin, OnBothIn, lengths, regions_within};
+ghost use Rattle.check_changes.specs.Areas.{compared, left_after};
+ghost use Rattle.check_changes.specs.Blocks.{differs};
+ghost use Rattle.check_changes.specs.Images.{HasCompared, LieOn, OnBothIn, lengths};
 
 use crate::fault::ChangeFault;
 use flash_device::{Flash, PIECE, Paged};
-use flash_map::{NumberedArea, Region};
+use flash_map::Region;
 
 /// A value of each image.
 #[derive(Clone, Copy, Drop)]
@@ -20,17 +20,6 @@ pub type Lengths = Both<u64>;
 
 /// Two compared regions, one of each image.
 pub type RegionPair = Both<Region>;
-
-/// Returns two areas as regions, if they end inside images of these lengths.
-pub fn regions_within(lens: Lengths, old: NumberedArea, new: NumberedArea) -> Option<RegionPair>
-    ensures regions { result ≡ regions_within lens old new }
-    ensures inside { IfSome result (LieWithin lens) }
-{
-    let (old, new) = (old.area, new.area);
-    let old = Region::within(u64::from(old.offset), u64::from(old.size), lens.old)?;
-    let new = Region::within(u64::from(new.offset), u64::from(new.size), lens.new)?;
-    Some(RegionPair { old, new })
-}
 
 pub fn whole(lens: Lengths) -> RegionPair
     ensures { result ≡ record {

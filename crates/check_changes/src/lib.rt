@@ -8,8 +8,10 @@ mod images;
 mod laws;
 mod regions;
 
-pub use areas::{AreaChange, Areas, ImageChanges, MapChange, image_changes, map_changes};
-pub use components::{ComponentChange, Difference, component_changes};
+pub use areas::{
+    AreaChange, AreaDifference, Areas, ImageChanges, MapChange, image_changes, map_changes,
+};
+pub use components::{ComponentChange, ComponentDifference, component_changes};
 pub use fault::ChangeFault;
 pub use images::{Both, Images, RegionPair};
 pub use laws::differences_are_reported;

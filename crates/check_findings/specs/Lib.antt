@@ -1,5 +1,7 @@
 pub mod Lists
-pub mod Map
-pub mod Region
-pub mod Image
+pub mod MapFindings
+pub mod RegionFindings
+pub mod ImageFindings
+pub mod Verdicts
+pub mod Needs
 pub mod Laws

@@ -1,35 +1,44 @@
 //! Laws about findings, as contracts of functions without effect.
-ghost use Rattle.check_findings.specs.Laws.{BlankTailsAreKnown, CleanMapsAreSound, InFitImages};
-ghost use Rattle.check_findings.specs.Laws.{InFitRegions, IsFit, IsWhole, LosesNothing};
-ghost use Rattle.check_findings.specs.Laws.{NeedsAreThere, UnshadowedAreFound};
+ghost use Rattle.std.specs.Prelude.{◌≡◌, ◌↔◌, ℕ, List, [], ◌∷◌, Contains, None, Ok, Some, true};
+ghost use Rattle.flash_format.specs.Components.{Component, components};
+ghost use Rattle.cbfs_walk.specs.Search.{component_in};
+ghost use Rattle.cbfs_walk.specs.Shapes.{shape_fault};
+ghost use Rattle.flash_map.specs.declared.search.FoundMap.{FoundMap};
+ghost use Rattle.flash_map.specs.Areas.{map_areas};
+ghost use Rattle.check_findings.specs.declared.map.finding.MapFinding.TheVariants.{Map};
+ghost use Rattle.check_findings.specs.declared.region.finding.RegionFinding.TheVariants.{Tail};
+ghost use Rattle.check_findings.specs.MapFindings.{map_findings};
+ghost use Rattle.check_findings.specs.RegionFindings.{component_finding, region_findings};
+ghost use Rattle.check_findings.specs.RegionFindings.{tail_findings};
+ghost use Rattle.check_findings.specs.ImageFindings.{image_findings};
+ghost use Rattle.check_findings.specs.ImageFindings.{region_areas};
+ghost use Rattle.check_findings.specs.Needs.{Wish, unmet};
+ghost use Rattle.check_findings.specs.Laws.{InFitImages, IsBlankTail, IsMet, IsSound};
+ghost use Rattle.check_findings.specs.Laws.{InFitRegions, IsFit, IsWhole};
 
 /// If a map has no finding but its position, it has the image's size, and no later map exists. Each
 /// area lies inside the image, has bytes and a text name that finds it, and nests with each area.
 /// The area `FMAP` contains the map.
 pub fn clean_maps_are_sound()
-    ensures { CleanMapsAreSound }
+    ensures { (image : List ℕ) (map : FoundMap) → map_findings image ≡ Map map ∷ [] →
+        IsSound image map (map_areas image map) }
 {}
 
 /// In a region of a good size with a first entry, a search finds each unshadowed component by name.
 pub fn unshadowed_components_are_found()
-    ensures { UnshadowedAreFound }
+    ensures { (x : List ℕ) (c : Component) → shape_fault x ≡ None → Contains (components x) c →
+        ¬ Contains (region_findings x) (component_finding true c) →
+        component_in x c.name ≡ Ok (Some c) }
 {}
 
 /// The tail has no finding but its offset exactly if its bytes, except the region's last four, are
 /// 0xff or 0x00.
 pub fn blank_tails_are_known()
-    ensures { BlankTailsAreKnown }
+    ensures { (at : ℕ) (x : List ℕ) → IsBlankTail at x ↔ (tail_findings at x ≡ Tail at ∷ []) }
 {}
 
-/// In a region without bad findings, a search finds each component by name.
-pub fn fit_regions_lose_nothing()
-    ensures { InFitRegions LosesNothing }
-{
-    unshadowed_components_are_found();
-}
-
 /// A region without bad findings has a good size, a first entry, no damaged entry, matching digests
-/// and a blank tail.
+/// and a blank tail, and a search finds each component by name.
 pub fn fit_regions_are_whole()
     ensures { InFitRegions IsWhole }
 {}
@@ -38,11 +47,11 @@ pub fn fit_regions_are_whole()
 /// region as above.
 pub fn fit_images_are_whole()
     ensures { InFitImages IsFit }
-{
-    fit_regions_lose_nothing();
-}
+{}
 
 /// If the findings meet a need, a search in its area finds its component at the required position.
 pub fn needs_are_there()
-    ensures { NeedsAreThere }
+    ensures { (image : List ℕ) (names expected : List (List ℕ)) (wish : Wish) →
+        let all = image_findings image names expected in
+        unmet all wish ≡ None → IsMet image (region_areas all) wish }
 {}

@@ -13,7 +13,7 @@ pub use image::{
 };
 pub use laws::{
     blank_tails_are_known, clean_maps_are_sound, fit_images_are_whole, fit_regions_are_whole,
-    fit_regions_lose_nothing, needs_are_there, unshadowed_components_are_found,
+    needs_are_there, unshadowed_components_are_found,
 };
 pub use lists::{Elements, push, push_if};
 pub use map::{CheckedMap, MapFinding, check_map, is_text};

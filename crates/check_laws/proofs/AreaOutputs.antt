@@ -24,4 +24,4 @@ pub listed_area : (image : List ℕ) (a : NumberedArea) → IsFit image a → Is
 listed_area image a fit verbose = rw fit.reached (whole_region _ verbose fit.whole)
 
 pub extracted_area : (image : List ℕ) (a : NumberedArea) → IsFit image a → IsExtracted image a
-extracted_area image a fit c there = rw (fit.reached, fit.found c there) refl
+extracted_area image a fit c there = rw (fit.reached, fit.whole.found c there) refl

@@ -8,13 +8,13 @@ use Rattle.std.proofs.lemmas.List.Elements.{All-contains, Contains-append_cases,
 use Rattle.flash_format.specs.Cut.{cut}
 use Rattle.cbfs_walk.specs.Shapes.{shape_fault}
 use Rattle.cbfs_walk.specs.CellReadings.{place_after}
-use Rattle.cbfs_edit.specs.Places.{place_in}
+use Rattle.cbfs_edit.specs.Places.{first_place, place_in}
 use Rattle.cbfs_edit.specs.Removals.{by_rows}
-use Rattle.cbfs_edit.specs.Runs.{add_run, runs_from}
+use Rattle.cbfs_edit.specs.Runs.{add_run, runs, runs_from}
 use Rattle.cbfs_edit.specs.declared.group.CellRange.{CellRange}
 use Rattle.cbfs_edit.specs.declared.place.Place.{Place}
-use Rattle.check_findings.specs.Region.RegionFindings.{largest_room, usable}
-use Rattle.check_findings.specs.Region.RegionFindings.{all_marked, cells_findings, cell_count_findings, end_findings, marked, region_findings, walk_findings}
+use Rattle.check_findings.specs.RegionFindings.{largest_room, usable}
+use Rattle.check_findings.specs.RegionFindings.{all_marked, cells_findings, count_findings, end_findings, marked, nothing, region_findings, walk_findings}
 use Rattle.check_findings.specs.declared.region.finding.RegionFinding.{RegionFinding}
 use Rattle.check_findings.specs.declared.region.finding.RegionFinding.TheVariants.{Component, LargestContent}
 use Rattle.check_findings.proofs.RegionLemmas.Parts.{IsIn, cell_part, end_part, of_cells, of_end}
@@ -46,13 +46,10 @@ module _ (size n : ℕ) where
   enough_max : (a b : ℕ) → enough (max a b) ≡ (enough a || enough b)
   enough_max a b = grind (arith, nat_tests)
 
-  or_false : (b : Bool) → (b || false) ≡ b
-  or_false b = grind (arith, nat_tests)
-
   -- a run has a place if the content fits the most usable bytes of a run
   among : (start at : ℕ) (cells : List (List ℕ)) → has_place (runs_from start at cells) ≡ enough (largest_room size start at cells)
   unfolding by_rows largest_room
-  among start at [] = run_or start at [] ∙ or_false (enough (usable size start at))
+  among start at [] = grind (arith, nat_tests, run_or start at [])
   among start at (x ∷ cells) =
       let end = at + length x in
       let longer = among start end cells in
@@ -63,17 +60,17 @@ module _ (size n : ℕ) where
 
 -- marks change no other finding than a component
 module _ (m : ℕ) where
-  unmarked : (earlier : List RegionFinding) (f : RegionFinding) → marked earlier f ≡ LargestContent m → f ≡ LargestContent m
+  unmarked : (earlier : List RegionFinding) (f : RegionFinding) → marked earlier f ≡ LargestContent (Some m) → f ≡ LargestContent (Some m)
   unmarked earlier (Component at name is content) same = absurd cc
   unmarked earlier other same = same
 
-  was_there : (earlier all : List RegionFinding) → Contains (all_marked earlier all) (LargestContent m) → Contains all (LargestContent m)
+  was_there : (earlier all : List RegionFinding) → Contains (all_marked earlier all) (LargestContent (Some m)) → Contains all (LargestContent (Some m))
   unfolding all_marked
   was_there earlier [] has = has
   was_there earlier (f ∷ all) (zero, lt, is) = (0, omega arith, unmarked earlier f is)
   was_there earlier (f ∷ all) (suc k, lt, is) = Contains-append_right (f ∷ []) all _ (was_there (f ∷ earlier) all (k, omega (arith, lt), is))
 
-  stays : (earlier all : List RegionFinding) → Contains all (LargestContent m) → Contains (all_marked earlier all) (LargestContent m)
+  stays : (earlier all : List RegionFinding) → Contains all (LargestContent (Some m)) → Contains (all_marked earlier all) (LargestContent (Some m))
   unfolding all_marked
   stays earlier [] has = has
   stays earlier (f ∷ all) (zero, lt, is) = (0, omega arith, ap (marked earlier) is)
@@ -81,7 +78,7 @@ module _ (m : ℕ) where
 
 module _ (x : List ℕ) (good : shape_fault x ≡ None) where
   abbrev room : ℕ
-  room = largest_room (length x) 0 0 (cut x).cells
+  room = max 0 (largest_room (length x) 0 0 (cut x).cells)
 
   of_all : List RegionFinding
   of_all = cells_findings 0 (cut x).cells
@@ -89,41 +86,44 @@ module _ (x : List ℕ) (good : shape_fault x ≡ None) where
   last : List RegionFinding
   last = end_findings x (place_after 0 (cut x).cells) (cut x).end
 
-  whole : region_findings x ≡ all_marked [] (of_all ++ (last ++ cell_count_findings (length x) (cut x).cells))
+  whole : region_findings x ≡ all_marked [] (of_all ++ (last ++ count_findings (nothing (length x)) 0 (cut x).cells))
   unfolding region_findings walk_findings of_all last
   whole = rw good refl
 
-  reported : 28 ≤ room → Contains (region_findings x) (LargestContent (room - 28))
+  reported : 28 ≤ room → Contains (region_findings x) (LargestContent (Some (room - 28)))
   reported fits =
-      subst (λ l. Contains l (LargestContent (room - 28))) (sym whole)
+      subst (λ l. Contains l (LargestContent (Some (room - 28)))) (sym whole)
       (stays (room - 28) [] _ (Contains-append_right of_all _ _ (Contains-append_right last _ _ (2, omega arith, rw (le-leb 28 room fits) refl))))
 
   -- the length and 28 bytes are the room
-  by_counts : (m : ℕ) → Contains (cell_count_findings (length x) (cut x).cells) (LargestContent m) → 28 + m ≡ room
-  by_counts m (zero, below, is) = absurd (grind (arith, nat_tests))
+  by_counts : (m : ℕ) → Contains (count_findings (nothing (length x)) 0 (cut x).cells) (LargestContent (Some m)) → 28 + m ≡ room
+  by_counts m (zero, below, is) = absurd cc
   by_counts m (suc zero, below, is) = absurd cc
   by_counts m (suc (suc zero), below, is) = grind (arith, nat_tests)
   by_counts m (suc (suc (suc k)), below, is) = absurd (omega (arith, below))
 
-  found : (m : ℕ) → Contains (region_findings x) (LargestContent m) → 28 + m ≡ room
+  found : (m : ℕ) → Contains (region_findings x) (LargestContent (Some m)) → 28 + m ≡ room
   unfolding of_all last
-  found m has = go (Contains-append_cases of_all _ _ (was_there m [] _ (subst (λ l. Contains l (LargestContent m)) whole has)))
+  found m has = go (Contains-append_cases of_all _ _ (was_there m [] _ (subst (λ l. Contains l (LargestContent (Some m))) whole has)))
     where
-      later : Contains last (LargestContent m) ⊎ Contains (cell_count_findings (length x) (cut x).cells) (LargestContent m) → 28 + m ≡ room
-      later (inl there) = absurd (let is : IsIn end_part (LargestContent m) = All-contains (IsIn end_part) last (LargestContent m) (of_end x (place_after 0 (cut x).cells) (cut x).end) there in cc)
+      later : Contains last (LargestContent (Some m)) ⊎ Contains (count_findings (nothing (length x)) 0 (cut x).cells) (LargestContent (Some m)) → 28 + m ≡ room
+      later (inl there) = absurd (let is : IsIn end_part (LargestContent (Some m)) = All-contains (IsIn end_part) last (LargestContent (Some m)) (of_end x (place_after 0 (cut x).cells) (cut x).end) there in cc)
       later (inr there) = by_counts m there
 
-      go : Contains of_all (LargestContent m) ⊎ Contains (last ++ cell_count_findings (length x) (cut x).cells) (LargestContent m) → 28 + m ≡ room
-      go (inl there) = absurd (let is : IsIn cell_part (LargestContent m) = All-contains (IsIn cell_part) of_all (LargestContent m) (of_cells 0 (cut x).cells) there in cc)
+      go : Contains of_all (LargestContent (Some m)) ⊎ Contains (last ++ count_findings (nothing (length x)) 0 (cut x).cells) (LargestContent (Some m)) → 28 + m ≡ room
+      go (inl there) = absurd (let is : IsIn cell_part (LargestContent (Some m)) = All-contains (IsIn cell_part) of_all (LargestContent (Some m)) (of_cells 0 (cut x).cells) there in cc)
       go (inr there) = later (Contains-append_cases last _ _ there)
+
+  is_taken : (n : ℕ) → is_some (first_place (content_of n) (length x) (runs x)) ≡ nat_le (28 + n) room
+  is_taken n = among (length x) n 0 0 (cut x).cells ∙ ap (nat_le (28 + n)) {x = largest_room (length x) 0 0 (cut x).cells} {y = room} (omega arith)
 
   taken : (n : ℕ) → IsTaken x n → IsWithinLargest x n
   taken n is =
-      let fits : 28 + n ≤ room = leb-true (28 + n) room (sym (among (length x) n 0 0 (cut x).cells) ∙ is) in
+      let fits : 28 + n ≤ room = leb-true (28 + n) room (sym (is_taken n) ∙ is) in
       record { largest = room - 28; reported = reported (omega (arith, fits)); enough = omega (arith, fits) }
 
   within : (n : ℕ) → IsWithinLargest x n → IsTaken x n
-  within n is = among (length x) n 0 0 (cut x).cells ∙ le-leb (28 + n) room (omega (arith, found is.largest is.reported, is.enough))
+  within n is = is_taken n ∙ le-leb (28 + n) room (omega (arith, found is.largest is.reported, is.enough))
 
 pub largest_content : LargestContentIsTaken
 largest_content x n good = (taken x good n, within x good n)

@@ -1,12 +1,12 @@
 -- Laws about commands without bad findings, and about `add`.
-use Rattle.std.specs.Prelude.{◌≡◌, ◌↔◌, ◌≤◌, Bool, true, Contains, List, ℕ, None}
+use Rattle.std.specs.Prelude.{◌≡◌, ◌↔◌, ◌≤◌, Bool, true, Contains, List, ℕ, None, Some}
 use Rattle.std.specs.Prelude.{is_some, length}
 use Rattle.flash_format.specs.Components.{Component, components}
 use Rattle.flash_format.specs.Cut.{cut}
 use Rattle.flash_format.specs.Flashmap.{text_of}
 use Rattle.flash_map.specs.declared.areas.NumberedArea.{NumberedArea}
-use Rattle.check_findings.specs.Region.RegionFindings.{region_findings}
-use Rattle.check_findings.specs.Image.ImageFindings.{bytes_of}
+use Rattle.check_findings.specs.RegionFindings.{region_findings}
+use Rattle.check_findings.specs.ImageFindings.{bytes_of}
 use Rattle.check_findings.specs.declared.region.finding.RegionFinding.TheVariants.{LargestContent}
 use Rattle.cbfs_walk.specs.Shapes.{shape_fault}
 use Rattle.cbfs_edit.specs.Places.{first_place}
@@ -46,7 +46,7 @@ IsTaken x n = is_some (first_place (content_of n) (length x) (runs x)) ≡ true
 -- the largest reported content has at least n bytes
 pub record IsWithinLargest (x : List ℕ) (n : ℕ) : Type 0 where
   pub largest : ℕ
-  pub reported : Contains (region_findings x) (LargestContent largest)
+  pub reported : Contains (region_findings x) (LargestContent (Some largest))
   pub enough : n ≤ largest
 
 -- `add` takes exactly the contents up to the largest reported content

@@ -16,7 +16,7 @@ use Rattle.clap.specs.declared.builder.action.ArgAction.TheVariants.{SetTrue}
 use Rattle.clap.specs.declared.error.kind.ErrorKind.{ErrorKind}
 use Rattle.clap.specs.declared.error.kind.ErrorKind.TheVariants as reason
 use Rattle.clap.specs.declared.parser.matches.ArgMatches.{ArgMatches}
-use Rattle.check_findings.specs.Image.Needs.{wish_of}
+use Rattle.check_findings.specs.Needs.{wish_of}
 use Rattle.check_line.specs.Needs.{need_in}
 use Rattle.check_line.specs.declared.fault.LineFault.{LineFault}
 use Rattle.check_line.specs.declared.fault.LineFault.TheVariants.{Word, NoImage, NoNewImage, Memory}

@@ -6,7 +6,7 @@ use Rattle.std.specs.Option.{option_map_or, option_or}
 use Rattle.std.specs.Str.{bytes_eq}
 use lib.Chars.{codes}
 use Rattle.flash_format.specs.Numbers.{number_of}
-use Rattle.check_findings.specs.Image.Needs.{Wish}
+use Rattle.check_findings.specs.Needs.{Wish}
 use Rattle.check_findings.specs.declared.image.needs.NeededPlace.{NeededPlace}
 use Rattle.check_findings.specs.declared.image.needs.NeededPlace.TheVariants.{Any, At, End}
 

@@ -4,7 +4,7 @@ ghost use Rattle.std.specs.Prelude.{◌≡◌, ◌==◌, ◌<◌, ◌∷◌, IfO
 ghost use Rattle.std.specs.Prelude.{option_map};
 ghost use Rattle.std.specs.List.{list_any};
 ghost use Rattle.clap.specs.Words.{first_of, found_of, rows_of};
-ghost use Rattle.check_findings.specs.Image.Needs.{wish_of};
+ghost use Rattle.check_findings.specs.Needs.{wish_of};
 ghost use Rattle.check_line.specs.CheckWords.{Gives, IsInvocation, bad_areas, bad_need, complaint_in};
 ghost use Rattle.check_line.specs.CheckWords.{is_set, parts_of, texts};
 ghost use Rattle.check_line.specs.Needs.{need_in};

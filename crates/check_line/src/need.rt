@@ -1,7 +1,7 @@
 //! The required components of `--need`.
 
 ghost use Rattle.std.specs.Prelude.{◌≡◌, option_map};
-ghost use Rattle.check_findings.specs.Image.Needs.{wish_of};
+ghost use Rattle.check_findings.specs.Needs.{wish_of};
 ghost use Rattle.check_line.specs.Needs.{named_in, need_in, needed_place, split_last};
 
 use check_findings::{Need, NeededPlace};

@@ -37,6 +37,6 @@ pub prints_then : {W X : Type 0} (contents : W → Option (List ℕ)) (faults : 
 prints_then contents faults first old new f xs i d x lt is so_far more =
     rw (take_more xs i d lt, ← is, flat_map-append f (take i xs) (x ∷ []), flat_map-cons f x [], append-nil (f x))
     (record {
-      printed = printed_both contents first old new first.follows _ _ so_far.printed more.printed;
+      printed = printed_both contents first old new first.follows (flat_map f (take i xs)) (f x) so_far.printed more.printed;
       cause = omega (arith, so_far.cause, more.cause);
     })

@@ -1,6 +1,6 @@
 -- The text of a report, part by part.
 use Rattle.std.proofs.Common.{◌≡◌, ◌∙◌, ℕ, List, [], ◌∷◌, ◌++◌, map, Bool, true, false, refl, ap, ap₂, sym, append_assoc, append-nil}
-use Rattle.std.specs.Prelude.{fold, Option, Some, None, if◌then◌else◌}
+use Rattle.std.specs.Prelude.{fold, Option, Some, if◌then◌else◌}
 use Rattle.std.specs.List.{flat_map}
 use Rattle.std.specs.Option.{option_map_or}
 use lib.Chars.{codes}
@@ -8,7 +8,7 @@ use Rattle.std.proofs.lemmas.List.{map-append}
 use Rattle.std.proofs.lemmas.List.Sums.{fold-append}
 use Rattle.std.proofs.lemmas.Grind.{flat_map-append}
 use Rattle.json.specs.Json.{Members, no_members, member}
-use Rattle.json.specs.Token.{Token, begin_object, end_array, end_object}
+use Rattle.json.specs.Token.{Token, begin_array, begin_object, end_array, end_object, key}
 use Rattle.json.specs.Tree.{json_tokens, members_tokens}
 use Rattle.json.specs.Print.{ends, print, print_from}
 use Rattle.json.proofs.Printed.Tokens.{print_from-append}
@@ -18,7 +18,8 @@ use Rattle.check_report.specs.declared.rows.kinds.Counts.{Counts}
 use Rattle.check_report.specs.declared.rows.form.Form.{Form}
 use Rattle.check_report.specs.declared.rows.form.Form.TheVariants as forms
 use Rattle.check_report.specs.Rows.Fields.{Line, SeenField, line_json, line_text, members}
-use Rattle.check_report.specs.Rows.Reports.{begin_tokens, count_fields, document, ending, file_fields, follows_after, heading, lines_field, member_tokens, parts, report_with}
+use Rattle.check_report.specs.Rows.Reports.{count_fields, document, ending, file_fields, first_fields, follows_after, heading, lines_field, member_tokens, part, parts, start_tokens}
+use Rattle.check_report.specs.Rows.Rows.{summary}
 use Rattle.check_report.proofs.Tokens.{fields_tokens, object_tokens}
 
 -- a value just ended after these tokens
@@ -60,14 +61,8 @@ line_after false line = ap (λ ts. print_from false ts) (sym (append-nil (json_t
 
 -- ---- the parts make the report
 
-abbrev first_fields : Files → Option (List Line) → List SeenField
-first_fields files list = file_fields files ++ option_map_or (λ lines. lines_field (codes "components") lines ∷ []) list []
-
-abbrev opening_tokens : Files → Option (List Line) → List Token
-opening_tokens files list = (begin_object ∷ flat_map member_tokens (first_fields files list)) ++ begin_tokens (codes "rows")
-
-begun : (ts : List Token) (name : List ℕ) → ended false (ts ++ begin_tokens name) ≡ false
-begun ts name = fold-append (λ _ t. ends t) false ts (begin_tokens name)
+begun : (fields : List SeenField) (name : List ℕ) → ended false (start_tokens fields name) ≡ false
+begun fields name = fold-append (λ _ t. ends t) false (begin_object ∷ flat_map member_tokens fields) (key name ∷ begin_array ∷ [])
 
 -- an end after any tokens
 after : (b : Bool) (ts : List Token) → print_from b (end_array ∷ ts) ≡ print (end_array ∷ ts)
@@ -76,42 +71,34 @@ after true ts = refl
 after false ts = refl
 
 -- an array after its start, and the tokens after the array
-array_text : (start : List Token) (name : List ℕ) (lines : List Line) (rest : List Token)
-    → print ((((start ++ begin_tokens name) ++ lines_tokens lines)) ++ (end_array ∷ rest))
-    ≡ (print (start ++ begin_tokens name) ++ parts forms.Json false lines) ++ print (end_array ∷ rest)
-array_text start name lines rest =
-    print_from-append false ((start ++ begin_tokens name) ++ lines_tokens lines) (end_array ∷ rest)
+array_text : (fields : List SeenField) (name : List ℕ) (lines : List Line) (rest : List Token)
+    → print ((start_tokens fields name ++ lines_tokens lines) ++ (end_array ∷ rest)) ≡ (print (start_tokens fields name) ++ parts forms.Json false lines) ++ print (end_array ∷ rest)
+array_text fields name lines rest =
+    print_from-append false (start_tokens fields name ++ lines_tokens lines) (end_array ∷ rest)
     ∙ ap₂ (λ x y. x ++ y)
-    (print_from-append false (start ++ begin_tokens name) (lines_tokens lines)
-    ∙ ap (λ c. print (start ++ begin_tokens name) ++ print_from c (lines_tokens lines)) (begun start name))
+    (print_from-append false (start_tokens fields name) (lines_tokens lines)
+    ∙ ap (λ c. print (start_tokens fields name) ++ print_from c (lines_tokens lines)) (begun fields name))
     (after _ rest)
 
--- the heading has the opening tokens
-opening_text : (files : Files) (list : Option (List Line)) → heading forms.Json files list ≡ print (opening_tokens files list)
-opening_text files None = refl
-opening_text files (Some lines) =
-    sym (array_text (begin_object ∷ flat_map member_tokens (file_fields files)) (codes "components") lines (begin_tokens (codes "rows")))
-    ∙ sym (ap print (fields_tokens (file_fields files) [] (codes "components") lines (begin_tokens (codes "rows"))))
+-- the part before the rows
+pub opening : (form : Form) (files : Files) (lines : List Line)
+    → (part form false [] (start_tokens (file_fields files) (codes "components")) ++ parts form false lines) ++ part form false [] (end_array ∷ key (codes "rows") ∷ begin_array ∷ [])
+    ≡ heading form files (Some lines)
+opening forms.Text files lines = append-nil (flat_map line_text lines)
+opening forms.Json files lines = let rest : List Token = key (codes "rows") ∷ begin_array ∷ [] in
+    sym (array_text (file_fields files) (codes "components") lines rest) ∙ sym (ap print (fields_tokens (file_fields files) [] (codes "components") lines rest))
 
-opening_lines : (files : Files) (list : Option (List Line)) → heading forms.Text files list ≡ option_map_or (flat_map line_text) list []
-opening_lines files None = refl
-opening_lines files (Some lines) = append-nil (flat_map line_text lines)
+regroup : (a b c d : List ℕ) → a ++ (b ++ (c ++ d)) ≡ ((a ++ b) ++ c) ++ d
+regroup a b c d = simp append_assoc
 
 pub whole : (form : Form) (files : Files) (list : Option (List Line)) (rows : List Line) (counts : Counts)
-    → heading form files list ++ (parts form false rows ++ ending form counts) ≡ report_with form files list rows counts
-unfolding report_with document
-whole forms.Text files list rows counts =
-    ap (λ l. l ++ (parts forms.Text false rows ++ ending forms.Text counts)) (opening_lines files list)
-    ∙ sym (append_assoc (option_map_or (flat_map line_text) list []) (flat_map line_text rows) (ending forms.Text counts))
+    → heading form files list ++ (parts form false rows ++ ending form counts)
+    ≡ part form false (option_map_or (flat_map line_text) list [] ++ flat_map line_text rows ++ summary counts) (json_tokens (document files list rows counts)) ++ line_feed
+whole forms.Text files list rows counts = regroup (option_map_or (flat_map line_text) list []) (flat_map line_text rows) (summary counts) line_feed
 whole forms.Json files list rows counts =
     let first : List SeenField = first_fields files list in
-    let last : List SeenField = count_fields counts in
-    let start : List Token = begin_object ∷ flat_map member_tokens first in
-    let rest : List Token = flat_map member_tokens last ++ end_object ∷ [] in
-    let heads : heading forms.Json files list ≡ print (start ++ begin_tokens (codes "rows")) = opening_text files list in
-    let tokens : json_tokens (document files list rows counts) ≡ ((start ++ begin_tokens (codes "rows")) ++ lines_tokens rows) ++ (end_array ∷ rest) =
-    object_tokens (first ++ lines_field (codes "rows") rows ∷ last) ∙ fields_tokens first last (codes "rows") rows (end_object ∷ []) in
-    ap (λ l. l ++ (parts forms.Json false rows ++ (print (end_array ∷ rest) ++ line_feed))) heads
-    ∙ sym (append_assoc (print (start ++ begin_tokens (codes "rows"))) (parts forms.Json false rows) (print (end_array ∷ rest) ++ line_feed))
-    ∙ sym (append_assoc (print (start ++ begin_tokens (codes "rows")) ++ parts forms.Json false rows) (print (end_array ∷ rest)) line_feed)
-    ∙ ap (λ l. l ++ line_feed) (sym (array_text start (codes "rows") rows rest) ∙ sym (ap print tokens))
+    let rest : List Token = flat_map member_tokens (count_fields counts) ++ end_object ∷ [] in
+    let tokens : json_tokens (document files list rows counts) ≡ (start_tokens first (codes "rows") ++ lines_tokens rows) ++ (end_array ∷ rest) =
+    object_tokens (first ++ lines_field (codes "rows") rows ∷ count_fields counts) ∙ fields_tokens first (count_fields counts) (codes "rows") rows (end_object ∷ []) in
+    regroup (print (start_tokens first (codes "rows"))) (parts forms.Json false rows) (print (end_array ∷ rest)) line_feed
+    ∙ ap (λ l. l ++ line_feed) (sym (array_text first (codes "rows") rows rest) ∙ sym (ap print tokens))

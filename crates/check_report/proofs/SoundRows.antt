@@ -1,10 +1,9 @@
 -- A writer after another row, and at the end.
 use Rattle.std.proofs.Common.{◌≡◌, ◌∙◌, ℕ, arith, nat_lt, List, [], ◌∷◌, ◌++◌, map, Bool, true, false, refl, ap, sym, append-nil, append_assoc}
-use Rattle.std.specs.Prelude.{◌||◌, if◌then◌else◌, Option, Result, Ok, Err, IfOk, OnOk}
+use Rattle.std.specs.Prelude.{◌||◌, count_by, if◌then◌else◌, Option, Result, Ok, Err, IfOk, OnOk}
 use Rattle.std.specs.List.{flat_map, list_any}
 use Rattle.std.specs.Io.KnownBytes.{Appends}
 use Rattle.std.proofs.lemmas.List.{map-append}
-use Rattle.std.proofs.lemmas.List.Sums.{fold-append}
 use Rattle.std.proofs.KnownBytes.{Appends-nil, Appends-trans}
 use Rattle.check_report.specs.declared.fault.WriteFault.{WriteFault}
 use Rattle.check_report.specs.declared.rows.kinds.Kind.{Kind}
@@ -13,12 +12,12 @@ use Rattle.check_report.specs.declared.rows.kinds.Counts.{Counts}
 use Rattle.check_report.specs.declared.rows.printer.Printer.{Printer}
 use Rattle.check_report.specs.declared.rows.writer.RowWriter.{RowWriter}
 use Rattle.check_report.specs.Rows.Fields.{Line}
-use Rattle.check_report.specs.Rows.Rows.{SeenRow, counts_of, is_bad_row, row_line, tallied}
+use Rattle.check_report.specs.declared.rows.row.Verdict.TheVariants.{Bad}
+use Rattle.check_report.specs.Rows.Rows.{SeenRow, counts_of, has_verdict, is_like, kinds_of, more_of, report_lines, row_line, seen_kind, shown_rows}
 use Rattle.check_findings.specs.Lists.{only_if}
-use Rattle.check_report.specs.Rows.Limits.{count_in, counted, kinds_of, limited_rows, more_of, seen_kind, shown_after, shown_rows}
-use Rattle.check_report.specs.Rows.Reports.{ending, follows_after, heading, parts, report, rows_text}
-use Rattle.check_report.specs.Rows.Effects.{Adds, Ends, HasPrinted, HasWritten, PrintsLines, shown_lines}
-use Rattle.check_report.proofs.RowCounts.{bad_counts, shown_all, shown_push}
+use Rattle.check_report.specs.Rows.Reports.{ending, follows_after, heading, parts, report}
+use Rattle.check_report.specs.Rows.Effects.{Adds, Ends, HasPrinted, HasWritten, PrintsLines}
+use Rattle.check_report.proofs.RowCounts.{push_by, some_bad}
 use Rattle.check_report.proofs.PrinterEffects.{printed_both}
 use Rattle.check_report.proofs.ReportParts.{no_parts, whole}
 
@@ -32,20 +31,23 @@ sound_empty contents w kinds counts follows = record {
 }
 
 -- another row
-pub adds_row : {W : Type 0} (contents : W → Option (List ℕ)) (faults : W → ℕ) (result : Result (Unit {0}) WriteFault) (old new : RowWriter W) (row : SeenRow)
-    → new.is_verbose ≡ old.is_verbose → map seen_kind new.kinds.items ≡ counted (map seen_kind old.kinds.items) row → new.counts ≡ tallied old.counts row.verdict
-    → PrintsLines contents faults result old.printer new.printer (map row_line (only_if (old.is_verbose || nat_lt (count_in (map seen_kind old.kinds.items) row) 16) row))
+pub adds_row : {W : Type 0} (contents : W → Option (List ℕ)) (faults : W → ℕ) (result : Result (Unit {0}) WriteFault) (old new : RowWriter W) (row : SeenRow) (n : ℕ)
+    → new.is_verbose ≡ old.is_verbose
+    → ((rows : List SeenRow) → map seen_kind old.kinds.items ≡ kinds_of rows → (n ≡ count_by (is_like row) rows) × (map seen_kind new.kinds.items ≡ kinds_of (rows ++ row ∷ [])))
+    → ((rows : List SeenRow) → old.counts ≡ counts_of rows → new.counts ≡ counts_of (rows ++ row ∷ []))
+    → PrintsLines contents faults result old.printer new.printer (map row_line (only_if (old.is_verbose || nat_lt n 16) row))
     → Adds contents faults result old new (row ∷ [])
-adds_row contents faults (Err e) old new row verbose kinds counts p = record { added = tt; cause = p.cause }
-adds_row contents faults (Ok u) old new row verbose kinds counts p = record {
+adds_row contents faults (Err e) old new row n verbose kinds counts p = record { added = tt; cause = p.cause }
+adds_row contents faults (Ok u) old new row n verbose kinds counts p = record {
   added = λ start v rows (s : HasWritten contents start v rows old).
-      let shown : List SeenRow = only_if (v || nat_lt (count_in (kinds_of rows) row) 16) row in
-      let lines : shown_lines v (rows ++ row ∷ []) ≡ shown_lines v rows ++ map row_line shown = ap (map row_line) (shown_push v rows row) ∙ map-append row_line (shown_after v [] rows) shown in
+      let shown : List SeenRow = only_if (v || nat_lt (count_by (is_like row) rows) 16) row in
+      let lines : map row_line (shown_rows v (rows ++ row ∷ [])) ≡ map row_line (shown_rows v rows) ++ map row_line shown =
+      ap (map row_line) (push_by (λ n. v || nat_lt n 16) [] rows row) ∙ map-append row_line (shown_rows v rows) shown in
       record {
         is_verbose = verbose ∙ s.is_verbose;
-        kinds = kinds ∙ ap (λ ks. counted ks row) s.kinds ∙ sym (fold-append counted [] rows (row ∷ []));
-        counts = counts ∙ ap (λ c. tallied c row.verdict) s.counts ∙ sym (fold-append _ _ rows (row ∷ []));
-        printed = rw lines (printed_both contents start old.printer new.printer false (shown_lines v rows) (map row_line shown) s.printed (rw (s.is_verbose, s.kinds) at p.printed));
+        kinds = (kinds rows s.kinds).1;
+        counts = counts rows s.counts;
+        printed = rw lines (printed_both contents start old.printer new.printer false (map row_line (shown_rows v rows)) (map row_line shown) s.printed (rw (s.is_verbose, (kinds rows s.kinds).0) at p.printed));
       };
   cause = p.cause;
 }
@@ -56,33 +58,34 @@ more_lines (k ∷ ks) = ap (λ l. map row_line (more_of (seen_kind k)) ++ l) (mo
 
 -- the rows for hidden rows follow the shown rows
 limited : (verbose : Bool) (rows : List SeenRow) (ks : List Kind) → map seen_kind ks ≡ kinds_of rows
-    → shown_lines verbose rows ++ flat_map (λ k. map row_line (more_of (seen_kind k))) (if verbose then [] else ks)
-    ≡ map row_line (if verbose then rows else limited_rows rows)
-limited true rows ks is = append-nil _ ∙ ap (map row_line) (shown_all [] rows)
+    → map row_line (shown_rows verbose rows) ++ flat_map (λ k. map row_line (more_of (seen_kind k))) (if verbose then [] else ks) ≡ report_lines verbose rows
+limited true rows ks is = append-nil _ ∙ ap (map row_line) (sym (append-nil (shown_rows true rows)))
 limited false rows ks is =
-    ap (λ l. shown_lines false rows ++ l) (more_lines ks ∙ ap (λ l. map row_line (flat_map more_of l)) is) ∙ sym (map-append row_line (shown_rows rows) (flat_map more_of (kinds_of rows)))
+    ap (λ l. map row_line (shown_rows false rows) ++ l) (more_lines ks ∙ ap (λ l. map row_line (flat_map more_of l)) is) ∙ sym (map-append row_line (shown_rows false rows) (flat_map more_of (kinds_of rows)))
 
 -- the end of a report
 pub sound_end : {W : Type 0} (contents : W → Option (List ℕ)) (w : RowWriter W) (mid out : Printer W)
     → let more = flat_map (λ k. map row_line (more_of (seen_kind k))) (if w.is_verbose then [] else w.kinds.items) in
     HasPrinted contents w.printer mid (parts w.printer.form w.printer.follows more) (follows_after w.printer.follows more)
     → Appends (contents mid.out) (contents out.out) (ending mid.form w.counts) → (start : Printer W) (v : Bool) (rows : List SeenRow) → HasWritten contents start v rows w
-    → (nat_lt 0 w.counts.bad ≡ list_any is_bad_row (rows ++ [])) × Appends (contents start.out) (contents out.out) (rows_text start.form v (rows ++ []))
+    → (nat_lt 0 w.counts.bad ≡ list_any (has_verdict Bad) (rows ++ []))
+    × Appends (contents start.out) (contents out.out) (parts start.form false (report_lines v (rows ++ [])) ++ ending start.form (counts_of (rows ++ [])))
 sound_end contents w mid out more end start v rows s =
-    let all = printed_both contents start w.printer mid false (shown_lines v rows) _ s.printed (rw s.is_verbose at more) in
+    let all = printed_both contents start w.printer mid false (map row_line (shown_rows v rows)) _ s.printed (rw s.is_verbose at more) in
     rw (append-nil rows)
-    (ap (λ (c : Counts). nat_lt 0 c.bad) s.counts ∙ bad_counts _ rows, rw (← limited v rows w.kinds.items s.kinds, ← s.counts) (Appends-trans _ _ _ _ _ all.text (rw all.form at end)))
+    (ap (λ (c : Counts). nat_lt 0 c.bad) s.counts ∙ some_bad (has_verdict Bad) rows, rw (← limited v rows w.kinds.items s.kinds) (Appends-trans _ _ _ _ _ all.text (rw (all.form, s.counts) at end)))
 
 -- the heading, the rows and the end are the report
 pub report_text : {W : Type 0} (contents : W → Option (List ℕ)) (faults : W → ℕ) (result : Result Bool WriteFault) (first begun : Printer W) (made last : RowWriter W)
     (verbose : Bool) (files : Files) (list : Option (List Line)) (rows : List SeenRow)
     → HasPrinted contents first begun (heading first.form files list) false → HasWritten contents begun verbose [] made → Ends contents faults result made last rows
-    → IfOk result (λ is_bad. is_bad ≡ list_any is_bad_row rows) × OnOk result (Appends (contents first.out) (contents last.printer.out) (report first.form verbose files list rows))
+    → IfOk result (λ is_bad. is_bad ≡ list_any (has_verdict Bad) rows) × OnOk result (Appends (contents first.out) (contents last.printer.out) (report first.form verbose files list rows))
+unfolding report
 report_text contents faults (Err e) first begun made last verbose files list rows before sound ends = (tt, tt)
 report_text contents faults (Ok b) first begun made last verbose files list rows before sound ends =
     let all = ends.ended begun verbose [] sound in (
       all.0,
-      rw (← whole first.form files list (map row_line (if verbose then rows else limited_rows rows)) (counts_of rows))
+      rw (← whole first.form files list (report_lines verbose rows) (counts_of rows))
           (Appends-trans (contents first.out) (contents begun.out) (contents last.printer.out) _ _ before.text (rw before.form at all.1)),
     )
 

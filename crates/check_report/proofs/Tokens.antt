@@ -6,11 +6,11 @@ use Rattle.std.specs.Fmt.{decimal}
 use Rattle.std.specs.Str.{IsUtf8, is_utf8}
 use Rattle.std.proofs.lemmas.Grind.{flat_map-append}
 use Rattle.std.proofs.lemmas.Str.{is_utf8-from_IsUtf8, IsUtf8-from_is_utf8}
-use Rattle.json.specs.Json.{Json, member, object}
+use Rattle.json.specs.Json.{Json, array, member, object}
 use Rattle.json.specs.Token.{Token, begin_object, begin_array, end_array, end_object, key}
 use Rattle.json.specs.Tree.{json_tokens, items_tokens, members_tokens}
-use Rattle.check_report.specs.Rows.Fields.{Line, SeenField, bytes_json, items, line_json, members, name_json, number_json}
-use Rattle.check_report.specs.Rows.Reports.{begin_tokens, lines_field, member_tokens}
+use Rattle.check_report.specs.Rows.Fields.{Line, SeenField, items, line_json, members, name_json, number_json}
+use Rattle.check_report.specs.Rows.Reports.{lines_field, member_tokens, start_tokens}
 
 members_tokens-members : (fs : List SeenField) → members_tokens (members fs) ≡ flat_map member_tokens fs ++ end_object ∷ []
 members_tokens-members [] = refl
@@ -36,7 +36,7 @@ regroup f j l e k a z = simp append_assoc
 pub fields_tokens : (first last : List SeenField) (name : List ℕ) (lines : List Line) (e : List Token)
     → let js = flat_map json_tokens (map line_json lines) in
     (begin_object ∷ flat_map member_tokens (first ++ lines_field name lines ∷ last)) ++ e
-    ≡ (((begin_object ∷ flat_map member_tokens first) ++ begin_tokens name) ++ js) ++ ((end_array ∷ flat_map member_tokens last) ++ e)
+    ≡ (start_tokens first name ++ js) ++ ((end_array ∷ flat_map member_tokens last) ++ e)
 fields_tokens first last name lines e =
     let js : List Token = flat_map json_tokens (map line_json lines) in
     ap (λ ts. begin_object ∷ (ts ++ e)) (flat_map-append member_tokens first (lines_field name lines ∷ last)
@@ -48,7 +48,7 @@ number_items [] = refl
 number_items (b ∷ bs) = ap (λ ts. Token.number (decimal b) ∷ ts) (number_items bs)
 
 -- an array of bytes
-pub bytes_tokens : (bytes : List ℕ) → json_tokens (bytes_json bytes) ≡ begin_array ∷ (map (λ b. Token.number (decimal b)) bytes ++ end_array ∷ [])
+pub bytes_tokens : (bytes : List ℕ) → json_tokens (array (items (map number_json bytes))) ≡ begin_array ∷ (map (λ b. Token.number (decimal b)) bytes ++ end_array ∷ [])
 bytes_tokens bytes = ap (λ ts. begin_array ∷ ts) (number_items bytes)
 
 -- a UTF-8 name is a string
@@ -56,5 +56,5 @@ pub name_tokens-utf8 : (name : List ℕ) → IsUtf8 name → json_tokens (name_j
 name_tokens-utf8 name utf8 = let is : is_utf8 name ≡ true = is_utf8-from_IsUtf8 name utf8 in rw is refl
 
 -- any other name is an array
-pub name_tokens-bytes : (name : List ℕ) → (IsUtf8 name → ⊥) → json_tokens (name_json name) ≡ json_tokens (bytes_json name)
+pub name_tokens-bytes : (name : List ℕ) → (IsUtf8 name → ⊥) → json_tokens (name_json name) ≡ json_tokens (array (items (map number_json name)))
 name_tokens-bytes name other = let is : is_utf8 name ≡ false = grind (arith, other, IsUtf8-from_is_utf8 name) in rw is refl

@@ -4,11 +4,10 @@ use Rattle.flash_map.specs.Fmap.{found_in}
 use Rattle.flash_map.specs.declared.areas.NumberedArea.{NumberedArea}
 use Rattle.check_findings.specs.declared.image.finding.ImageFinding.{ImageFinding}
 use Rattle.flash_map.specs.Areas.{image_areas}
-use Rattle.check_findings.specs.Image.ImageFindings.{cbfs_areas, image_findings}
-use Rattle.check_changes.specs.Areas.AreaChanges.{area_changes}
-use Rattle.check_changes.specs.Areas.Blocks.{different_blocks}
-use Rattle.check_changes.specs.Areas.MapChanges.{map_changes}
-use Rattle.check_changes.specs.Regions.RegionChanges.{region_changes}
+use Rattle.check_findings.specs.ImageFindings.{cbfs_areas, image_findings}
+use Rattle.check_changes.specs.Areas.{area_changes, map_changes}
+use Rattle.check_changes.specs.Blocks.{different_blocks}
+use Rattle.check_changes.specs.Regions.{region_changes}
 use Rattle.check_report.specs.declared.inspection.Changes.{Changes}
 use Rattle.check_report.specs.declared.inspection.Comparison.{Comparison}
 use Rattle.check_report.specs.declared.inspection.Inspection.{Inspection}
@@ -19,9 +18,8 @@ use Rattle.check_report.specs.Names.{names_in}
 use Rattle.check_report.specs.Reports.{need_areas, old_areas}
 
 -- the check of one image
-pub record IsInspected (request : Request) (image : List ℕ) (i : Inspection) : Type 0 where
-  pub findings : i.findings.items
-      ≡ image_findings image (names_in request.areas.now) (need_areas request)
+pub record IsInspected (r : Request) (image : List ℕ) (i : Inspection) : Type 0 where
+  pub findings : i.findings.items ≡ image_findings image (names_in r.areas.now) (need_areas r)
   pub changes : i.changes ≡ None
 
 -- ---- an image y after an image x
@@ -41,18 +39,15 @@ pub record IsOldImage (x : List ℕ) (old : OldImage) : Type 0 where
   pub areas : old.map.areas.items ≡ image_areas x
   pub regions : old.regions.items ≡ cbfs_areas x (image_areas x)
 
--- the findings of y; the regions of x are expected in y
-abbrev pub new_findings : Request → List ℕ → List ℕ → List ImageFinding
-new_findings request x y = image_findings y (names_in request.areas.now)
-    (need_areas request ++ map area_name (cbfs_areas x (image_areas x)))
-
-pub record AreChanges (request : Request) (x y : List ℕ) (c : Changes) : Type 0 where
+-- by the findings of y
+pub record AreChanges (x y : List ℕ) (findings : List ImageFinding) (c : Changes) : Type 0 where
   pub old : IsOldImage x c.old
-  pub comparison : IsComparison x y (old_areas c.old (image_areas y)) (image_areas y)
-      (new_findings request x y) c.comparison
+  pub comparison : IsComparison x y (old_areas c.old (image_areas y)) (image_areas y) findings
+      c.comparison
   pub new_areas : c.new_areas.items ≡ image_areas y
 
--- the check of y after x
-pub record IsInspectedChange (request : Request) (x y : List ℕ) (i : Inspection) : Type 0 where
-  pub findings : i.findings.items ≡ new_findings request x y
-  pub changes : IsSomeAnd i.changes (AreChanges request x y)
+-- the check of y after x; the regions of x are expected in y
+pub record IsInspectedChange (r : Request) (x y : List ℕ) (i : Inspection) : Type 0 where
+  pub findings : i.findings.items ≡ image_findings y (names_in r.areas.now)
+      (need_areas r ++ map area_name (cbfs_areas x (image_areas x)))
+  pub changes : IsSomeAnd i.changes (AreChanges x y i.findings.items)

@@ -1,5 +1,5 @@
 -- Rows of findings. This project defines their codes and texts.
-use Rattle.std.specs.Prelude.{ℕ, Bool, true, not, ◌||◌, List, [], ◌∷◌, ◌++◌, Some, None}
+use Rattle.std.specs.Prelude.{ℕ, zero, Bool, true, not, ◌||◌, List, [], ◌∷◌, ◌++◌, Some, None}
 use Rattle.std.specs.Prelude.{is_none, slice_get, Option, if◌then◌else◌}
 use Rattle.std.specs.List.{flat_map}
 use Rattle.std.specs.Option.{option_map_or}
@@ -20,8 +20,7 @@ use Rattle.check_findings.specs.declared.region.finding.RegionFinding.TheVariant
 use Rattle.check_findings.specs.declared.region.finding.RegionFinding.TheVariants.{Deleted}
 use Rattle.check_findings.specs.declared.region.finding.RegionFinding.TheVariants.{FreeBytes}
 use Rattle.check_findings.specs.declared.region.finding.RegionFinding.TheVariants.{LargestContent}
-use Rattle.check_findings.specs.declared.region.finding.RegionFinding.TheVariants.{NoComponents}
-use Rattle.check_findings.specs.declared.region.finding.RegionFinding.TheVariants.{NoRoom, NotCbfs}
+use Rattle.check_findings.specs.declared.region.finding.RegionFinding.TheVariants.{NotCbfs}
 use Rattle.check_findings.specs.declared.region.finding.RegionFinding.TheVariants.{Tail}
 use Rattle.check_findings.specs.declared.region.finding.RegionFinding.TheVariants.{TailEntry}
 use Rattle.check_findings.specs.declared.region.finding.RegionFinding.TheVariants.{TailFilled}
@@ -32,19 +31,20 @@ use Rattle.check_findings.specs.declared.image.finding.ImageFinding.{ImageFindin
 use Rattle.check_findings.specs.declared.image.finding.ImageFinding.TheVariants.{Map, Region}
 use Rattle.check_findings.specs.declared.image.finding.ImageFinding.TheVariants.{NotChecked}
 use Rattle.check_findings.specs.declared.image.finding.ImageFinding.TheVariants.{NoArea}
-use Rattle.check_findings.specs.Image.Needs.{Wish, unmet}
+use Rattle.check_findings.specs.Needs.{Wish, unmet}
 use Rattle.check_findings.specs.declared.image.needs.NeedFinding.{NeedFinding}
 use Rattle.check_findings.specs.declared.image.needs.NeedFinding.TheVariants.{Missing, Elsewhere}
 use Rattle.check_findings.specs.Lists.{only_if}
-use Rattle.check_findings.specs.Image.Verdicts.{is_bad_hash}
+use Rattle.check_findings.specs.Verdicts.{is_bad_hash}
 use Rattle.check_report.specs.declared.request.Asked.{Asked}
 use Rattle.check_report.specs.Names.{Names}
-use Rattle.check_report.specs.Rows.Fields.{SeenValue, dash, name_value}
+use Rattle.check_report.specs.declared.rows.field.Value.TheVariants.{Dash}
+use Rattle.check_report.specs.Rows.Fields.{SeenValue, name_value, seen_value}
 use Rattle.check_report.specs.declared.rows.row.Verdict.{Verdict}
 use Rattle.check_report.specs.declared.rows.row.Verdict.TheVariants.{Bad, Remark}
 use Rattle.check_report.specs.Rows.Rows.{SeenRow, area_name, at_component, in_area, of_area}
 use Rattle.check_report.specs.Rows.Rows.{of_component, row, row_at, row_of, with_count}
-use Rattle.check_report.specs.Rows.Rows.{with_number, with_other}
+use Rattle.check_report.specs.Rows.Rows.{with_field, with_number, with_other}
 
 abbrev pub finding_verdict : Bool → Verdict
 finding_verdict is_bad = if is_bad then Bad else Remark
@@ -63,18 +63,16 @@ map_row (of_map.SameName a first) =
     with_other first (of_area a (row Bad "area-same-name" "has the name of an earlier area"))
 map_row (of_map.Overlap a other) = with_other other (of_area a (row Bad "area-overlaps" "overlaps"))
 map_row of_map.TooManyAreas = row Bad "too-many-areas" "too many areas to look for overlaps"
-map_row of_map.NoMapArea = row Bad "no-map-area" "no area FMAP"
-map_row (of_map.MapAreaMisses a) = of_area a (row Bad "map-area" "doesn't hold the flashmap")
+map_row (of_map.MapAreaMisses None) = row Bad "no-map-area" "no area FMAP"
+map_row (of_map.MapAreaMisses (Some a)) = of_area a (row Bad "map-area" "doesn't hold the flashmap")
 
 -- ---- a region; positions count from its start
 
 -- the code and the text of a digest
 abbrev pub hash_words : HashFinding → List ℕ × List ℕ
 hash_words hashes.Missing = (codes "hash-missing", codes "no hash")
-hash_words (hashes.Valid algorithm) =
-    (codes "hash-valid", (algorithm_row algorithm).name ++ codes " valid")
-hash_words (hashes.Invalid algorithm) =
-    (codes "hash-invalid", (algorithm_row algorithm).name ++ codes " invalid")
+hash_words (hashes.Valid a) = (codes "hash-valid", (algorithm_row a).name ++ codes " valid")
+hash_words (hashes.Invalid a) = (codes "hash-invalid", (algorithm_row a).name ++ codes " invalid")
 hash_words hashes.Unsupported = (codes "hash-unsupported", codes "hash unsupported")
 
 -- a digest has a row; a missing digest only on request
@@ -117,14 +115,13 @@ plain_row (Tail at) = Some (row_at at (row Remark "tail" "unused tail"))
 plain_row (TailFilled at) =
     Some (row_at at (row Bad "tail-bytes" "unused tail has other bytes than 0xff and 0x00"))
 plain_row (TailEntry at) = Some (row_at at (row Bad "tail-entry" "entry in the unused tail"))
-plain_row (Damaged at kind) =
-    Some (row_at at (row_of Bad (codes "entry-damaged") (damage_text kind)))
-plain_row NoComponents = Some (row Remark "no-components" "no components")
+plain_row (Damaged at k) = Some (row_at at (row_of Bad (codes "entry-damaged") (damage_text k)))
+plain_row (Components zero) = Some (row Remark "no-components" "no components")
 plain_row (Components n) = Some (with_count n (row Remark "components" "components"))
 plain_row (FreeBytes n) = Some (with_count n (row Remark "free-bytes" "free bytes"))
-plain_row (LargestContent n) =
+plain_row (LargestContent (Some n)) =
     Some (with_count n (row Remark "largest-content" "largest content that add takes"))
-plain_row NoRoom = Some (row Remark "no-room" "no room for a component")
+plain_row (LargestContent None) = Some (row Remark "no-room" "no room for a component")
 
 abbrev pub region_rows : Asked → List ℕ → RegionFinding → List SeenRow
 region_rows asked region finding = option_map_or (λ row. in_area region row ∷ [])
@@ -134,21 +131,20 @@ region_rows asked region finding = option_map_or (λ row. in_area region row ∷
 
 -- the row of a name without an area
 abbrev pub missing_row : SeenValue → SeenRow
-missing_row name = record (row Bad "no-area" "no such area") { area = name }
+missing_row name = with_field "area" name (row Bad "no-area" "no such area")
 
 -- bad if its name is expected
 abbrev pub not_checked_row : NumberedArea → Bool → SeenRow
-not_checked_row a named =
-    of_area a (row (finding_verdict named) "area-not-checked"
-    "isn't checked: checked areas would exceed twice the image")
+not_checked_row a named = of_area a (row (finding_verdict named)
+    "area-not-checked" "isn't checked: checked areas would exceed twice the image")
 
 -- by the given area names
 abbrev pub rows_of : Asked → Names → ImageFinding → List SeenRow
 rows_of asked names (Map finding) = map_row finding ∷ []
 rows_of asked names (Region a findings) = flat_map (region_rows asked (area_name a)) findings
 rows_of asked names (NotChecked a named) = not_checked_row a named ∷ []
-rows_of asked names (NoArea number) =
-    missing_row (option_map_or name_value (slice_get names number) dash) ∷ []
+rows_of _ names (NoArea n) =
+    missing_row (option_map_or name_value (slice_get names n) (seen_value Dash)) ∷ []
 
 abbrev pub finding_rows : Asked → Names → List ImageFinding → List SeenRow
 finding_rows asked names findings = flat_map (rows_of asked names) findings

@@ -1,9 +1,7 @@
 pub mod Rows
-pub mod Faults
 pub mod Reports
 pub mod Changes
 pub mod Names
 pub mod FindingRows
-pub mod Lists
 pub mod ChangeRows
 pub mod Laws

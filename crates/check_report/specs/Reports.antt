@@ -1,11 +1,20 @@
--- Rows of a report. This project defines their choice and order.
-use Rattle.std.specs.Prelude.{List, [], ◌++◌, map, is_none, if◌then◌else◌}
+-- The components and the rows of a report. This project defines their choice and order.
+use Rattle.std.specs.Prelude.{ℕ, List, [], ◌∷◌, ◌++◌, map, is_none, if◌then◌else◌}
 use Rattle.std.specs.List.{flat_map}
 use Rattle.std.specs.Option.{option_map_or}
+use lib.Chars.{codes}
+use Rattle.flash_format.specs.Texts.{printed_compression, printed_type}
 use Rattle.flash_map.specs.declared.areas.NumberedArea.{NumberedArea}
-use Rattle.check_findings.specs.Image.Needs.{wish_of}
+use Rattle.check_findings.specs.declared.region.finding.Content.{Content}
+use Rattle.check_findings.specs.declared.region.finding.RegionFinding.{RegionFinding}
+use Rattle.check_findings.specs.declared.region.finding.RegionFinding.TheVariants.{Component}
+use Rattle.check_findings.specs.declared.image.finding.ImageFinding.{ImageFinding}
+use Rattle.check_findings.specs.declared.image.finding.ImageFinding.TheVariants.{Region}
+use Rattle.check_findings.specs.Needs.{wish_of}
+use Rattle.check_report.specs.declared.rows.field.Value.TheVariants.{Count, Offset}
+use Rattle.check_report.specs.Rows.Fields.{Line, SeenField, name_value, seen_value, text_value}
 use Rattle.check_report.specs.Rows.Rows.{SeenRow, area_name}
-use Rattle.check_report.specs.FindingRows.{finding_rows, need_rows}
+use Rattle.check_report.specs.FindingRows.{finding_rows, hash_words, need_rows}
 use Rattle.check_report.specs.ChangeRows.{area_change_rows, image_rows, kept_by, map_change_row}
 use Rattle.check_report.specs.ChangeRows.{missing_if, region_change_rows}
 use Rattle.check_report.specs.Names.{Names, names_in}
@@ -13,6 +22,29 @@ use Rattle.check_report.specs.declared.request.Request.{Request}
 use Rattle.check_report.specs.declared.inspection.Changes.{Changes}
 use Rattle.check_report.specs.declared.inspection.Inspection.{Inspection}
 use Rattle.check_report.specs.declared.inspection.OldImage.{OldImage}
+
+abbrev pub component_fields : List ℕ → ℕ → List ℕ → Content → List SeenField
+component_fields area at name content = (codes "area", name_value area)
+    ∷ (codes "component", name_value name) ∷ (codes "position", seen_value (Offset at))
+    ∷ (codes "type", text_value (printed_type content.kind))
+    ∷ (codes "length", seen_value (Count content.len))
+    ∷ (codes "compression", text_value (printed_compression content.compression))
+    ∷ (codes "hash", text_value (hash_words content.hash).1) ∷ []
+
+abbrev pub component_lines : List ℕ → RegionFinding → List Line
+component_lines area (Component at name shadowed content) =
+    record { head = codes "component"; fields = component_fields area at name content } ∷ []
+component_lines area _ = []
+
+abbrev pub components_in : ImageFinding → List Line
+components_in (Region a findings) = flat_map (component_lines (area_name a)) findings
+components_in _ = []
+
+-- the components of the checked areas, in order
+abbrev pub listed : List ImageFinding → List Line
+listed findings = flat_map components_in findings
+
+-- ---- rows
 
 abbrev pub need_areas : Request → Names
 need_areas request = map (λ n. n.area.now) request.needs.now
@@ -23,8 +55,7 @@ old_areas old news = if is_none old.map.found then news else old.map.areas.items
 
 -- rows of the images, their maps, areas and components, and of kept names without an area
 abbrev pub change_rows : Request → Changes → List SeenRow
-change_rows request c =
-    let new = c.comparison in
+change_rows request c = let new = c.comparison in
     let areas = old_areas c.old c.new_areas.items ++ c.new_areas.items in
     let kept = kept_by (names_in request.kept.now) request.keeps_preserved areas in
     let vital = kept ++ map area_name c.old.regions.items in

@@ -1,20 +1,13 @@
-//! Rows of changed areas.
-ghost use Rattle.std.specs.Prelude.{◌≡◌};
+//! Rows of changed maps and areas.
+ghost use Rattle.std.specs.Prelude.{◌≡◌, option_map, option_to_list};
 ghost use Rattle.check_report.specs.Names.{names_in};
-ghost use Rattle.check_report.specs.Rows.Rows.{seen_row};
+ghost use Rattle.check_report.specs.Rows.Rows.{of_area, seen_row};
 ghost use Rattle.check_report.specs.ChangeRows as of;
 
 use crate::kept::{change_verdict, is_kept};
 use crate::rows::{Row, Verdict};
-use check_changes::{AreaChange, MapChange};
+use check_changes::{AreaChange, AreaDifference, MapChange};
 use flash_map::NumberedArea;
-
-fn changed<'a>(kept: &[&[u8]], area: &'a NumberedArea, mut row: Row<'a>) -> Row<'a>
-    ensures { seen_row result ≡ of.changed (names_in kept.now) area.now (seen_row row.entry) }
-{
-    row.verdict = change_verdict(kept, *area);
-    row.of(area)
-}
 
 /// Returns the row of a change of the flash map itself.
 pub fn map_change_row<'a>(change: &MapChange) -> Row<'a>
@@ -24,68 +17,67 @@ pub fn map_change_row<'a>(change: &MapChange) -> Row<'a>
     match change {
         MapChange::NoOldMap => v.row("no-old-map", "the old image has no flashmap"),
         MapChange::MovedFrom(at) => v.row("map-moved", "flashmap moved from").number(*at),
-        MapChange::BaseChanged { old, .. } => {
-            v.row("map-base", "base address changed from").number(*old)
+        MapChange::BaseFrom(base) => {
+            v.row("map-base", "base address changed from").number(*base)
         }
         MapChange::NameChanged => v.row("map-name", "name of the flashmap changed"),
     }
 }
 
-/// Counts all blocks of a kept area, otherwise the blocks outside smaller areas.
-fn reported_blocks(kept: &[&[u8]], area: NumberedArea, blocks: u32, own: u32) -> u32
-    ensures { result ≡ of.reported_blocks (names_in kept.now) area blocks own }
+/// Returns the row of a difference, without its area. A kept area counts all different blocks,
+/// other areas count those outside smaller areas, if any.
+fn area_row<'a>(is_kept: bool, is_vital: bool, what: AreaDifference) -> Option<Row<'a>>
+    ensures { option_to_list (option_map seen_row result) ≡ of.area_rows is_kept is_vital what }
 {
-    if is_kept(kept, area) { blocks } else { own }
-}
-
-/// Returns whether a change has a row. Different blocks need a positive number.
-pub fn has_change_row(kept: &[&[u8]], change: &AreaChange) -> bool
-    ensures { result ≡ of.has_change_row (names_in kept.now) change.now }
-{
-    match change {
-        AreaChange::Differs { area, blocks, own } => {
-            reported_blocks(kept, *area, *blocks, *own) > 0
+    let v = change_verdict(is_kept);
+    let row = match what {
+        AreaDifference::Added => v.row("area-added", "area added"),
+        AreaDifference::Gone => change_verdict(is_vital).row("area-gone", "area gone"),
+        AreaDifference::MovedFrom(at) => {
+            v.row("area-moved", "area moved from").number(u64::from(at))
         }
-        _ => true,
-    }
+        AreaDifference::ResizedFrom(size) => {
+            let resized = v.row("area-resized", "area resized from");
+            resized.number(u64::from(size))
+        }
+        AreaDifference::FlagsFrom(flags) => {
+            let changed = v.row("area-flags", "flags changed from");
+            changed.number(u64::from(flags))
+        }
+        AreaDifference::Differs { blocks, own } => {
+            let blocks = if is_kept { blocks } else { own };
+            if blocks == 0 {
+                return None;
+            }
+            v.row("area-changed", "erase blocks differ")
+                .count(u64::from(blocks))
+        }
+        AreaDifference::NotCompared => v.row("area-not-compared", "not compared"),
+    };
+    Some(row)
 }
 
-/// Returns the row of a change. Changes of kept areas are bad, and removals of vital areas.
-pub fn area_change_row<'a>(kept: &[&[u8]], vital: &[&[u8]], change: &'a AreaChange) -> Row<'a>
-    ensures { seen_row result ≡ of.area_change_row
+/// Returns the row of a change, if any. Changes of kept areas are bad, and removals of vital areas.
+#[tactic(auto, unfolding(crate::specs::ChangeRows::area_change_rows))]
+pub fn area_change_row<'a>(
+    kept: &[&[u8]],
+    vital: &[&[u8]],
+    change: &'a AreaChange,
+) -> Option<Row<'a>>
+    ensures { option_to_list (option_map seen_row result) ≡ of.area_change_rows
         (names_in kept.now) (names_in vital.now) change.now }
 {
-    let v = Verdict::Change;
-    match change {
-        AreaChange::Added(area) => changed(kept, area, v.row("area-added", "area added")),
-        AreaChange::Gone(area) => changed(vital, area, v.row("area-gone", "area gone")),
-        AreaChange::Moved { old, new } => {
-            let moved = v.row("area-moved", "area moved from");
-            changed(kept, new, moved.number(u64::from(old.area.offset)))
-        }
-        AreaChange::Resized { old, new } => {
-            let resized = v.row("area-resized", "area resized from");
-            changed(kept, new, resized.number(u64::from(old.area.size)))
-        }
-        AreaChange::FlagsChanged { old, new } => {
-            let flags = v.row("area-flags", "flags changed from");
-            changed(kept, new, flags.number(u64::from(old.area.flags)))
-        }
-        AreaChange::Differs { area, blocks, own } => {
-            let blocks = u64::from(reported_blocks(kept, *area, *blocks, *own));
-            let differs = v.row("area-changed", "erase blocks differ").count(blocks);
-            changed(kept, area, differs)
-        }
-        AreaChange::NotCompared(area) => {
-            changed(kept, area, v.row("area-not-compared", "not compared"))
-        }
-    }
+    let area = &change.area;
+    let row = area_row(is_kept(kept, *area), is_kept(vital, *area), change.what)?;
+    Some(row.of(area))
 }
 
 /// Returns the row of an area without a comparison of components.
-pub fn not_compared_row<'a>(kept: &[&[u8]], area: &'a NumberedArea) -> Row<'a>
-    ensures { seen_row result ≡ of.not_compared_row (names_in kept.now) area.now }
+pub fn not_compared_row<'a>(is_kept: bool, area: &'a NumberedArea) -> Row<'a>
+    ensures { seen_row result ≡ of_area area.now
+        (of.change is_kept "components-not-compared" "components not compared") }
 {
-    let row = Verdict::Change.row("components-not-compared", "components not compared");
-    changed(kept, area, row)
+    let v = change_verdict(is_kept);
+    v.row("components-not-compared", "components not compared")
+        .of(area)
 }

@@ -5,7 +5,7 @@ ghost use Rattle.flash_device.specs.Device.{fault_count};
 ghost use Rattle.flash_map.specs.Fmap.{found_in};
 ghost use Rattle.flash_device.specs.Pages.{HasRead, OnHonest};
 ghost use Rattle.flash_map.specs.Faults.{by_device};
-ghost use Rattle.check_findings.specs.Image.RegionAreas.{region_areas, sum_sizes};
+ghost use Rattle.check_findings.specs.ImageFindings.{region_areas, sum_sizes};
 ghost use Rattle.check_changes.specs.Images.{HasReadFor, OnBoth, lengths};
 ghost use Rattle.check_report.specs.Changes.{IsComparison, IsInspectedChange, IsOldImage};
 

@@ -2,17 +2,16 @@
 ghost use Rattle.std.specs.Prelude.{◌≡◌, map};
 ghost use Rattle.std.specs.List.{flat_map};
 ghost use Rattle.check_report.specs.Names.{names_in};
-ghost use Rattle.check_report.specs.Rows.Rows.{area_name, seen_row};
+ghost use Rattle.check_report.specs.Rows.Rows.{seen_row};
 ghost use Rattle.check_report.specs.Rows.Effects.{Adds};
 ghost use Rattle.check_report.specs.ChangeRows as of;
 
-use crate::areas::{area_change_row, has_change_row, map_change_row, not_compared_row};
+use crate::areas::{area_change_row, map_change_row, not_compared_row};
 use crate::fault::WriteFault;
-use crate::kept::change_verdict;
+use crate::kept::{change_verdict, is_kept};
 use crate::rows::{Row, RowWriter, Verdict};
-use check_changes::{AreaChange, ComponentChange, Difference, MapChange, RegionChange};
+use check_changes::{AreaChange, ComponentChange, ComponentDifference, MapChange, RegionChange};
 use flash_device::Sink;
-use flash_map::NumberedArea;
 
 /// Adds rows for the image lengths, and for the number of different blocks of 4096 bytes.
 pub fn add_image_changes<W: Sink + Drop>(
@@ -54,61 +53,43 @@ pub fn add_area_changes<W: Sink + Drop>(
         (flat_map (of.area_change_rows (names_in kept.now) (names_in vital.now)) changes.now) }
 {
     for change in changes {
-        let row = area_change_row(kept, vital, change);
-        rows.add_if(has_change_row(kept, change), row)?;
+        rows.add_some(area_change_row(kept, vital, change))?;
     }
     Ok(())
 }
 
-fn difference_row<'a>(v: Verdict, what: Difference) -> Row<'a>
-    ensures { seen_row result ≡ of.difference_row v what }
+fn component_row<'a>(is_kept: bool, what: ComponentDifference) -> Row<'a>
+    ensures { seen_row result ≡ of.component_row is_kept what }
 {
+    let v = change_verdict(is_kept);
     match what {
-        Difference::Type => v.row("component-type-changed", "type changed"),
-        Difference::Length => v.row("component-length-changed", "length changed"),
-        Difference::Content => v.row("component-content-changed", "content changed"),
-        Difference::Attributes => v.row("component-attributes-changed", "attributes changed"),
+        ComponentDifference::Added => v.row("component-added", "component added"),
+        ComponentDifference::Removed => v.row("component-removed", "component removed"),
+        ComponentDifference::Type => v.row("component-type-changed", "type changed"),
+        ComponentDifference::Length => v.row("component-length-changed", "length changed"),
+        ComponentDifference::Content => v.row("component-content-changed", "content changed"),
+        ComponentDifference::Attributes => {
+            v.row("component-attributes-changed", "attributes changed")
+        }
+        ComponentDifference::MovedFrom(at) => {
+            v.row("component-moved", "component moved from").number(at)
+        }
     }
-}
-
-fn component_change_row<'a>(v: Verdict, area: &'a [u8], change: &'a ComponentChange) -> Row<'a>
-    ensures { seen_row result ≡ of.component_change_row v area.now change.now }
-{
-    let (row, name, at) = match change {
-        ComponentChange::Added { at, name } => {
-            (v.row("component-added", "component added"), name, at)
-        }
-        ComponentChange::Removed { at, name } => {
-            (v.row("component-removed", "component removed"), name, at)
-        }
-        ComponentChange::Changed {
-            new,
-            name,
-            what,
-            ..
-        } => (difference_row(v, *what), name, new),
-        ComponentChange::Moved { old, new, name } => {
-            let moved = v.row("component-moved", "component moved from");
-            (moved.number(*old), name, new)
-        }
-    };
-    row.at_component(area, *at, name.as_slice())
 }
 
 /// Adds the rows of changed components, all bad in a kept area.
 fn add_component_changes<W: Sink + Drop>(
     rows: &mut RowWriter<W>,
-    kept: &[&[u8]],
-    area: &NumberedArea,
+    is_kept: bool,
+    area: &[u8],
     changes: &[ComponentChange],
 ) -> Result<(), WriteFault>
     ensures { Adds W.contents W.faults result rows.old rows.new
-        (map (of.component_change_row (of.change_verdict (names_in kept.now) area.now)
-        (area_name area.now)) changes.now) }
+        (map (of.component_change_row is_kept area.now) changes.now) }
 {
-    let verdict = change_verdict(kept, *area);
     for change in changes {
-        rows.add(component_change_row(verdict, area.area.text(), change))?;
+        let row = component_row(is_kept, change.what);
+        rows.add(row.at_component(area, change.at, change.name.as_slice()))?;
     }
     Ok(())
 }
@@ -124,9 +105,12 @@ pub fn add_region_changes<W: Sink + Drop>(
     for change in changes {
         match change {
             RegionChange::Compared { area, changes } => {
-                add_component_changes(rows, kept, area, changes.as_slice())?;
+                let is_kept = is_kept(kept, *area);
+                add_component_changes(rows, is_kept, area.area.text(), changes.as_slice())?;
             }
-            RegionChange::NotCompared(area) => rows.add(not_compared_row(kept, area))?,
+            RegionChange::NotCompared(area) => {
+                rows.add(not_compared_row(is_kept(kept, *area), area))?;
+            }
         }
     }
     Ok(())

@@ -1,12 +1,14 @@
 //! Rows of an image's findings, and of unmet needs.
 ghost use Rattle.std.specs.Prelude.{◌≡◌, map, slice_get};
 ghost use Rattle.std.specs.List.{flat_map};
-ghost use Rattle.check_findings.specs.Image.Needs.{wish_of};
+ghost use Rattle.check_findings.specs.Needs.{wish_of};
 ghost use Rattle.std.specs.Option.{option_map_or};
 ghost use Rattle.check_report.specs.Names.{names_in};
-ghost use Rattle.check_report.specs.Rows.Fields.{dash, name_value, seen_value};
+ghost use Rattle.check_report.specs.declared.rows.field.Value.TheVariants.{Dash};
+ghost use Rattle.check_report.specs.Rows.Fields.{name_value, seen_value};
 ghost use Rattle.check_report.specs.Rows.Rows.{of_component, seen_row};
 ghost use Rattle.check_report.specs.Rows.Effects.{Adds};
+ghost use Rattle.check_findings.specs.declared.map.finding.MapFinding.TheVariants.{MapAreaMisses};
 ghost use Rattle.check_report.specs.FindingRows as of;
 
 use crate::fault::WriteFault;
@@ -26,11 +28,11 @@ pub fn missing_row(area: Value<'_>) -> Row<'_>
     row
 }
 
-fn name_at<'a>(names: &[&'a [u8]], number: usize) -> Value<'a>
+fn name_at<'a>(names: &[&'a [u8]], n: usize) -> Value<'a>
     ensures { seen_value result
-        ≡ option_map_or name_value (slice_get (names_in names.now) number) dash }
+        ≡ option_map_or name_value (slice_get (names_in names.now) n) (seen_value Dash) }
 {
-    let name = names.get(number).copied();
+    let name = names.get(n).copied();
     name.map_or(Value::Dash, Value::Name)
 }
 
@@ -68,10 +70,19 @@ fn map_row(finding: &MapFinding) -> Row<'_>
         MapFinding::TooManyAreas => {
             bad.row("too-many-areas", "too many areas to look for overlaps")
         }
-        MapFinding::NoMapArea => bad.row("no-map-area", "no area FMAP"),
-        MapFinding::MapAreaMisses(area) => bad
-            .row("map-area", "doesn't hold the flashmap")
-            .of(area),
+        MapFinding::MapAreaMisses(area) => map_area_row(area),
+    }
+}
+
+fn map_area_row(area: &Option<NumberedArea>) -> Row<'_>
+    ensures { seen_row result ≡ of.map_row (MapAreaMisses area.now) }
+{
+    match area {
+        None => Verdict::Bad.row("no-map-area", "no area FMAP"),
+        Some(area) => {
+            let row = Verdict::Bad.row("map-area", "doesn't hold the flashmap");
+            row.of(area)
+        }
     }
 }
 

@@ -2,7 +2,7 @@
 ghost use Rattle.std.specs.Prelude.{◌≡◌, ◌+◌, ◌*◌, length, None, IfOk};
 ghost use Rattle.flash_device.specs.Device.{fault_count};
 ghost use Rattle.flash_device.specs.Pages.{HasRead, OnHonest};
-ghost use Rattle.check_changes.specs.Faults.{by_new, by_old};
+ghost use Rattle.check_changes.specs.Images.{by_new, by_old};
 ghost use Rattle.check_report.specs.Changes.{IsInspected};
 
 use crate::inspection::Inspection;

@@ -4,12 +4,11 @@ ghost use Rattle.std.specs.Bool.{then_some};
 ghost use Rattle.std.specs.List.{list_any};
 ghost use Rattle.std.specs.Io.KnownBytes.{Appends};
 ghost use Rattle.flash_device.specs.Device.{fault_count};
-ghost use Rattle.check_report.specs.Faults.{by_sink};
-ghost use Rattle.check_report.specs.Reports.{change_rows, inspection_rows, old_areas};
-ghost use Rattle.check_report.specs.Lists.{listed};
+ghost use Rattle.check_report.specs.declared.rows.row.Verdict.TheVariants.{Bad};
+ghost use Rattle.check_report.specs.Reports.{change_rows, inspection_rows, listed, old_areas};
 ghost use Rattle.check_report.specs.Rows.Reports.{heading, report};
-ghost use Rattle.check_report.specs.Rows.Rows.{is_bad_row};
-ghost use Rattle.check_report.specs.Rows.Effects.{Adds, Ends, Prints};
+ghost use Rattle.check_report.specs.Rows.Rows.{has_verdict};
+ghost use Rattle.check_report.specs.Rows.Effects.{Adds, Ends, Prints, by_sink};
 
 use crate::changes::{add_area_changes, add_image_changes, add_map_changes, add_region_changes};
 use crate::fault::WriteFault;
@@ -156,7 +155,7 @@ impl Inspection {
     /// whether a row is bad, or a fault: `Output` only if the sink failed, `Memory` if an
     /// allocation failed.
     pub fn write<W: Sink + Drop>(&self, alloc: Global, request: Request<'_>, out: W) -> Written<W>
-        ensures bad { IfOk result.is_bad (λ is_bad. is_bad ≡ list_any is_bad_row
+        ensures bad { IfOk result.is_bad (λ is_bad. is_bad ≡ list_any (has_verdict Bad)
             (inspection_rows request.entry self.now)) }
         ensures text { OnOk result.is_bad (Appends (W.contents out) (W.contents result.out)
             (report request.entry.form request.entry.asked.is_verbose

@@ -1,11 +1,12 @@
 //! Areas that must not change.
-ghost use Rattle.std.specs.Prelude.{◌≡◌, ◌++◌};
+ghost use Rattle.std.specs.Prelude.{◌≡◌, ◌++◌, if◌then◌else◌};
 ghost use Rattle.std.specs.List.{flat_map, list_any};
 ghost use Rattle.flash_map.specs.Areas.{has_name};
-ghost use Rattle.check_findings.specs.Image.ImageFindings.{has_one_of};
+ghost use Rattle.check_findings.specs.ImageFindings.{has_one_of};
 ghost use Rattle.check_report.specs.Names.{names_in};
 ghost use Rattle.check_report.specs.Rows.Effects.{Adds};
 ghost use Rattle.check_report.specs.ChangeRows as of;
+ghost use Rattle.check_report.specs.declared.rows.row.Verdict.TheVariants.{Bad, Change};
 
 use crate::fault::WriteFault;
 use crate::findings::missing_row;
@@ -20,10 +21,10 @@ pub fn is_kept(kept: &[&[u8]], area: NumberedArea) -> bool
     kept.iter().any(|name| area.area.name_is(name))
 }
 
-pub fn change_verdict(kept: &[&[u8]], area: NumberedArea) -> Verdict
-    ensures { result ≡ of.change_verdict (names_in kept.now) area }
+pub fn change_verdict(is_kept: bool) -> Verdict
+    ensures { result ≡ (if is_kept then Bad else Change) }
 {
-    if is_kept(kept, area) {
+    if is_kept {
         Verdict::Bad
     } else {
         Verdict::Change

@@ -1,8 +1,8 @@
 //! The list of components.
 ghost use Rattle.std.specs.Prelude.{◌≡◌, map};
 ghost use Rattle.std.specs.List.{flat_map};
-ghost use Rattle.check_report.specs.Lists.{component_lines, component_line, components_in};
-ghost use Rattle.check_report.specs.Lists.{listed};
+ghost use Rattle.check_report.specs.Reports.{component_fields, component_lines, components_in};
+ghost use Rattle.check_report.specs.Reports.{listed};
 ghost use Rattle.check_report.specs.Rows.Fields.{seen_field};
 ghost use Rattle.check_report.specs.Rows.Effects.{PrintsLines};
 
@@ -14,7 +14,7 @@ use flash_device::Sink;
 use flash_format::{compression_name, type_name};
 
 fn component_fields<'a>(area: &'a [u8], at: u64, name: &'a [u8], content: Content) -> [Field<'a>; 7]
-    ensures { map seen_field result ≡ (component_line area.now at name.now content).fields }
+    ensures { map seen_field result ≡ component_fields area.now at name.now content }
 {
     let compression = compression_name(content.compression);
     [

@@ -106,14 +106,14 @@ fn plain_row<'a>(finding: &RegionFinding) -> Option<Row<'a>>
         RegionFinding::Damaged { at, kind } => {
             bad.row("entry-damaged", damage_text(*kind)).at(*at)
         }
-        RegionFinding::NoComponents => remark.row("no-components", "no components"),
+        RegionFinding::Components(0) => remark.row("no-components", "no components"),
         RegionFinding::Components(n) => remark.row("components", "components").count(*n),
         RegionFinding::FreeBytes(n) => remark.row("free-bytes", "free bytes").count(*n),
-        RegionFinding::LargestContent(n) => {
+        RegionFinding::LargestContent(Some(n)) => {
             let what = "largest content that add takes";
             remark.row("largest-content", what).count(*n)
         }
-        RegionFinding::NoRoom => remark.row("no-room", "no room for a component"),
+        RegionFinding::LargestContent(None) => remark.row("no-room", "no room for a component"),
     };
     Some(row)
 }

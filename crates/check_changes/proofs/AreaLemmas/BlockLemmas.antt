@@ -10,7 +10,7 @@ use Rattle.std.proofs.lemmas.Slice.Eq.{bytes_eq-Decides}
 use Rattle.flash_device.specs.Regions.{Range, bytes_in}
 use Rattle.flash_device.proofs.BytesLemmas.{slice_range_is}
 use Rattle.check_changes.specs.declared.images.Both.{Both}
-use Rattle.check_changes.specs.Areas.Blocks.{blocks_of, block, differs, count_below, different_blocks}
+use Rattle.check_changes.specs.Blocks.{blocks_of, block, differs, count_below, different_blocks}
 
 -- two limits on a length are the lower limit
 take-both : (m n : ℕ) (x : List ℕ) → take m (take n x) ≡ take (min n m) x

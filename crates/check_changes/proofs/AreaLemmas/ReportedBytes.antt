@@ -1,25 +1,27 @@
 -- An area with a different byte, or a smaller area with the byte's block, is reported.
-use Rattle.std.proofs.Common.{◌≡◌, ◌∙◌, ℕ, zero, suc, ◌+◌, ◌-◌, ◌*◌, ◌/◌, ◌%◌, ◌<◌, ◌≤◌, Bool, true, false, List, [], ◌∷◌, ◌++◌, length, drop, get_or, min, Option, Some, None, refl, sym, ap, subst, arith}
-use Rattle.std.specs.Prelude.{not, Contains, nat_le, if◌then◌else◌}
+use Rattle.std.proofs.Common.{◌≡◌, ◌∙◌, ℕ, zero, suc, ◌+◌, ◌-◌, ◌*◌, ◌/◌, ◌%◌, ◌<◌, ◌≤◌, Bool, true, false, List, [], ◌∷◌, ◌++◌, length, drop, get_or, map, min, Option, Some, None, refl, sym, ap, subst, arith}
+use Rattle.std.specs.Prelude.{not, ◌&&◌, Contains, nat_le, nat_lt}
+use Rattle.std.specs.Bool.{then_some}
 use Rattle.std.specs.Str.{bytes_eq}
 use Rattle.std.specs.List.{list_any, flat_map}
+use Rattle.std.specs.Option.{option_map_or}
 use Rattle.std.proofs.lemmas.Bool.{false_from_ne_true, and_from, or_left, or_right}
 use Rattle.std.proofs.lemmas.Bool.Decides.{nat_tests}
-use Rattle.std.proofs.lemmas.List.{get_or-take, get_or-drop}
+use Rattle.std.proofs.lemmas.List.{get_or-take, get_or-drop, map-append}
 use Rattle.std.proofs.lemmas.List.Folds.{list_any-append, Any-from_list_any}
 use Rattle.std.proofs.lemmas.Slice.Eq.{bytes_eq-Decides}
 use Rattle.flash_device.specs.Regions.{Range, bytes_in}
 use Rattle.flash_map.proofs.FmapLemmas.{index-slice_range}
 use Rattle.flash_map.specs.declared.areas.NumberedArea.{NumberedArea}
 use Rattle.flash_map.specs.Areas.{area_end}
-use Rattle.check_findings.specs.Image.ImageFindings.{range_of}
+use Rattle.check_findings.specs.ImageFindings.{range_of}
 use Rattle.check_changes.specs.Images.{lengths_of}
 use Rattle.check_changes.specs.declared.areas.change.AreaChange.{AreaChange}
 use Rattle.check_changes.specs.declared.areas.pairs.AreaPair.{AreaPair}
 use Rattle.check_changes.specs.declared.images.Both.{Both}
-use Rattle.check_changes.specs.Areas.Blocks.{blocks_of, block, differs, count_below}
-use Rattle.check_changes.specs.Areas.AreaChanges.{pairs, pair_regions, holds, is_held, is_difference, is_own_difference, blocks_that, compared, content_changes, left_after, entry_changes, area_changes_in, gone_of, area_changes}
-use Rattle.check_changes.specs.Areas.Laws.{has_byte, reports, DifferAt, DifferencesAreReported}
+use Rattle.check_changes.specs.Blocks.{blocks_of, block, differs, count_below}
+use Rattle.check_changes.specs.Areas.{pairs, same_size_regions, has_block, is_held, is_difference, is_own_difference, compared, content_differences, left_after, entry_differences, area_change, area_changes_in, gone_of, area_changes}
+use Rattle.check_changes.specs.Laws.{reports, DifferAt, DifferencesAreReported}
 
 -- ---- one block
 
@@ -61,21 +63,21 @@ module _ (x y : List ℕ) (all : List AreaPair) where
   ranges old new = record { old = range_of old; new = range_of new }
 
   abbrev pair_changes : ℕ → AreaPair → List AreaChange
-  pair_changes left p = entry_changes p.old p.new ++ content_changes x y all p (compared left (pair_regions (lengths_of x y) p))
+  pair_changes left p = map (area_change p.new) (entry_differences p.old p.new ++ content_differences x y all p (compared left (same_size_regions (lengths_of x y) p)))
 
   changes_in-reports : (at left : ℕ) (ps : List AreaPair) (p : AreaPair) → Contains ps p → ((left : ℕ) → list_any (reports at) (pair_changes left p) ≡ true)
-      → list_any (reports at) (area_changes_in left x y all ps) ≡ true
+      → list_any (reports at) (area_changes_in x y all left ps) ≡ true
   changes_in-reports at left [] p (k, lt, is) here = absurd (omega (arith, lt))
   changes_in-reports at left (q ∷ ps) p (zero, lt, is) here =
       any-left (reports at) (pair_changes left q) _ (subst (λ (q : AreaPair). list_any (reports at) (pair_changes left q) ≡ true) (sym is) (here left))
   changes_in-reports at left (q ∷ ps) p (suc k, lt, is) here =
-      any-right (reports at) (pair_changes left q) _ (changes_in-reports at (left_after left (pair_regions (lengths_of x y) q)) ps p (k, omega (arith, lt), is) here)
+      any-right (reports at) (pair_changes left q) _ (changes_in-reports at (left_after left (same_size_regions (lengths_of x y) q)) ps p (k, omega (arith, lt), is) here)
 
-  content-reports : (at left : ℕ) (old new : NumberedArea) → old.area.size ≡ new.area.size → has_byte new at ≡ true → 0 < blocks_that (is_difference x y (ranges old new)) (ranges old new) → 0 < blocks_that (is_own_difference x y all (ranges old new)) (ranges old new) → (fits : Bool)
-      → list_any (reports at) (content_changes x y all (pair old new) (if fits then Some (ranges old new) else None)) ≡ true
+  content-reports : (at left : ℕ) (old new : NumberedArea) → old.area.size ≡ new.area.size → (nat_le new.area.offset at && nat_lt at (area_end new.area)) ≡ true → 0 < count_below (is_difference x y (ranges old new)) (blocks_of old.area.size) → 0 < count_below (is_own_difference x y all (ranges old new)) (blocks_of old.area.size) → (fits : Bool)
+      → list_any (reports at) (map (area_change new) (content_differences x y all (pair old new) (then_some fits (ranges old new)))) ≡ true
   content-reports at left old new same has some own fits = grind (arith, nat_tests)
 
-  regions_of-same : (old new : NumberedArea) → old.area.size ≡ new.area.size → area_end old.area ≤ length x → area_end new.area ≤ length y → pair_regions (lengths_of x y) (pair old new) ≡ Some (ranges old new)
+  regions_of-same : (old new : NumberedArea) → old.area.size ≡ new.area.size → area_end old.area ≤ length x → area_end new.area ≤ length y → same_size_regions (lengths_of x y) (pair old new) ≡ Some (ranges old new)
   regions_of-same old new same in_old in_new = grind (arith, nat_tests)
 
   -- smaller areas that hold a block
@@ -91,7 +93,7 @@ module _ (x y : List ℕ) (all : List AreaPair) where
     begins : new.area.offset ≤ outer.new.start + 4096 * number
     ends : outer.new.start + min (4096 * number + 4096) outer.new.size ≤ new.area.offset + new.area.size
 
-  holder : (outer : Both Range) (number : ℕ) (old : Option NumberedArea) (new : NumberedArea) → Contains all (record { old = old; new = new }) → holds (lengths_of x y) outer number (record { old = old; new = new }) ≡ true → Holder outer number
+  holder : (outer : Both Range) (number : ℕ) (old : Option NumberedArea) (new : NumberedArea) → Contains all (record { old = old; new = new }) → option_map_or (has_block outer number) (same_size_regions (lengths_of x y) (record { old = old; new = new })) false ≡ true → Holder outer number
   holder outer number None new one test = absurd cc
   holder outer number (Some old) new one test = record {
     old = old;
@@ -107,7 +109,7 @@ module _ (x y : List ℕ) (all : List AreaPair) where
   }
 
   abbrev IsReported : ℕ → Type 0
-  IsReported at = list_any (reports at) (area_changes_in (8 * length y) x y all all) ≡ true
+  IsReported at = list_any (reports at) (area_changes_in x y all (8 * length y) all) ≡ true
 
   -- a different byte in smaller areas is in a reported area
   abbrev AreReportedBelow : ℕ → Type 0
@@ -136,13 +138,14 @@ module _ (x y : List ℕ) (all : List AreaPair) where
       let some = count_below-positive (is_difference x y r) (blocks_of r.old.size) (i / 4096) (omega (arith, lt)) differ in
       let own = count_below-positive (is_own_difference x y all r) (blocks_of r.old.size) (i / 4096) (omega (arith, lt)) (and_from _ _ differ (ap not free)) in
       let within = d.within in
-      let has : has_byte new at ≡ true = grind (arith, nat_tests) in
+      let has : (nat_le new.area.offset at && nat_lt at (area_end new.area)) ≡ true = grind (arith, nat_tests) in
       changes_in-reports at (8 * length y) all (pair old new) one (λ left.
-      any-right (reports at) (entry_changes (Some old) new) _ (rw (regions_of-same old new d.same_size d.in_old d.in_new) (content-reports at left old new d.same_size has some own (nat_le old.area.size left))))
+      rw (map-append (area_change new) (entry_differences (Some old) new) (content_differences x y all (pair old new) (compared left (same_size_regions (lengths_of x y) (pair old new)))), regions_of-same old new d.same_size d.in_old d.in_new)
+      (any-right (reports at) (map (area_change new) (entry_differences (Some old) new)) _ (content-reports at left old new d.same_size has some own (nat_le old.area.size left))))
 
   by_test : (size : ℕ) → AreReportedBelow size → (old new : NumberedArea) (i : ℕ) → Contains all (pair old new) → new.area.size < suc size → DifferAt x y old new i → (held : Bool) → is_held (lengths_of x y) all (ranges old new) (i / 4096) ≡ held → IsReported (new.area.offset + i)
   by_test size below old new i one small d true held =
-      let any = Any-from_list_any (holds (lengths_of x y) (ranges old new) (i / 4096)) all held in
+      let any = Any-from_list_any (λ p. option_map_or (has_block (ranges old new) (i / 4096)) (same_size_regions (lengths_of x y) p) false) all held in
       by_holder size below old new i (holder (ranges old new) (i / 4096) any.1.old any.1.new (any.0, any.2, any.3) any.4) small d
   by_test size below old new i one small d false free = by_itself old new i one free d
 
@@ -154,4 +157,4 @@ pub reported : DifferencesAreReported
 unfolding area_changes
 reported x y olds news old new i one d =
     let all = pairs olds news in
-    any-left (reports (new.area.offset + i)) (area_changes_in (8 * length y) x y all all) (flat_map (gone_of olds news) olds) (reported_below x y all (suc new.area.size) old new i one (omega arith) d)
+    any-left (reports (new.area.offset + i)) (area_changes_in x y all (8 * length y) all) (flat_map (gone_of olds news) olds) (reported_below x y all (suc new.area.size) old new i one (omega arith) d)

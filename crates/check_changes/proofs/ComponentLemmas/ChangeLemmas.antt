@@ -9,13 +9,13 @@ use Rattle.flash_device.specs.Device.{Device}
 use Rattle.cbfs_walk.proofs.Checks.{checks_give}
 use Rattle.check_changes.specs.declared.components.listing.Listed.{Listed}
 use Rattle.check_changes.specs.declared.images.Images.{Images}
-use Rattle.check_changes.specs.Components.Listings.{IsListedIn, spans}
+use Rattle.check_changes.specs.Listings.{IsListedIn, spans}
 use Rattle.check_changes.specs.Images.{HasReadBoth}
 use Rattle.check_changes.proofs.ImageLemmas.{both-then, both-within}
 
 -- the name of a component ends before its content
 pub name_first : (size : ℕ) (l : Listed) → IsListedIn size l → name_end l.cell.head ≤ l.cell.head.offset
-name_first size l used = (checks_give _ l.cell.head l.cell.span used.cell.checks).name_high used.used
+name_first size l used = (checks_give _ l.cell.head l.cell.span used.0.checks).name_high used.1
 
 -- ---- component by component
 
@@ -31,7 +31,7 @@ module _ {F G : Type 0} (f : F → Device) (g : G → Device) (size : ℕ) (all 
       → HasReadBoth f g (2 + (get_or all i d).cell.span / 4096) (2 + (get_or all i d).cell.span / 4096) a b mid new
       → HasReadBoth f g (spans (take (i + 1) all) / 24) (spans (take (i + 1) all) / 24) a b old new
   reads_more first second =
-      let some : 64 ≤ (get_or all i d).cell.span = (All-get_or (IsListedIn size) all i d lt lie).cell.positive in
+      let some : 64 ≤ (get_or all i d).cell.span = (All-get_or (IsListedIn size) all i d lt lie).0.positive in
       let few : spans (take i all) / 24 + (2 + (get_or all i d).cell.span / 4096) ≤ spans (take (i + 1) all) / 24 = omega (arith, some, spans_more all i d lt) in
       both-within f g _ _ few few (both-then f g first second)
 

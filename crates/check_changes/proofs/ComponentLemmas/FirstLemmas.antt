@@ -1,8 +1,7 @@
 -- The first component of each name, from the last component on.
-use Rattle.std.proofs.Common.{◌≡◌, ℕ, ◌+◌, ◌<◌, ◌≤◌, Bool, true, false, cond, List, [], ◌∷◌, length, map, drop, get_or, Option, Some, None, refl, sym, ap, subst, ◌∙◌, arith, add-one, suc, Bor}
-use Rattle.std.specs.Prelude.{IfSome, All}
+use Rattle.std.proofs.Common.{◌≡◌, ℕ, ◌+◌, ◌<◌, ◌≤◌, Bool, true, false, cond, List, [], ◌∷◌, length, drop, get_or, Option, Some, None, refl, sym, subst, arith, add-one, suc, Bor}
+use Rattle.std.specs.Prelude.{IfSome, All, option_copied}
 use Rattle.std.specs.List.{find}
-use Rattle.std.specs.Option.{option_map}
 use Rattle.std.specs.Str.{bytes_eq}
 use Rattle.std.specs.Cmp.Lexicographic.{nat_list_eq_equiv}
 use Rattle.std.specs.HashMap.{HashMap, IsEmpty, UpdatesBy}
@@ -11,18 +10,10 @@ use Rattle.std.proofs.lemmas.Grind.{common_steps}
 use Rattle.std.proofs.lemmas.List.Elements.{All-head, All-tail}
 use Rattle.std.proofs.lemmas.Map.Text.{hash_map_updates_str}
 use Rattle.check_changes.specs.declared.components.listing.Listed.{Listed}
-use Rattle.check_changes.specs.Components.ComponentChanges.{first_of}
-use Rattle.check_changes.specs.Components.Firsts.{Notes, referred}
-use Rattle.check_changes.specs.Components.Listings.{state_in, states_in}
+use Rattle.check_changes.specs.Components.{first_of}
+use Rattle.check_changes.specs.Listings.{Notes}
 
 -- ---- the first element that passes a test
-
-find-map : {X Y : Type 0} (h : X → Y) (p : Y → Bool) (xs : List X) → find p (map h xs) ≡ option_map h (find (λ x. p (h x)) xs)
-find-map h p [] = refl
-find-map h p (x ∷ xs) = elim (p (h x)) as (λ b. cond b (Some (h x)) (find p (map h xs)) ≡ option_map h (cond b (Some x) (find (λ x. p (h x)) xs))) [
-  | true ↦ refl
-  | false ↦ find-map h p xs
-]
 
 find-All : {X : Type 0} (P : X → Type 0) (p : X → Bool) (xs : List X) → All P xs → IfSome (find p xs) P
 find-All P p [] all = tt
@@ -31,17 +22,9 @@ find-All P p (x ∷ xs) all = elim (p x) as (λ b. IfSome (cond b (Some x) (find
   | false ↦ find-All P p xs (All-tail P x xs all)
 ]
 
-module _ (name : List ℕ) (all : List Listed) where
-  abbrev pub IsFirst : Option (Bor Listed) → Type 0
-  IsFirst found = referred found ≡ find (λ (l : Listed). bytes_eq name l.name) all
-
-  pub first_state : (x : List ℕ) (found : Option (Bor Listed)) → IsFirst found → option_map (λ (l : Bor Listed). state_in x l.now) found ≡ first_of name (states_in x all)
-  first_state x None is = ap (option_map (state_in x)) is ∙ sym (find-map (state_in x) (λ c. bytes_eq name c.name) all)
-  first_state x (Some l) is = ap (option_map (state_in x)) is ∙ sym (find-map (state_in x) (λ c. bytes_eq name c.name) all)
-
-  pub first_listed : (P : Listed → Type 0) (found : Option (Bor Listed)) → IsFirst found → All P all → IfSome found (λ (l : Bor Listed). P l.now)
-  first_listed P None is lie = tt
-  first_listed P (Some l) is lie = subst (λ o. IfSome o P) (sym is) (find-All P _ all lie)
+pub first_listed : (name : List ℕ) (all : List Listed) (P : Listed → Type 0) (found : Option (Bor Listed)) → option_copied found ≡ first_of name all → All P all → IfSome found (λ (l : Bor Listed). P l.now)
+first_listed name all P None is lie = tt
+first_listed name all P (Some l) is lie = subst (λ o. IfSome o P) (sym is) (find-All P _ all lie)
 
 -- ---- the map of first components
 

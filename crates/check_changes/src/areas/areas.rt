@@ -1,13 +1,13 @@
 //! The changes between areas.
-ghost use Rattle.std.specs.Prelude.{◌≡◌, ◌+◌, ◌-◌, ◌*◌, ◌/◌, ◌≤◌, ◌++◌, length, IfOk, OnOk};
-ghost use Rattle.check_changes.specs.Areas.AreaChanges.{area_changes_in, compared, content_changes};
-ghost use Rattle.check_changes.specs.Areas.AreaChanges.{entry_changes, left_after, pair_regions};
-ghost use Rattle.check_changes.specs.Areas.AreaChanges.{area_changes};
-ghost use Rattle.check_changes.specs.Areas.Blocks.{blocks_of, different_blocks};
+ghost use Rattle.std.specs.Prelude.{◌≡◌, ◌+◌, ◌-◌, ◌*◌, ◌/◌, ◌≤◌, ◌++◌, length, map, IfOk, OnOk};
+ghost use Rattle.check_changes.specs.Areas.{area_change, area_changes, area_changes_in, compared};
+ghost use Rattle.check_changes.specs.Areas.{content_differences, entry_differences, left_after};
+ghost use Rattle.check_changes.specs.Areas.{same_size_regions};
+ghost use Rattle.check_changes.specs.Blocks.{blocks_of, different_blocks};
 ghost use Rattle.check_changes.specs.Images.{HasCompared, OnBoth, lengths, lengths_of};
 
 use crate::areas::blocks::{Differing, blocks_of, different_in};
-use crate::areas::change::AreaChange;
+use crate::areas::change::{AreaChange, AreaDifference};
 use crate::areas::names::{NamedAreas, NamedBoth};
 use crate::areas::pairs::{AreaPair, pairs, push_gone};
 use crate::fault::ChangeFault;
@@ -22,19 +22,20 @@ const MOST_TIMES: u64 = 8;
 
 fn push_entry_changes(changes: &mut Vec<AreaChange>, pair: AreaPair) -> Result<(), AllocError>
     ensures { OnOk result (changes.new.items ≡ changes.old.items
-        ++ entry_changes pair.old pair.new) }
+        ++ map (area_change pair.new) (entry_differences pair.old pair.new)) }
 {
-    let new = pair.new;
+    let area = pair.new;
     let Some(old) = pair.old else {
-        return push(changes, AreaChange::Added(new));
+        let what = AreaDifference::Added;
+        return push(changes, AreaChange { area, what });
     };
-    let is_moved = old.area.offset != new.area.offset;
-    push_if(changes, is_moved, AreaChange::Moved { old, new })?;
-    let is_resized = old.area.size != new.area.size;
-    push_if(changes, is_resized, AreaChange::Resized { old, new })?;
-    let has_other_flags = old.area.flags != new.area.flags;
-    let flags = AreaChange::FlagsChanged { old, new };
-    push_if(changes, has_other_flags, flags)
+    let (old, new) = (old.area, area.area);
+    let what = AreaDifference::MovedFrom(old.offset);
+    push_if(changes, old.offset != new.offset, AreaChange { area, what })?;
+    let what = AreaDifference::ResizedFrom(old.size);
+    push_if(changes, old.size != new.size, AreaChange { area, what })?;
+    let what = AreaDifference::FlagsFrom(old.flags);
+    push_if(changes, old.flags != new.flags, AreaChange { area, what })
 }
 
 fn push_content_changes<F: Flash, G: Flash>(
@@ -47,20 +48,21 @@ fn push_content_changes<F: Flash, G: Flash>(
     ensures after { HasCompared F.facts G.facts (blocks_of (left.old - left.new))
         images.old images.new result }
     ensures left { left.new ≡ left_after left.old
-        (pair_regions (lengths F.facts G.facts images.old) pair.now) }
+        (same_size_regions (lengths F.facts G.facts images.old) pair.now) }
     ensures fewer { left.new ≤ left.old }
     ensures changes { OnBoth F.facts G.facts images.old (λ x y. OnOk result (changes.new.items
-        ≡ changes.old.items ++ content_changes x y pairs.now pair.now
-        (compared left.old (pair_regions (lengths_of x y) pair.now)))) }
+        ≡ changes.old.items ++ map (area_change pair.now.new) (content_differences x y pairs.now
+        pair.now (compared left.old (same_size_regions (lengths_of x y) pair.now))))) }
 {
     let area = pair.new;
-    let Some(regions) = taken(left, pair.regions(images.lengths())) else {
-        return Ok(push_if(changes, pair.is_same_size(), AreaChange::NotCompared(area))?);
+    let Some(regions) = taken(left, pair.same_size_regions(images.lengths())) else {
+        let what = AreaDifference::NotCompared;
+        return Ok(push_if(changes, pair.is_same_size(), AreaChange { area, what })?);
     };
     let len = blocks_of(regions.old.size());
     let Differing { blocks, own } = different_in(images, &regions, pairs, len)?;
-    let change = AreaChange::Differs { area, blocks, own };
-    Ok(push_if(changes, blocks > 0, change)?)
+    let what = AreaDifference::Differs { blocks, own };
+    Ok(push_if(changes, blocks > 0, AreaChange { area, what })?)
 }
 
 fn push_changes<F: Flash, G: Flash>(
@@ -72,7 +74,7 @@ fn push_changes<F: Flash, G: Flash>(
         (8 * (lengths F.facts G.facts images.old).new / 4096 + length pairs.now)
         images.old images.new result }
     ensures changes { OnBoth F.facts G.facts images.old (λ x y. OnOk result (changes.new.items
-        ≡ changes.old.items ++ area_changes_in (8 * length y) x y pairs.now pairs.now)) }
+        ≡ changes.old.items ++ area_changes_in x y pairs.now (8 * length y) pairs.now)) }
 {
     let mut left = MOST_TIMES * images.lengths().new;
     for pair in pairs {

@@ -1,7 +1,7 @@
 //! Counts of different blocks.
 ghost use Rattle.std.specs.Prelude.{◌≡◌, ◌^◌, ◌≤◌, IfOk};
-ghost use Rattle.check_changes.specs.Areas.AreaChanges.{is_difference, is_own_difference};
-ghost use Rattle.check_changes.specs.Areas.Blocks.{blocks_of, count_below};
+ghost use Rattle.check_changes.specs.Areas.{is_difference, is_own_difference};
+ghost use Rattle.check_changes.specs.Blocks.{blocks_of, count_below};
 ghost use Rattle.check_changes.specs.Images.{HasCompared, LieOn, OnBoth};
 
 use crate::areas::pairs::{AreaPair, is_held};

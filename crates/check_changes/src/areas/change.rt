@@ -1,34 +1,32 @@
 //! The changes between two flash maps.
 use flash_map::NumberedArea;
 
-/// A change between the areas of two images.
+/// A difference between an area and the first old area of its name.
 #[derive(Clone, Copy, Drop)]
-pub enum AreaChange {
-    Added(NumberedArea),
-    Gone(NumberedArea),
-    Moved {
-        old: NumberedArea,
-        new: NumberedArea,
-    },
-    Resized {
-        old: NumberedArea,
-        new: NumberedArea,
-    },
-    FlagsChanged {
-        old: NumberedArea,
-        new: NumberedArea,
-    },
+pub enum AreaDifference {
+    Added,
+    Gone,
+    /// The old offset.
+    MovedFrom(u32),
+    /// The old size.
+    ResizedFrom(u32),
+    /// The old flags.
+    FlagsFrom(u16),
     /// The areas have one size and other bytes. `blocks` counts different blocks of 4096 bytes from
     /// the area's start. `own` omits blocks inside a smaller area, if that area has the same shift
     /// and size in both maps, and lies in both images.
-    Differs {
-        area: NumberedArea,
-        blocks: u32,
-        own: u32,
-    },
+    Differs { blocks: u32, own: u32 },
     /// The areas have one size, but one ends outside its image, or the limit of compared bytes is
     /// reached.
-    NotCompared(NumberedArea),
+    NotCompared,
+}
+
+/// A change between the areas of two images.
+#[derive(Clone, Copy, Drop)]
+pub struct AreaChange {
+    /// The new area, or the old one if it is gone.
+    pub area: NumberedArea,
+    pub what: AreaDifference,
 }
 
 /// A change of the flash map itself.
@@ -37,6 +35,7 @@ pub enum MapChange {
     NoOldMap,
     /// The old map's offset.
     MovedFrom(u64),
-    BaseChanged { old: u64, new: u64 },
+    /// The old base address.
+    BaseFrom(u64),
     NameChanged,
 }

@@ -1,6 +1,6 @@
 //! The changes between two flash maps.
 ghost use Rattle.std.specs.Prelude.{◌≡◌, IfOk};
-ghost use Rattle.check_changes.specs.Areas.MapChanges as maps;
+ghost use Rattle.check_changes.specs.Areas as maps;
 
 use crate::areas::change::MapChange;
 use check_findings::{push, push_if};
@@ -27,8 +27,7 @@ pub fn map_changes(
     push_if(&mut changes, old.at != new.at, MapChange::MovedFrom(old.at))?;
     let has_other_name = old.head.text() != new.head.text();
     let (old, new) = (old.head.base, new.head.base);
-    let base = MapChange::BaseChanged { old, new };
-    push_if(&mut changes, old != new, base)?;
+    push_if(&mut changes, old != new, MapChange::BaseFrom(old))?;
     push_if(&mut changes, has_other_name, MapChange::NameChanged)?;
     Ok(changes)
 }

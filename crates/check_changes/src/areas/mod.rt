@@ -9,6 +9,7 @@ mod pairs;
 
 pub use areas::{Areas, ImageChanges, image_changes};
 pub use blocks::blocks_of;
-pub use change::{AreaChange, MapChange};
+pub use change::{AreaChange, AreaDifference, MapChange};
 pub use map::map_changes;
 pub use names::NamedAreas;
+pub use pairs::AreaPair;

@@ -2,8 +2,8 @@
 ghost use Rattle.std.specs.Prelude.{◌≡◌, IfOk};
 ghost use Rattle.std.proofs.Props.{props};
 ghost use Rattle.flash_map.specs.Names.{Notes};
-ghost use Rattle.check_findings.specs.Map.MapFindings.{namesake};
-ghost use Rattle.check_changes.specs.Areas.AreaChanges.{is_reached};
+ghost use Rattle.check_findings.specs.MapFindings.{namesake};
+ghost use Rattle.check_changes.specs.Areas.{is_reached};
 
 use crate::images::Both;
 use flash_map::{AreaNames, NumberedArea};

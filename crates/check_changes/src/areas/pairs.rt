@@ -1,15 +1,17 @@
 //! Pairs of areas.
-ghost use Rattle.std.specs.Prelude.{◌≡◌, ◌+◌, ◌*◌, ◌<◌, ◌≤◌, ◌++◌, ◌^◌, length, IfSome, IfOk, OnOk};
+ghost use Rattle.std.specs.Prelude.{◌≡◌, ◌+◌, ◌*◌, ◌<◌, ◌≤◌, ◌++◌, ◌^◌, false, length, IfSome, IfOk, OnOk};
 ghost use Rattle.std.specs.List.{flat_map};
-ghost use Rattle.check_changes.specs.Areas.AreaChanges.{pairs, gone_of, pair_regions, is_same_size, holds, is_held};
+ghost use Rattle.std.specs.Option.{option_map_or};
+ghost use Rattle.check_changes.specs.Areas.{pairs, gone_of, has_block, is_held, is_same_size};
+ghost use Rattle.check_changes.specs.Areas.{regions_of, same_size_regions};
 ghost use Rattle.check_changes.specs.Images.{LieWithin};
 
-use crate::areas::change::AreaChange;
+use crate::areas::change::{AreaChange, AreaDifference};
 use crate::areas::names::NamedBoth;
-use crate::images::{Lengths, RegionPair, regions_within};
+use crate::images::{Lengths, RegionPair};
 use check_findings::push_if;
 use flash_device::PIECE;
-use flash_map::NumberedArea;
+use flash_map::{NumberedArea, Region};
 use std::alloc::{AllocError, Global};
 
 /// An area of the new map, and the first old area with its name.
@@ -20,17 +22,15 @@ pub struct AreaPair {
 }
 
 impl AreaPair {
-    /// Returns the areas as regions, if they have one size and lie in images of these lengths.
+    /// Returns the areas as regions, if they end inside images of these lengths.
     pub fn regions(&self, lens: Lengths) -> Option<RegionPair>
-        ensures regions { result ≡ pair_regions lens self.now }
+        ensures regions { result ≡ regions_of lens self.now }
         ensures inside { IfSome result (LieWithin lens) }
-        ensures same_size { IfSome result (λ r. r.old.size ≡ r.new.size) }
     {
-        let old = self.old?;
-        if old.area.size != self.new.area.size {
-            return None;
-        }
-        regions_within(lens, old, self.new)
+        let (old, new) = (self.old?.area, self.new.area);
+        let old = Region::within(u64::from(old.offset), u64::from(old.size), lens.old)?;
+        let new = Region::within(u64::from(new.offset), u64::from(new.size), lens.new)?;
+        Some(RegionPair { old, new })
     }
 
     pub fn is_same_size(&self) -> bool
@@ -40,13 +40,26 @@ impl AreaPair {
             .is_some_and(|old| old.area.size == self.new.area.size)
     }
 
+    /// Returns the regions, if the areas have one size.
+    pub fn same_size_regions(&self, lens: Lengths) -> Option<RegionPair>
+        ensures regions { result ≡ same_size_regions lens self.now }
+        ensures inside { IfSome result (LieWithin lens) }
+        ensures same_size { IfSome result (λ r. r.old.size ≡ r.new.size) }
+    {
+        if !self.is_same_size() {
+            return None;
+        }
+        self.regions(lens)
+    }
+
     fn holds(&self, lens: Lengths, outer: RegionPair, number: u64) -> bool
         requires fit { (lens.old < 2 ^ 32) × (lens.new < 2 ^ 32) }
         requires inside { LieWithin lens outer }
         requires begins { 4096 * number ≤ outer.new.size }
-        ensures { result ≡ holds lens outer number self.now }
+        ensures { result ≡ option_map_or (has_block outer number)
+            (same_size_regions lens self.now) false }
     {
-        let Some(inner) = self.regions(lens) else {
+        let Some(inner) = self.same_size_regions(lens) else {
             return false;
         };
         let start = number * PIECE as u64;
@@ -92,7 +105,8 @@ pub fn push_gone<'a>(changes: &mut Vec<AreaChange>, areas: &NamedBoth<'a>) -> Re
 {
     for area in areas.old.all {
         let is_gone = areas.old.is_first(area) && areas.new.namesake(area).is_none();
-        push_if(changes, is_gone, AreaChange::Gone(*area))?;
+        let (area, what) = (*area, AreaDifference::Gone);
+        push_if(changes, is_gone, AreaChange { area, what })?;
     }
     Ok(())
 }

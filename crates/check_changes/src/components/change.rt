@@ -1,38 +1,27 @@
 //! Changes of components.
 use check_findings::Name;
 
-/// The first difference between two components of one name.
+/// A difference between a component and the first old component of its name. At most one of `Type`,
+/// `Length`, `Content` and `Attributes` is reported: the first.
 #[derive(Clone, Copy)]
-pub enum Difference {
+pub enum ComponentDifference {
+    Added,
+    Removed,
     Type,
     Length,
     /// The stored contents.
     Content,
     /// The bytes between name and content.
     Attributes,
+    /// The old offset. Another difference comes first.
+    MovedFrom(u64),
 }
 
 /// A change of a component. Offsets count from the start of its region, in bytes.
 #[derive(Drop)]
-pub enum ComponentChange {
-    Added {
-        at: u64,
-        name: Name,
-    },
-    Removed {
-        at: u64,
-        name: Name,
-    },
-    Changed {
-        old: u64,
-        new: u64,
-        name: Name,
-        what: Difference,
-    },
-    /// The component has another offset. If it differs too, `Changed` comes first.
-    Moved {
-        old: u64,
-        new: u64,
-        name: Name,
-    },
+pub struct ComponentChange {
+    /// The new offset, or the old one of a removed component.
+    pub at: u64,
+    pub name: Name,
+    pub what: ComponentDifference,
 }

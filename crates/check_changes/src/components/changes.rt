@@ -1,14 +1,15 @@
 //! The changes between two regions.
-ghost use Rattle.std.specs.Prelude.{◌≡◌, ℕ, ◌++◌, ◌+◌, ◌/◌, All, List, IfOk, OnOk};
+ghost use Rattle.std.specs.Prelude.{◌≡◌, ◌++◌, ◌∷◌, [], ◌+◌, ◌/◌, All, map, IfOk, OnOk, option_to_list};
 ghost use Rattle.std.specs.List.{flat_map};
-ghost use Rattle.check_changes.specs.Components.ComponentChanges.{new_changes, changes_between};
-ghost use Rattle.check_changes.specs.Components.ComponentChanges.{component_changes, pair_change};
-ghost use Rattle.check_changes.specs.Components.ComponentChanges.{removal_of};
-ghost use Rattle.check_changes.specs.Components.Listings.{IsListedIn, spans, state_in, states_in};
-ghost use Rattle.check_changes.specs.Components.Pairs.{listed_regions};
+ghost use Rattle.check_changes.specs.Areas.{if_changed};
+ghost use Rattle.check_changes.specs.Components.{changes_between, component_change};
+ghost use Rattle.check_changes.specs.Components.{component_changes, new_changes, removal_of};
+ghost use Rattle.check_changes.specs.Listings.{IsListedIn, spans};
+ghost use Rattle.check_changes.specs.Regions.{listed_regions};
 ghost use Rattle.check_changes.specs.Images.{HasCompared, HasReadFor, LieOn, OnBothIn};
+ghost use Rattle.check_changes.specs.declared.components.change.ComponentDifference.TheVariants.{MovedFrom};
 
-use crate::components::change::{ComponentChange, Difference};
+use crate::components::change::{ComponentChange, ComponentDifference};
 use crate::components::comparison::difference;
 use crate::components::first::{Listing, with_firsts};
 use crate::components::listing::{Listed, components};
@@ -21,30 +22,36 @@ use std::hash::RandomState;
 
 pub type Listings<'a> = Both<Listing<'a>>;
 
+fn push_change(
+    alloc: Global,
+    changes: &mut Vec<ComponentChange>,
+    listed: &Listed,
+    what: ComponentDifference,
+) -> Result<(), AllocError>
+    ensures { OnOk result (changes.new.items
+        ≡ changes.old.items ++ component_change listed.now what ∷ []) }
+{
+    let (at, name) = (listed.cell.at, listed.copied_name(alloc)?);
+    push(changes, ComponentChange { at, name, what })
+}
+
 /// Pushes the difference and the move from offset `old`.
 fn push_pair(
     alloc: Global,
     changes: &mut Vec<ComponentChange>,
     old: u64,
     listed: &Listed,
-    what: Option<Difference>,
+    what: Option<ComponentDifference>,
 ) -> Result<(), AllocError>
     ensures { OnOk result (changes.new.items ≡ changes.old.items
-        ++ pair_change what old listed.now.cell.at listed.now.name) }
+        ++ map (component_change listed.now)
+        (option_to_list what ++ if_changed old listed.now.cell.at MovedFrom)) }
 {
-    let new = listed.cell.at;
     if let Some(what) = what {
-        let name = listed.copied_name(alloc)?;
-        changes.push(ComponentChange::Changed {
-            old,
-            new,
-            name,
-            what,
-        })?;
+        push_change(alloc, changes, listed, what)?;
     }
-    if old != new {
-        let name = listed.copied_name(alloc)?;
-        changes.push(ComponentChange::Moved { old, new, name })?;
+    if old != listed.cell.at {
+        push_change(alloc, changes, listed, ComponentDifference::MovedFrom(old))?;
     }
     Ok(())
 }
@@ -63,16 +70,14 @@ fn push_changes_of<'a, F: Flash, G: Flash>(
     ensures after { HasCompared F.facts G.facts (2 + listed.now.cell.span / 4096)
         images.old images.new result }
     ensures changes { OnBothIn F.facts G.facts images.old (listed_regions lists.now)
-        (λ x y. OnOk result
-        (changes.new.items ≡ changes.old.items ++ new_changes (states_in x lists.now.old.all.now)
-        (states_in y lists.now.new.all.now) (state_in y listed.now))) }
+        (λ x y. OnOk result (changes.new.items ≡ changes.old.items
+        ++ new_changes x y lists.now.old.all.now lists.now.new.all.now listed.now)) }
 {
     if !lists.new.is_first(listed) {
         return Ok(());
     }
     let Some(old) = lists.old.namesake(listed) else {
-        let (at, name) = (listed.cell.at, listed.copied_name(alloc)?);
-        return Ok(push(changes, ComponentChange::Added { at, name })?);
+        return Ok(push_change(alloc, changes, listed, ComponentDifference::Added)?);
     };
     let regions = RegionPair {
         old: lists.old.region,
@@ -93,10 +98,8 @@ fn push_changes<'a, F: Flash, G: Flash>(
     ensures after { HasCompared F.facts G.facts (spans lists.now.new.all.now / 24)
         images.old images.new result }
     ensures changes { OnBothIn F.facts G.facts images.old (listed_regions lists.now)
-        (λ x y. OnOk result
-        (changes.new.items ≡ changes.old.items
-        ++ flat_map (new_changes (states_in x lists.now.old.all.now)
-        (states_in y lists.now.new.all.now)) (states_in y lists.now.new.all.now))) }
+        (λ x y. OnOk result (changes.new.items ≡ changes.old.items ++ flat_map
+        (new_changes x y lists.now.old.all.now lists.now.new.all.now) lists.now.new.all.now)) }
 {
     for listed in lists.new.all {
         push_changes_of(alloc, changes, images, lists, listed)?;
@@ -111,13 +114,11 @@ fn push_if_removed<'a>(
     lists: &Listings<'a>,
     listed: &'a Listed,
 ) -> Result<(), AllocError>
-    ensures { (x y : List ℕ) → OnOk result (changes.new.items ≡ changes.old.items
-        ++ removal_of (states_in x lists.now.old.all.now) (states_in y lists.now.new.all.now)
-        (state_in x listed.now)) }
+    ensures { OnOk result (changes.new.items ≡ changes.old.items
+        ++ removal_of lists.now.old.all.now lists.now.new.all.now listed.now) }
 {
     if lists.new.namesake(listed).is_none() && lists.old.is_first(listed) {
-        let (at, name) = (listed.cell.at, listed.copied_name(alloc)?);
-        changes.push(ComponentChange::Removed { at, name })?;
+        push_change(alloc, changes, listed, ComponentDifference::Removed)?;
     }
     Ok(())
 }
@@ -127,9 +128,9 @@ fn push_removed<'a>(
     changes: &mut Vec<ComponentChange>,
     lists: &Listings<'a>,
 ) -> Result<(), AllocError>
-    ensures { (x y : List ℕ) → OnOk result (changes.new.items ≡ changes.old.items
-        ++ flat_map (removal_of (states_in x lists.now.old.all.now)
-        (states_in y lists.now.new.all.now)) (states_in x lists.now.old.all.now)) }
+    ensures { OnOk result (changes.new.items ≡ changes.old.items
+        ++ flat_map (removal_of lists.now.old.all.now lists.now.new.all.now)
+        lists.now.old.all.now) }
 {
     for listed in lists.old.all {
         push_if_removed(alloc, changes, lists, listed)?;
@@ -151,7 +152,7 @@ fn list_changes<'a, F: Flash, G: Flash>(
 
     ensures after { HasCompared F.facts G.facts (spans new.now / 24) images.old images.new result }
     ensures changes { OnBothIn F.facts G.facts images.old regions (λ x y. IfOk result
-        (λ changes. changes.items ≡ changes_between (states_in x old.now) (states_in y new.now))) }
+        (λ changes. changes.items ≡ changes_between x y old.now new.now)) }
 {
     let lists = Listings {
         old: with_firsts(alloc, keys, regions.old, old)?,

@@ -2,12 +2,12 @@
 ghost use Rattle.std.specs.Prelude.{◌≡◌, ◌+◌, ◌-◌, ◌/◌, ◌≤◌, ◌<◌, ◌^◌, slice_range, IfOk};
 ghost use Rattle.std.specs.Str.{bytes_eq};
 ghost use Rattle.flash_format.specs.Entry.{name_end};
-ghost use Rattle.check_changes.specs.Components.ComponentChanges.{difference};
-ghost use Rattle.check_changes.specs.Components.Listings.{IsListedIn, state_in};
+ghost use Rattle.check_changes.specs.Components.{difference};
+ghost use Rattle.check_changes.specs.Listings.{IsListedIn};
 ghost use Rattle.check_changes.specs.Images.{HasCompared, LieOn, OnBothIn};
 
 use crate::areas::blocks_of;
-use crate::components::change::Difference;
+use crate::components::change::ComponentDifference;
 use crate::components::listing::Listed;
 use crate::fault::ChangeFault;
 use crate::images::{Images, RegionPair};
@@ -23,7 +23,7 @@ pub fn difference<F: Flash, G: Flash>(
     regions: RegionPair,
     old: &Listed,
     new: &Listed,
-) -> Result<Option<Difference>, ChangeFault>
+) -> Result<Option<ComponentDifference>, ChangeFault>
     requires regions { LieOn F.facts G.facts images.old regions }
     requires old { IsListedIn regions.old.size old.now }
     requires new { IsListedIn regions.new.size new.now }
@@ -31,22 +31,22 @@ pub fn difference<F: Flash, G: Flash>(
     ensures after { HasCompared F.facts G.facts (2 + new.now.cell.span / 4096)
         images.old images.new result }
     ensures difference { OnBothIn F.facts G.facts images.old regions (λ x y.
-        IfOk result (λ what. what ≡ difference (state_in x old.now) (state_in y new.now))) }
+        IfOk result (λ what. what ≡ difference x y old.now.cell new.now.cell)) }
 {
     let (old, new) = (&old.cell, &new.cell);
     if old.head.kind != new.head.kind {
-        return Ok(Some(Difference::Type));
+        return Ok(Some(ComponentDifference::Type));
     }
     if old.head.len != new.head.len {
-        return Ok(Some(Difference::Length));
+        return Ok(Some(ComponentDifference::Length));
     }
     let (a, b) = (content(old), content(new));
     if !same_range(images, regions, a, b)? {
-        return Ok(Some(Difference::Content));
+        return Ok(Some(ComponentDifference::Content));
     }
     let (a, b) = (attributes(old), attributes(new));
     if !same_range(images, regions, a, b)? {
-        return Ok(Some(Difference::Attributes));
+        return Ok(Some(ComponentDifference::Attributes));
     }
     Ok(None)
 }

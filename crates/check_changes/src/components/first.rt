@@ -1,9 +1,8 @@
 //! The first component of each name.
-ghost use Rattle.std.specs.Prelude.{◌≡◌, ℕ, ◌∷◌, List, All, IfOk, IfSome, OnOk, option_map};
+ghost use Rattle.std.specs.Prelude.{◌≡◌, ◌∷◌, List, All, IfOk, IfSome, OnOk, option_copied};
 ghost use Rattle.std.proofs.Props.{props};
-ghost use Rattle.check_changes.specs.Components.ComponentChanges.{first_of, is_first_of};
-ghost use Rattle.check_changes.specs.Components.Firsts.{Notes};
-ghost use Rattle.check_changes.specs.Components.Listings.{IsListedIn, state_in, states_in};
+ghost use Rattle.check_changes.specs.Components.{first_of, is_first_of};
+ghost use Rattle.check_changes.specs.Listings.{IsListedIn, Notes};
 ghost use Rattle.check_changes.specs.declared.components.listing.Listed.{Listed};
 
 use crate::components::listing::Listed;
@@ -28,16 +27,14 @@ pub struct Listing<'a> {
 impl<'a> Listing<'a> {
     /// Returns the first component with this component's name.
     pub fn namesake(&self, listed: &'a Listed) -> Option<&'a Listed>
-        ensures first { (x : List ℕ) → option_map (λ l. state_in x l.now) result
-            ≡ first_of listed.now.name (states_in x self.now.all.now) }
+        ensures first { option_copied result ≡ first_of listed.now.name self.now.all.now }
         ensures listed { IfSome result (λ l. IsListedIn self.now.region.size l.now) }
     {
         self.first.get(listed.name.as_slice()).copied()
     }
 
     pub fn is_first(&self, listed: &'a Listed) -> bool
-        ensures { (x : List ℕ) → result
-            ≡ is_first_of (states_in x self.now.all.now) (state_in x listed.now) }
+        ensures { result ≡ is_first_of self.now.all.now listed.now }
     {
         self.namesake(listed)
             .is_some_and(|first| first.cell.at == listed.cell.at)

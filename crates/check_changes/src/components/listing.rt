@@ -3,10 +3,9 @@ ghost use Rattle.std.specs.Prelude.{◌≡◌, ◌+◌, ◌/◌, ◌≤◌, ◌+
 ghost use Rattle.flash_device.specs.Device.{fault_count};
 ghost use Rattle.flash_device.specs.Pages.{HasRead, OnHonestIn};
 ghost use Rattle.flash_device.specs.Regions.{LiesOn};
-ghost use Rattle.cbfs_walk.specs.Cells.{IsCellIn};
+ghost use Rattle.cbfs_walk.specs.Cells.{IsCellIn, cell_in};
 ghost use Rattle.cbfs_walk.specs.Walks.{StandsIn};
-ghost use Rattle.check_changes.specs.Components.Listings.{IsListedIn, Lists, cell_states};
-ghost use Rattle.check_changes.specs.Components.Listings.{spans, states_in};
+ghost use Rattle.check_changes.specs.Listings.{IsListedIn, Lists, cell_listed, spans};
 ghost use Rattle.flash_map.specs.Faults.{by_device};
 
 use cbfs_walk::{Cell, Step, Walk, WalkFault, cells_stand_in_their_image, name};
@@ -45,8 +44,7 @@ fn list_cell<F: Flash>(
         → All (IsListedIn region.size) all.new.items) }
     ensures room { OnOk result (spans all.new.items ≤ spans all.old.items + cell.now.span) }
     ensures listed { OnHonestIn F.facts paged.old.device region (λ x. StandsIn x cell.now →
-        OnOk result (states_in x all.new.items ≡ states_in x all.old.items
-        ++ cell_states x cell.now)) }
+        OnOk result (all.new.items ≡ all.old.items ++ cell_listed (cell_in x cell.now) cell.now)) }
 {
     cells_stand_in_their_image();
     if cell.head.is_free() {

@@ -6,5 +6,5 @@ mod comparison;
 mod first;
 mod listing;
 
-pub use change::{ComponentChange, Difference};
+pub use change::{ComponentChange, ComponentDifference};
 pub use changes::component_changes;

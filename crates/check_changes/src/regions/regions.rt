@@ -1,16 +1,16 @@
 //! The changes of each region's components.
 ghost use Rattle.std.specs.Prelude.{◌≡◌, ◌+◌, ◌-◌, ◌*◌, ◌/◌, ◌≤◌, ◌++◌, List, length, IfOk, OnOk};
-ghost use Rattle.check_findings.specs.Image.RegionAreas.{region_area, region_areas, sum_sizes};
+ghost use Rattle.check_findings.specs.ImageFindings.{region_area, region_areas, sum_sizes};
 ghost use Rattle.flash_map.specs.declared.areas.NumberedArea.{NumberedArea};
 ghost use Rattle.check_changes.specs.Images.{HasReadFor, OnBoth, lengths};
-ghost use Rattle.check_changes.specs.Regions.RegionChanges.{region_changes_in, region_changes};
+ghost use Rattle.check_changes.specs.Regions.{region_changes, region_changes_in};
 
-use crate::areas::NamedAreas;
+use crate::areas::{AreaPair, NamedAreas};
 use crate::components::component_changes;
 use crate::fault::ChangeFault;
-use crate::images::{Images, regions_within, taken};
+use crate::images::{Images, taken};
 use crate::regions::change::{ComponentChanges, RegionChange};
-use check_findings::{ImageFinding, push};
+use check_findings::{ImageFinding, push, push_if};
 use flash_device::Flash;
 use flash_map::NumberedArea;
 use std::alloc::Global;
@@ -41,11 +41,13 @@ fn push_changes<'a, F: Flash, G: Flash>(
     let ImageFinding::Region { area, .. } = finding else {
         return Ok(());
     };
-    let Some(old) = olds.namesake(area) else {
-        return Ok(());
+    let pair = AreaPair {
+        old: olds.namesake(area),
+        new: *area,
     };
-    let Some(regions) = taken(left, regions_within(images.lengths(), old, *area)) else {
-        return Ok(push(changes, RegionChange::NotCompared(*area))?);
+    let Some(regions) = taken(left, pair.regions(images.lengths())) else {
+        let change = RegionChange::NotCompared(*area);
+        return Ok(push_if(changes, pair.old.is_some(), change)?);
     };
     let found = component_changes(alloc, keys, images, regions)?;
     let change = RegionChange::Compared {

@@ -1,30 +1,39 @@
 -- Regions without bad findings.
 use Rattle.std.proofs.Common.{◌==◌}
 use Rattle.check_findings.specs.Lists.{only_if}
-use Rattle.std.proofs.Common.{arith, ◌≡◌, ℕ, ◌+◌, Bool, true, false, cond, List, [], ◌∷◌, Some, None, Contains, All, length, sym, ap, ◌∙◌}
+use Rattle.std.proofs.Common.{arith, ◌≡◌, ℕ, ◌+◌, Bool, true, false, cond, List, [], ◌∷◌, Some, None, Contains, All, length, refl, sym, ap, ◌∙◌}
 use Rattle.std.specs.List.{list_any}
 use Rattle.std.proofs.lemmas.Bool.{false≢true, or_parts}
-use Rattle.std.proofs.lemmas.List.Elements.{All-nil, All-cons}
+use Rattle.std.proofs.lemmas.List.Elements.{All-nil, All-cons, All-contains}
 use Rattle.std.proofs.lemmas.List.Folds.{list_any_at}
 use Rattle.flash_format.specs.Head.{head_of, is_free}
 use Rattle.flash_format.specs.Entry.{entry}
 use Rattle.flash_format.specs.Cut.{cut}
-use Rattle.flash_format.specs.Components.{Component, component_at, components_from}
+use Rattle.flash_format.specs.Components.{Component, component_at, components, components_from}
+use Rattle.flash_format.specs.declared.digest.Digest.{Digest}
+use Rattle.cbfs_walk.specs.Hashes.{hash_state}
+use Rattle.cbfs_walk.specs.declared.hashes.HashState.TheVariants.{Invalid}
+use Rattle.std.specs.Prelude.{◌≢◌}
 use Rattle.cbfs_walk.specs.CellReadings.{place_after}
 use Rattle.cbfs_walk.specs.Shapes.{has_bad_size, is_absent, refused_or}
 use Rattle.cbfs_walk.specs.declared.walk.WalkFault.TheVariants as faults
 use Rattle.std.proofs.lemmas.Grind.{common_steps}
-use Rattle.check_findings.specs.Region.RegionFindings.{all_marked, cell_findings, cells_findings, component_finding, marked, region_findings, shape_findings, tail_bytes, tail_findings, walk_findings}
+use Rattle.check_findings.specs.RegionFindings.{all_marked, cell_findings, cells_findings, component_finding, marked, region_findings, shape_findings, tail_bytes, tail_findings, walk_findings}
 use Rattle.check_findings.specs.declared.region.finding.RegionFinding.{RegionFinding}
 use Rattle.check_findings.specs.declared.region.finding.RegionFinding.TheVariants as findings
 use Rattle.check_findings.proofs.MapLemmas.Sound.{none_of}
+use Rattle.check_findings.proofs.RegionLemmas.Shadows.{unshadowed_found}
 use Rattle.check_findings.proofs.RegionLemmas.Tails.{none_filled}
-use Rattle.check_findings.specs.Laws.{IsIntact, IsWhole}
-use Rattle.check_findings.specs.Image.Verdicts.{is_bad_region}
+use Rattle.check_findings.specs.Laws.{IsWhole}
+use Rattle.check_findings.specs.Verdicts.{is_bad_region}
 
 -- a bad finding makes the list bad
-pub bad_among : (needs : Bool) (all : List RegionFinding) (finding : RegionFinding) → Contains all finding → is_bad_region needs finding ≡ true → list_any (is_bad_region needs) all ≡ true
+bad_among : (needs : Bool) (all : List RegionFinding) (finding : RegionFinding) → Contains all finding → is_bad_region needs finding ≡ true → list_any (is_bad_region needs) all ≡ true
 bad_among needs all finding has bad = list_any_at (is_bad_region needs) all has.0 finding has.1 (ap (is_bad_region needs) has.2 ∙ bad)
+
+-- the component's digest, if any, matches
+abbrev IsIntact : Component → Type 0
+IsIntact c = (stored : Digest) → hash_state c.attributes c.content ≢ Invalid stored
 
 good_shape : (needs : Bool) (size absent : Bool) (rest : List RegionFinding)
     → list_any (is_bad_region needs) (refused_or shape_findings (cond size (Some faults.RegionShape) (cond absent (Some faults.NotCbfs) None)) rest) ≡ false
@@ -65,6 +74,7 @@ fit_region needs x fit =
     record {
       shaped = all.0;
       undamaged = λ kind is. false≢true (sym (rw is at parts.1));
-      intact = intact needs 0 (cut x).cells parts.0;
+      intact = λ c stored listed. All-contains IsIntact (components x) c (intact needs 0 (cut x).cells parts.0) listed stored;
       blank = λ is. let at = place_after 0 (cut x).cells in let fit = rw is at parts.1 in none_filled at (tail_bytes at x) (grind (arith, common_steps, fit));
+      found = λ c listed. unshadowed_found x c all.0 listed (λ there. false≢true (sym fit ∙ bad_among needs _ _ there refl));
     }

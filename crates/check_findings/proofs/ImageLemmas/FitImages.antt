@@ -14,18 +14,18 @@ use Rattle.flash_map.specs.declared.search.FoundMap.{FoundMap}
 use Rattle.flash_map.specs.Fmap.{found_from, found_in}
 use Rattle.flash_map.specs.Regions.{region_of, region_under}
 use Rattle.check_findings.specs.declared.map.finding.MapFinding.{MapFinding}
-use Rattle.check_findings.specs.declared.map.finding.MapFinding.TheVariants.{NoMap}
+use Rattle.check_findings.specs.declared.map.finding.MapFinding.TheVariants as of_map
 use Rattle.flash_map.specs.declared.areas.NumberedArea.{NumberedArea}
-use Rattle.check_findings.specs.Map.MapFindings.{findings_of, map_findings}
+use Rattle.check_findings.specs.MapFindings.{findings_of, map_findings}
 use Rattle.flash_map.specs.Areas.{area_end, has_name, image_areas, map_areas, numbered_from}
 use Rattle.check_findings.proofs.MapLemmas.Sound.{named, none_of}
 use Rattle.check_findings.specs.declared.image.finding.ImageFinding.{ImageFinding}
 use Rattle.check_findings.specs.declared.image.finding.ImageFinding.TheVariants.{Map, NotChecked}
-use Rattle.check_findings.specs.Region.RegionFindings.{region_findings}
-use Rattle.check_findings.specs.Image.ImageFindings.{areas_findings, bytes_of, expected_names, has_one_of, image_findings, is_wanted, left_after, range_of}
-use Rattle.check_findings.specs.Laws.{InFitImages, InFitRegions, IsFit, LosesNothing}
-use Rattle.check_findings.specs.Image.RegionAreas.{region_areas}
-use Rattle.check_findings.specs.Image.Verdicts.{is_bad, is_bad_map, is_bad_region}
+use Rattle.check_findings.specs.RegionFindings.{region_findings}
+use Rattle.check_findings.specs.ImageFindings.{areas_findings, bytes_of, expected_names, has_one_of, image_findings, is_wanted, left_after, range_of}
+use Rattle.check_findings.specs.Laws.{InFitImages, IsFit}
+use Rattle.check_findings.specs.ImageFindings.{region_areas}
+use Rattle.check_findings.specs.Verdicts.{is_bad, is_bad_map, is_bad_region}
 use Rattle.check_findings.proofs.ImageLemmas.Fit.{fit_region}
 use Rattle.check_findings.proofs.ImageLemmas.Regions.{regions_of}
 
@@ -52,7 +52,7 @@ IsReached : List ℕ → NumberedArea → Type 0
 IsReached image a = area_end a.area ≤ length image → region_of image (text_of a.area.name) ≡ Ok (range_of a)
 
 fit_areas : (image : List ℕ) (o : Option FoundMap) → found_in image ≡ o
-    → list_any is_bad_map (option_map_or (λ (map : FoundMap). findings_of (length image) map (found_from (map.at + 1) image) (map_areas image map)) o (NoMap ∷ [])) ≡ false → All (IsReached image) (option_map_or (map_areas image) o [])
+    → list_any is_bad_map (option_map_or (λ (map : FoundMap). findings_of (length image) map (found_from (map.at + 1) image) (map_areas image map)) o (of_map.NoMap ∷ [])) ≡ false → All (IsReached image) (option_map_or (map_areas image) o [])
 unfolding IsReached
 fit_areas image None found fit = All-nil (IsReached image)
 fit_areas image (Some map) found fit =
@@ -64,7 +64,7 @@ fit_areas image (Some map) found fit =
 -- ---- checked areas
 
 -- without bad findings, the checked areas are fit
-module _ (lossless : InFitRegions LosesNothing) (needs : Bool) (image : List ℕ) (names : List (List ℕ)) where
+module _ (needs : Bool) (image : List ℕ) (names : List (List ℕ)) where
   fit_areas_of : (left : ℕ) (areas : List NumberedArea) → All (λ (a : NumberedArea). region_of image (text_of a.area.name) ≡ Ok (range_of a)) areas
       → list_any (is_bad needs) (areas_findings image names left areas) ≡ false → All (IsFit image) (region_areas (areas_findings image names left areas))
   fit_areas_of left [] each fit = All-nil (IsFit image)
@@ -81,24 +81,24 @@ module _ (lossless : InFitRegions LosesNothing) (needs : Bool) (image : List ℕ
       go true is fit later =
           let x = bytes_of image a in
           let good = or_parts (list_any (is_bad_region needs) (region_findings x)) _ fit in
-          All-cons (IsFit image) a (region_areas rest) (record { reached = is; whole = fit_region needs x good.0; found = lossless needs x good.0 }) (later good.1)
+          All-cons (IsFit image) a (region_areas rest) (record { reached = is; whole = fit_region needs x good.0 }) (later good.1)
 
 -- ---- the image
 
-of_map : (needs : Bool) (all : List MapFinding) → list_any (is_bad needs) (map Map all) ≡ list_any is_bad_map all
-of_map needs [] = refl
-of_map needs (finding ∷ all) = ap (λ b. is_bad_map finding || b) (of_map needs all)
+maps_bad : (needs : Bool) (all : List MapFinding) → list_any (is_bad needs) (map Map all) ≡ list_any is_bad_map all
+maps_bad needs [] = refl
+maps_bad needs (finding ∷ all) = ap (λ b. is_bad_map finding || b) (maps_bad needs all)
 
-pub fit_image : InFitRegions LosesNothing → InFitImages IsFit
+pub fit_image : InFitImages IsFit
 unfolding image_findings image_areas map_findings IsReached
-fit_image lossless needs image names expected fit =
+fit_image needs image names expected fit =
     let all = expected_names names expected in
     let areas = image_areas image in
     let wanted = is_wanted image all areas in
     let regions = areas_findings image all (2 * length image) (filter wanted areas) in
     let parts = none_of (is_bad needs) (map Map (map_findings image) ++ regions) _ fit in
     let both = none_of (is_bad needs) (map Map (map_findings image)) regions parts.0 in
-    let each = All-filter wanted (IsReached image) areas (fit_areas image (found_in image) refl (sym (of_map needs (map_findings image)) ∙ both.0)) in
+    let each = All-filter wanted (IsReached image) areas (fit_areas image (found_in image) refl (sym (maps_bad needs (map_findings image)) ∙ both.0)) in
     let reach : All (λ (a : NumberedArea). region_of image (text_of a.area.name) ≡ Ok (range_of a)) (filter wanted areas) = λ k d lt. each k d lt (leb-true _ (length image) (and_parts _ _ (filter_passes wanted areas k d lt)).0) in
     subst (All (IsFit image)) (sym (regions_of (map_findings image) areas names _ regions _ _ refl refl refl))
-    (fit_areas_of lossless needs image all (2 * length image) (filter wanted areas) reach both.1)
+    (fit_areas_of needs image all (2 * length image) (filter wanted areas) reach both.1)

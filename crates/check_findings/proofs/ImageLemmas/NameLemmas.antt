@@ -9,15 +9,15 @@ use Rattle.std.specs.BTreeMap.{UpdatesBy}
 use Rattle.std.proofs.lemmas.List.Folds.{list_any-append}
 use Rattle.std.proofs.lemmas.Map.Text.{btree_map_updates_str}
 use Rattle.check_findings.specs.declared.image.names.NameSet.{NameSet}
-use Rattle.check_findings.specs.Image.Lookups.{HasNames, holds_name}
+use Rattle.check_findings.specs.ImageFindings.{HasNames, holds_name}
 use Rattle.flash_map.specs.Areas.{has_name}
 use Rattle.std.specs.Borrow.{Bor}
-use Rattle.std.specs.List.{find, list_any}
+use Rattle.std.specs.List.{enumerate_from, find, flat_map, list_any}
 use Rattle.std.proofs.lemmas.Grind.{common_steps}
 use Rattle.flash_map.specs.declared.areas.NumberedArea.{NumberedArea}
 use Rattle.check_findings.specs.declared.image.finding.ImageFinding.{ImageFinding}
 use Rattle.check_findings.specs.declared.image.finding.ImageFinding.TheVariants.{NoArea}
-use Rattle.check_findings.specs.Image.ImageFindings.{names_findings}
+use Rattle.check_findings.specs.ImageFindings.{missing_name}
 
 abbrev pub texts : List (Bor (List ℕ)) → List (List ℕ)
 texts names = map (λ n. n.now) names
@@ -31,5 +31,5 @@ one_more old new before bs name x puts has = grind (arith, common_steps, list_an
 
 -- a finding for another name
 pub missing_more : (areas : List NumberedArea) (names : List (Bor (List ℕ))) (i : ℕ) (d : Bor (List ℕ)) (missing : Bool) (before after all : List ImageFinding) → i < length names → is_some (find (has_name (get_or names i d).now) areas) ≡ not missing
-    → after ≡ before ++ cond missing (NoArea i ∷ []) [] → before ++ names_findings areas i (texts (drop i names)) ≡ all → after ++ names_findings areas (i + 1) (texts (drop (i + 1) names)) ≡ all
+    → after ≡ before ++ cond missing (NoArea i ∷ []) [] → before ++ flat_map (missing_name areas) (enumerate_from i (texts (drop i names))) ≡ all → after ++ flat_map (missing_name areas) (enumerate_from (i + 1) (texts (drop (i + 1) names))) ≡ all
 missing_more areas names i d missing before after all lt is pushed so_far = grind (arith, common_steps, append_assoc, drop_more names i d lt, is, pushed, so_far)

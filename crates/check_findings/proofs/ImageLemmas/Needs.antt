@@ -1,7 +1,8 @@
 -- The first content of a name in the findings belongs to the component that a search finds.
-use Rattle.std.proofs.Common.{◌≡◌, ℕ, ◌+◌, Bool, true, false, cond, List, [], ◌∷◌, ◌++◌, length, Option, Some, None, Ok, refl, sym, ap, subst, ◌∙◌, append_assoc, append-nil, Contains, arith}
+use Rattle.std.proofs.Common.{◌≡◌, ℕ, ◌+◌, Bool, true, false, cond, List, [], ◌∷◌, ◌++◌, length, Option, Some, None, Ok, refl, sym, ap, subst, ◌∙◌, append_assoc, append-nil, arith}
 use Rattle.std.specs.Prelude.{map, ◌*◌, nat_le, All}
-use Rattle.std.proofs.lemmas.List.Elements.{All-append, All-head, All-tail, All-weaker, Contains-append_right}
+use Rattle.std.proofs.lemmas.List.Elements.{All-head, All-tail, All-weaker}
+use Rattle.std.specs.List.{enumerate_from, flat_map}
 use Rattle.std.specs.Option.{option_map}
 use Rattle.std.proofs.lemmas.Grind.{common_steps}
 use Rattle.flash_format.specs.Cut.{cut}
@@ -11,14 +12,13 @@ use Rattle.cbfs_walk.specs.Shapes.{shape_fault, refused_or}
 use Rattle.cbfs_walk.specs.CellReadings.{place_after}
 use Rattle.cbfs_walk.specs.declared.walk.WalkFault.{WalkFault}
 use Rattle.cbfs_walk.specs.declared.walk.WalkFault.TheVariants as walk
-use Rattle.check_findings.specs.Region.RegionFindings.{free_bytes, largest_room}
-use Rattle.check_findings.specs.Region.RegionFindings.{all_marked, cells_findings, component_content, cell_count_findings, end_findings, marked, region_findings, shape_findings, walk_findings}
+use Rattle.check_findings.specs.RegionFindings.{all_marked, cells_findings, component_content, count_findings, end_findings, marked, nothing, region_findings, shape_findings, walk_findings}
 use Rattle.flash_format.specs.Flashmap.{is_area}
-use Rattle.check_findings.specs.Image.Needs.{Wish, content_named, first_content, unmet, unmet_by}
-use Rattle.check_findings.specs.Laws.{IsMet, NeedsAreThere}
-use Rattle.check_findings.specs.Image.ImageFindings.{areas_findings, bytes_of, expected_names, has_one_of, image_findings, left_after, names_findings, wanted_areas}
-use Rattle.check_findings.specs.Image.RegionAreas.{region_areas}
-use Rattle.check_findings.specs.Map.MapFindings.{map_findings}
+use Rattle.check_findings.specs.Needs.{Wish, content_named, first_content, unmet, unmet_by}
+use Rattle.check_findings.specs.Laws.{IsMet}
+use Rattle.check_findings.specs.ImageFindings.{areas_findings, bytes_of, expected_names, has_one_of, image_findings, left_after, missing_name, wanted_areas}
+use Rattle.check_findings.specs.ImageFindings.{region_areas}
+use Rattle.check_findings.specs.MapFindings.{map_findings}
 use Rattle.flash_map.specs.Areas.{image_areas}
 use Rattle.flash_map.specs.declared.areas.NumberedArea.{NumberedArea}
 use Rattle.check_findings.specs.declared.image.finding.ImageFinding.{ImageFinding}
@@ -27,7 +27,7 @@ use Rattle.check_findings.specs.declared.image.needs.NeedFinding.TheVariants.{Mi
 use Rattle.check_findings.specs.declared.region.finding.Content.{Content}
 use Rattle.check_findings.specs.declared.region.finding.RegionFinding.{RegionFinding}
 use Rattle.check_findings.specs.declared.region.finding.RegionFinding.TheVariants.{Component as OfComponent}
-use Rattle.check_findings.proofs.RegionLemmas.Parts.{Part, IsIn, cell_part, end_part, count_part, of_end, of_counts}
+use Rattle.check_findings.proofs.RegionLemmas.Parts.{Part, IsIn, cell_part, end_part, of_end}
 use Rattle.check_findings.proofs.ImageLemmas.Regions.{no_map_areas, no_name_areas, regions_of}
 
 -- ---- a region
@@ -37,9 +37,9 @@ no_content : (name : List ℕ) (part : Part) (f : RegionFinding) → (part ≡ c
 no_content name part (OfComponent at other shadowed content) elsewhere is = absurd (elsewhere (sym is))
 no_content name part other elsewhere is = refl
 
-none_among : (name : List ℕ) (l : List RegionFinding) → All (λ (f : RegionFinding). content_named name f ≡ None) l → first_content name l ≡ None
-none_among name [] none = refl
-none_among name (f ∷ l) none = let here = All-head (λ (g : RegionFinding). content_named name g ≡ None) f l none in rw here (none_among name l (All-tail (λ (g : RegionFinding). content_named name g ≡ None) f l none))
+none_among : (name : List ℕ) (l rest : List RegionFinding) → All (λ (f : RegionFinding). content_named name f ≡ None) l → first_content name (l ++ rest) ≡ first_content name rest
+none_among name [] rest none = refl
+none_among name (f ∷ l) rest none = let here = All-head (λ (g : RegionFinding). content_named name g ≡ None) f l none in rw here (none_among name l rest (All-tail (λ (g : RegionFinding). content_named name g ≡ None) f l none))
 
 -- the first content is the content of the first component, in order
 of_cells : (name : List ℕ) (at : ℕ) (cells : List (List ℕ)) (last : List RegionFinding) → first_content name last ≡ None
@@ -73,48 +73,43 @@ has_content x name content is = go (shape_fault x) refl (sym (of_marks name [] (
     ended : List RegionFinding
     ended = end_findings x (place_after 0 cells) (cut x).end
 
-    None-of : RegionFinding → Type 0
-    None-of f = content_named name f ≡ None
-
     -- the findings after the entries have no content
-    none : All None-of (ended ++ cell_count_findings (length x) cells)
-    none = All-append None-of ended (cell_count_findings (length x) cells)
-        (All-weaker (IsIn end_part) None-of (λ f. no_content name end_part f (λ e. cc)) ended (of_end x (place_after 0 cells) (cut x).end))
-        (All-weaker (IsIn count_part) None-of (λ f. no_content name count_part f (λ e. cc)) (cell_count_findings (length x) cells) (of_counts (length (components_from 0 cells)) (free_bytes cells) (largest_room (length x) 0 0 cells)))
+    none : first_content name (ended ++ count_findings (nothing (length x)) 0 cells) ≡ None
+    none = none_among name ended _ (All-weaker (IsIn end_part) (λ f. content_named name f ≡ None) (λ f. no_content name end_part f (λ e. cc)) ended (of_end x (place_after 0 cells) (cut x).end))
 
     listed : (o : Option Component) → option_map component_content o ≡ Some content → first_named name (components x) ≡ o → shape_fault x ≡ None → HasContent x name content
     listed None e here good = absurd cc
     listed (Some c) e here good = (c, rw (good, here) refl, cc)
 
-    go : (o : Option WalkFault) → shape_fault x ≡ o → first_content name (refused_or shape_findings o (cells_findings 0 cells ++ (ended ++ cell_count_findings (length x) cells))) ≡ Some content → HasContent x name content
+    go : (o : Option WalkFault) → shape_fault x ≡ o → first_content name (refused_or shape_findings o (cells_findings 0 cells ++ (ended ++ count_findings (nothing (length x)) 0 cells))) ≡ Some content → HasContent x name content
     go (Some walk.RegionShape) bad e = absurd cc
     go (Some other) bad e = absurd cc
-    go None good e = listed (first_named name (components x)) (sym (of_cells name 0 cells _ (none_among name _ none)) ∙ e) refl good
+    go None good e = listed (first_named name (components x)) (sym (of_cells name 0 cells _ none) ∙ e) refl good
 
 -- ---- an image
 
 module _ (image : List ℕ) (wish : Wish) where
-  met_here : (all : List NumberedArea) (a : NumberedArea) (o : Option Content) → Contains all a → is_area wish.area a.area ≡ true
-      → first_content wish.name (region_findings (bytes_of image a)) ≡ o → unmet_by a wish o ≡ None → IsMet image all wish
-  met_here all a None checked named first none = absurd cc
-  met_here all a (Some content) checked named first none =
+  met_here : (a : NumberedArea) (areas : List NumberedArea) (o : Option Content) → is_area wish.area a.area ≡ true
+      → first_content wish.name (region_findings (bytes_of image a)) ≡ o → unmet_by wish.place a.area.size o ≡ None → IsMet image (a ∷ areas) wish
+  met_here a areas None named first none = absurd cc
+  met_here a areas (Some content) named first none =
       let has = has_content (bytes_of image a) wish.name content first in
-      record { area = a; checked = checked; named = named; component = has.0; found = has.1; placed = rw has.2 (grind (arith, common_steps, none)) }
+      record { area = a; named = rw named refl; component = has.0; found = has.1; placed = rw has.2 (grind (arith, common_steps, none)) }
 
   -- the first area with the name meets the need
-  met_in : (all : List NumberedArea) (names : List (List ℕ)) (last : List ImageFinding) → unmet last wish ≡ Some Missing → (left : ℕ) (areas : List NumberedArea)
-      → ((a : NumberedArea) → Contains (region_areas (areas_findings image names left areas)) a → Contains all a) → unmet (areas_findings image names left areas ++ last) wish ≡ None → IsMet image all wish
-  met_in all names last missing left [] listed none = absurd cc
-  met_in all names last missing left (a ∷ areas) listed none = go (nat_le a.area.size left) (is_area wish.area a.area) refl listed none (met_in all names last missing (left_after left a) areas)
+  met_in : (names : List (List ℕ)) (last : List ImageFinding) → unmet last wish ≡ Some Missing → (left : ℕ) (areas : List NumberedArea)
+      → unmet (areas_findings image names left areas ++ last) wish ≡ None → IsMet image (region_areas (areas_findings image names left areas)) wish
+  met_in names last missing left [] none = absurd cc
+  met_in names last missing left (a ∷ areas) none = go (nat_le a.area.size left) (is_area wish.area a.area) refl none (met_in names last missing (left_after left a) areas)
     where
       rest : List ImageFinding
       rest = areas_findings image names (left_after left a) areas
 
-      go : (checked named : Bool) → is_area wish.area a.area ≡ named → ((b : NumberedArea) → Contains (region_areas (cond checked (Region a (region_findings (bytes_of image a))) (NotChecked a (has_one_of names a)) ∷ rest)) b → Contains all b)
-          → unmet (cond checked (Region a (region_findings (bytes_of image a))) (NotChecked a (has_one_of names a)) ∷ (rest ++ last)) wish ≡ None → (((b : NumberedArea) → Contains (region_areas rest) b → Contains all b) → unmet (rest ++ last) wish ≡ None → IsMet image all wish) → IsMet image all wish
-      go false named is listed e later = later listed e
-      go true true is listed e later = met_here all a (first_content wish.name (region_findings (bytes_of image a))) (listed a (0, omega arith, refl)) is refl (rw is at e)
-      go true false is listed e later = later (λ b there. listed b (Contains-append_right (a ∷ []) (region_areas rest) b there)) (rw is at e)
+      go : (checked named : Bool) → is_area wish.area a.area ≡ named → unmet (cond checked (Region a (region_findings (bytes_of image a))) (NotChecked a (has_one_of names a)) ∷ (rest ++ last)) wish ≡ None
+          → (unmet (rest ++ last) wish ≡ None → IsMet image (region_areas rest) wish) → IsMet image (region_areas (cond checked (Region a (region_findings (bytes_of image a))) (NotChecked a (has_one_of names a)) ∷ rest)) wish
+      go false named is e later = later e
+      go true true is e later = met_here a (region_areas rest) (first_content wish.name (region_findings (bytes_of image a))) is refl (rw is at e)
+      go true false is e later = let m = later (rw is at e) in record { area = m.area; named = rw is m.named; component = m.component; found = m.found; placed = m.placed }
 
 -- findings without a region meet no need
 passed : (l rest : List ImageFinding) (wish : Wish) → region_areas l ≡ [] → unmet (l ++ rest) wish ≡ unmet rest wish
@@ -122,14 +117,14 @@ passed [] rest wish none = refl
 passed (Region a findings ∷ l) rest wish none = absurd cc
 passed (other ∷ l) rest wish none = passed l rest wish none
 
-pub needs_met : NeedsAreThere
+pub needs_met : (image : List ℕ) (names expected : List (List ℕ)) (wish : Wish) → let all = image_findings image names expected in unmet all wish ≡ None → IsMet image (region_areas all) wish
 unfolding image_findings
 needs_met image names expected wish none =
     let all = expected_names names expected in
     let areas = image_areas image in
-    let last = names_findings areas 0 names in
+    let last = flat_map (missing_name areas) (enumerate_from 0 names) in
     let regions = areas_findings image all (2 * length image) (wanted_areas image all areas) in
     let found = map Map (map_findings image) in
     subst (λ l. IsMet image l wish) (sym (regions_of (map_findings image) areas names _ regions _ _ refl refl refl))
-    (met_in image wish (region_areas regions) all last (ap (λ l. unmet l wish) (sym (append-nil last)) ∙ passed last [] wish (no_name_areas areas 0 names)) (2 * length image) (wanted_areas image all areas) (λ a there. there)
+    (met_in image wish all last (ap (λ l. unmet l wish) (sym (append-nil last)) ∙ passed last [] wish (no_name_areas areas (enumerate_from 0 names))) (2 * length image) (wanted_areas image all areas)
     (sym (ap (λ l. unmet l wish) (append_assoc found regions last) ∙ passed found (regions ++ last) wish (no_map_areas (map_findings image))) ∙ none))

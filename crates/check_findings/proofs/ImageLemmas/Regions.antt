@@ -1,8 +1,5 @@
 -- The checked areas in order, and all findings.
-use Rattle.std.specs.Prelude.{is_none}
-use Rattle.std.specs.List.{enumerate_from, find}
-use Rattle.flash_map.specs.Areas.{has_name}
-use Rattle.check_findings.specs.declared.image.finding.ImageFinding.TheVariants.{NoArea}
+use Rattle.std.specs.List.{enumerate_from, flat_map}
 use Rattle.std.proofs.Common.{◌≡◌, ℕ, ◌+◌, ◌-◌, ◌*◌, ◌<◌, ◌≤◌, Bool, true, false, cond, All, IsTrue, List, [], ◌∷◌, ◌++◌, length, get_or, drop, take, nat_le, refl, sym, arith, add-one, append_assoc, append-nil, drop-cons, length-append}
 use Rattle.std.specs.Prelude.{filter, map}
 use Rattle.std.proofs.lemmas.Bool.{leb-true}
@@ -12,12 +9,12 @@ use Rattle.std.proofs.lemmas.List.Sums.{sum_by_push}
 use Rattle.std.proofs.lemmas.Grind.{common_steps}
 use Rattle.check_findings.specs.declared.map.finding.MapFinding.{MapFinding}
 use Rattle.flash_map.specs.declared.areas.NumberedArea.{NumberedArea}
-use Rattle.check_findings.specs.Map.MapFindings.{map_findings}
+use Rattle.check_findings.specs.MapFindings.{map_findings}
 use Rattle.flash_map.specs.Areas.{area_end, image_areas}
 use Rattle.check_findings.specs.declared.image.finding.ImageFinding.{ImageFinding}
 use Rattle.check_findings.specs.declared.image.finding.ImageFinding.TheVariants.{Map}
-use Rattle.check_findings.specs.Image.ImageFindings.{area_finding, areas_findings, expected_names, image_findings, left_after, names_findings, wanted_areas}
-use Rattle.check_findings.specs.Image.RegionAreas.{AreChecked, region_area, region_areas}
+use Rattle.check_findings.specs.ImageFindings.{area_finding, areas_findings, expected_names, image_findings, left_after, missing_name, wanted_areas}
+use Rattle.check_findings.specs.ImageFindings.{AreChecked, region_area, region_areas}
 
 pub filtered : (p : NumberedArea → Bool) (xs : List NumberedArea) (i : ℕ) (d : NumberedArea) (before after : List NumberedArea) → i < length xs → before ≡ filter p (take i xs) → after ≡ before ++ cond (p (get_or xs i d)) (get_or xs i d ∷ []) [] → after ≡ filter p (take (i + 1) xs)
 filtered p xs i d before after lt so_far is = rw (filter_more p xs i d lt, sym so_far) is
@@ -49,23 +46,20 @@ found_more image names left i areas d f before after all lt pushed is so_far = g
 
 -- ---- the whole
 
-none_checked : {X : Type 0} (h : X → ImageFinding) (xs : List X) → ((x : X) → region_area (h x) ≡ []) → region_areas (map h xs) ≡ []
-none_checked h [] none = refl
-none_checked h (x ∷ xs) none = rw (none x) (none_checked h xs none)
-
 pub no_map_areas : (found : List MapFinding) → region_areas (map Map found) ≡ []
-no_map_areas found = none_checked Map found (λ finding. refl)
+no_map_areas [] = refl
+no_map_areas (finding ∷ found) = no_map_areas found
 
-pub no_name_areas : (areas : List NumberedArea) (number : ℕ) (names : List (List ℕ)) → region_areas (names_findings areas number names) ≡ []
-no_name_areas areas number names =
-    none_checked (λ (n : ℕ × List ℕ). NoArea n.0) (filter (λ (n : ℕ × List ℕ). is_none (find (has_name n.1) areas)) (enumerate_from number names)) (λ n. refl)
+pub no_name_areas : (areas : List NumberedArea) (names : List (ℕ × List ℕ)) → region_areas (flat_map (missing_name areas) names) ≡ []
+no_name_areas areas [] = refl
+no_name_areas areas (name ∷ names) = let later = no_name_areas areas names in grind (arith, common_steps, flat_map-append, later)
 
 -- the areas of all findings are the areas of the regions
-pub regions_of : (found : List MapFinding) (areas : List NumberedArea) (names : List (List ℕ)) (first regions second all : List ImageFinding) → first ≡ map Map found → second ≡ first ++ regions → all ≡ second ++ names_findings areas 0 names → region_areas all ≡ region_areas regions
+pub regions_of : (found : List MapFinding) (areas : List NumberedArea) (names : List (List ℕ)) (first regions second all : List ImageFinding) → first ≡ map Map found → second ≡ first ++ regions → all ≡ second ++ flat_map (missing_name areas) (enumerate_from 0 names) → region_areas all ≡ region_areas regions
 regions_of found areas names first regions second all is pushed last =
-    rw (last, flat_map-append region_area second (names_findings areas 0 names), no_name_areas areas 0 names, append-nil (region_areas second), pushed, flat_map-append region_area first regions, is, no_map_areas found) refl
+    rw (last, flat_map-append region_area second (flat_map (missing_name areas) (enumerate_from 0 names)), no_name_areas areas (enumerate_from 0 names), append-nil (region_areas second), pushed, flat_map-append region_area first regions, is, no_map_areas found) refl
 
-pub found_image : (image : List ℕ) (names expected : List (List ℕ)) (found : List MapFinding) (areas : List NumberedArea) (first regions second all : List ImageFinding) → first ≡ map Map found → second ≡ first ++ regions → all ≡ second ++ names_findings areas 0 names
+pub found_image : (image : List ℕ) (names expected : List (List ℕ)) (found : List MapFinding) (areas : List NumberedArea) (first regions second all : List ImageFinding) → first ≡ map Map found → second ≡ first ++ regions → all ≡ second ++ flat_map (missing_name areas) (enumerate_from 0 names)
     → found ≡ map_findings image → areas ≡ image_areas image → regions ≡ areas_findings image (expected_names names expected) (2 * length image) (wanted_areas image (expected_names names expected) areas) → all ≡ image_findings image names expected
 unfolding image_findings
 found_image image names expected found areas first regions second all is pushed last from_map from_areas from_wanted = rw (last, pushed, is, from_wanted, from_map, from_areas) refl

@@ -6,7 +6,7 @@ use Rattle.std.proofs.lemmas.Grind.{common_steps}
 use Rattle.std.proofs.lemmas.List.Folds.{list_any-append}
 use Rattle.flash_map.specs.declared.areas.NumberedArea.{NumberedArea}
 use Rattle.check_findings.specs.declared.image.starts.Starts.{Starts}
-use Rattle.check_findings.specs.Image.Lookups.{HasStarts, is_below}
+use Rattle.check_findings.specs.ImageFindings.{HasStarts, is_below}
 
 -- an area without room for an entry, or not smaller than a known one
 pub start_same : (starts : Starts) (before : List NumberedArea) (a : NumberedArea) → (24 ≤ a.area.size → is_below starts a.area.offset a.area.size ≡ true) → HasStarts starts before → HasStarts starts (before ++ a ∷ [])

@@ -1,5 +1,5 @@
 -- A map without other findings is sound.
-use Rattle.std.proofs.Common.{◌≡◌, ℕ, zero, suc, ◌+◌, ◌≤◌, Bool, true, false, not, nat_lt, nat_eq, All, List, [], ◌∷◌, ◌++◌, length, Option, Some, None, refl, sym, ap, subst, ◌∙◌, arith}
+use Rattle.std.proofs.Common.{◌≡◌, ℕ, zero, suc, ◌+◌, ◌<◌, ◌≤◌, Bool, true, false, not, nat_lt, nat_eq, All, List, [], ◌∷◌, ◌++◌, drop, length, Option, Some, None, refl, sym, ap, subst, ◌∙◌, arith}
 use Rattle.std.specs.Prelude.{Contains, IsSomeAnd}
 use Rattle.std.specs.List.{find, flat_map, list_any}
 use Rattle.std.specs.Option.{option_map, option_map_or, option_to_list}
@@ -18,9 +18,9 @@ use Rattle.flash_map.specs.declared.areas.NumberedArea.{NumberedArea}
 use Rattle.check_findings.specs.Lists.{only_if}
 use Rattle.check_findings.specs.declared.map.finding.MapFinding.{MapFinding}
 use Rattle.check_findings.specs.declared.map.finding.MapFinding.TheVariants as findings
-use Rattle.check_findings.specs.Map.MapFindings.{area_findings, ends_inside, findings_of, map_area_findings, map_findings, name_findings, namesake, overlap, overlap_findings, overlap_with}
-use Rattle.flash_map.specs.Areas.{has_name, map_areas, numbered_from}
-use Rattle.check_findings.specs.Laws.{HoldsMap, IsInside, IsSound, Nest, CleanMapsAreSound}
+use Rattle.check_findings.specs.MapFindings.{area_findings, ends_inside, findings_of, holds_map, map_area_findings, map_findings, name_findings, namesake, overlap, overlap_findings}
+use Rattle.flash_map.specs.Areas.{area_end, has_name, map_areas, numbered_from}
+use Rattle.check_findings.specs.Laws.{IsSound, Nest}
 
 -- ---- no findings
 
@@ -51,7 +51,7 @@ find-none test (a ∷ areas) e = All-cons (λ (b : NumberedArea). test b ≡ fal
 
 -- ---- of an area
 
-sound_area : (n : ℕ) (a : NumberedArea) → list_any every (area_findings n a) ≡ false → IsInside n a.area × (is_utf8 (text_of a.area.name) ≡ true)
+sound_area : (n : ℕ) (a : NumberedArea) → list_any every (area_findings n a) ≡ false → ((0 < a.area.size) × (area_end a.area ≤ n)) × (is_utf8 (text_of a.area.name) ≡ true)
 unfolding every
 sound_area n a none = grind (arith, common_steps, none)
 
@@ -86,51 +86,51 @@ nest a b one other = grind (arith, common_steps, one, other)
 nested : (areas : List NumberedArea) → list_any every (overlap_findings areas) ≡ false → (a b : NumberedArea) → Contains areas a → Contains areas b → Nest a.area b.area
 unfolding every
 nested areas none a b there here =
-    let each = none_each every (overlap_with areas) areas (grind (arith, common_steps, none)) in
-    let alone = uncaused (findings.Overlap a) (find (overlap a) areas) (All-contains (λ (c : NumberedArea). list_any every (overlap_with areas c) ≡ false) areas a each there) in
+    let each = none_each every (λ (c : NumberedArea). option_to_list (option_map (findings.Overlap c) (find (overlap c) areas))) areas (grind (arith, common_steps, none)) in
+    let alone = uncaused (findings.Overlap a) (find (overlap a) areas) (All-contains (λ (c : NumberedArea). list_any every (option_to_list (option_map (findings.Overlap c) (find (overlap c) areas))) ≡ false) areas a each there) in
     let parts = or_parts (ends_inside a.area b.area) (ends_inside b.area a.area) (All-contains (λ (c : NumberedArea). overlap a c ≡ false) areas b (find-none (overlap a) areas alone) here) in
     nest a.area b.area parts.0 parts.1
 
 -- ---- the whole map
 
-held : (map : FoundMap) (o : Option NumberedArea) → list_any every (map_area_findings map o) ≡ false → IsSomeAnd o (λ a. HoldsMap map a.area)
+held : (map : FoundMap) (o : Option NumberedArea) → list_any every (map_area_findings map o) ≡ false → IsSomeAnd o (λ a. holds_map map a ≡ true)
 unfolding every
 held map None e = absurd cc
 held map (Some a) e = grind (arith, common_steps, e)
 
-sound_of : (image : List ℕ) (map : FoundMap) → found_in image ≡ Some map → findings_of (length image) map (found_from (map.at + 1) image) (map_areas image map) ≡ findings.Map map ∷ [] → IsSound image map
+sound_of : (image : List ℕ) (map : FoundMap) → found_in image ≡ Some map → findings_of (length image) map (found_from (map.at + 1) image) (map_areas image map) ≡ findings.Map map ∷ [] → IsSound image map (map_areas image map)
 unfolding every
 sound_of image map found e =
     let n = length image in
     let areas = map_areas image map in
     let next = found_from (map.at + 1) image in
+    let others = option_to_list (option_map findings.OtherMap next) in
     let size = only_if (not (nat_eq map.head.size n)) findings.OtherSize in
-    let later = size ++ (flat_map (area_findings n) areas ++ (flat_map (name_findings areas) areas ++ (overlap_findings areas ++ map_area_findings map (find (has_name (codes "FMAP")) areas)))) in
-    let rest : option_to_list (option_map findings.OtherMap next) ++ later ≡ [] = cc in
-    let a = none_of every (option_to_list (option_map findings.OtherMap next)) later (ap (list_any every) rest) in
-    let b = none_of every size _ a.1 in
-    let c = none_of every (flat_map (area_findings n) areas) _ b.1 in
-    let d = none_of every (flat_map (name_findings areas) areas) _ c.1 in
-    let f = none_of every (overlap_findings areas) _ d.1 in
-    let each = none_each every (area_findings n) areas c.0 in
+    let rest : others ++ size ++ flat_map (area_findings n) areas ++ flat_map (name_findings areas) areas ++ overlap_findings areas ++ map_area_findings map (find (has_name (codes "FMAP")) areas) ≡ [] = ap (drop 1) e in
+    let a = none_of every _ (map_area_findings map (find (has_name (codes "FMAP")) areas)) (ap (list_any every) rest) in
+    let b = none_of every _ (overlap_findings areas) a.0 in
+    let c = none_of every _ (flat_map (name_findings areas) areas) b.0 in
+    let d = none_of every (others ++ size) (flat_map (area_findings n) areas) c.0 in
+    let f = none_of every others size d.0 in
+    let each = none_each every (area_findings n) areas d.1 in
     let Is : NumberedArea → Type 0 = λ x. list_any every (area_findings n x) ≡ false in
     record {
       found = found;
-      size = eqb-true map.head.size n (not-false (nat_eq map.head.size n) (untold every _ findings.OtherSize refl b.0));
-      only = uncaused findings.OtherMap next a.0;
-      inside = All-weaker Is (λ a. IsInside n a.area) (λ a none. (sound_area n a none).0) areas each;
+      size = eqb-true map.head.size n (not-false (nat_eq map.head.size n) (untold every _ findings.OtherSize refl f.1));
+      only = uncaused findings.OtherMap next f.0;
+      inside = All-weaker Is (λ a. (0 < a.area.size) × (area_end a.area ≤ n)) (λ a none. (sound_area n a none).0) areas each;
       text = All-weaker Is (λ a. is_utf8 (text_of a.area.name) ≡ true) (λ a none. (sound_area n a none).1) areas each;
-      named = All-weaker (Contains areas) (λ a. namesake a areas ≡ Some a) (λ a. named every _ a (λ first. refl) d.0) areas (All-contains_itself areas);
-      nested = nested areas f.0;
-      held = held map (find (has_name (codes "FMAP")) areas) f.1;
+      named = All-weaker (Contains areas) (λ a. namesake a areas ≡ Some a) (λ a. named every _ a (λ first. refl) c.1) areas (All-contains_itself areas);
+      nested = nested areas b.1;
+      held = held map (find (has_name (codes "FMAP")) areas) a.1;
     }
 
-pub sound : CleanMapsAreSound
+pub sound : (image : List ℕ) (map : FoundMap) → map_findings image ≡ findings.Map map ∷ [] → IsSound image map (map_areas image map)
 unfolding map_findings
 sound image map e = go (found_in image) refl e
   where
-    go : (o : Option FoundMap) → found_in image ≡ o → option_map_or (λ (m : FoundMap). findings_of (length image) m (found_from (m.at + 1) image) (map_areas image m)) o (findings.NoMap ∷ []) ≡ findings.Map map ∷ [] → IsSound image map
+    go : (o : Option FoundMap) → found_in image ≡ o → option_map_or (λ (m : FoundMap). findings_of (length image) m (found_from (m.at + 1) image) (map_areas image m)) o (findings.NoMap ∷ []) ≡ findings.Map map ∷ [] → IsSound image map (map_areas image map)
     go None found e = absurd cc
     go (Some m) found e =
         let same : m ≡ map = cc in
-        subst (λ (k : FoundMap). IsSound image k) same (sound_of image m found (e ∙ ap (λ (k : FoundMap). findings.Map k ∷ []) (sym same)))
+        subst (λ (k : FoundMap). IsSound image k (map_areas image k)) same (sound_of image m found (e ∙ ap (λ (k : FoundMap). findings.Map k ∷ []) (sym same)))

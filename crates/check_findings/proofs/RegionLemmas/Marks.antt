@@ -7,8 +7,7 @@ use Rattle.std.specs.HashSet.{HashSet, Updates}
 use Rattle.std.specs.Cmp.Lexicographic.{nat_list_eq_equiv}
 use Rattle.std.proofs.lemmas.Grind.{common_steps, fold-append}
 use Rattle.std.proofs.lemmas.List.{drop_all}
-use Rattle.check_findings.specs.Region.RegionFindings.{all_marked, is_named, marked}
-use Rattle.check_findings.specs.Region.Reports.{mark_at, shadowed}
+use Rattle.check_findings.specs.RegionFindings.{all_marked, is_named, mark_at, marked, shadowed}
 use Rattle.check_findings.specs.declared.region.finding.Content.{Content}
 use Rattle.check_findings.specs.declared.region.finding.RegionFinding.{RegionFinding}
 use Rattle.check_findings.specs.declared.region.finding.RegionFinding.TheVariants.{Component}

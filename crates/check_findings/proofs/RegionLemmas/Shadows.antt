@@ -1,5 +1,5 @@
 -- Unshadowed components.
-use Rattle.std.proofs.Common.{◌≡◌, ℕ, zero, suc, ◌+◌, ◌==◌, Bool, true, false, cond, List, [], ◌∷◌, ◌++◌, length, Some, Option, Contains, refl, sym, subst, ◌∙◌, arith}
+use Rattle.std.proofs.Common.{◌≡◌, ℕ, zero, suc, ◌+◌, ◌==◌, Bool, true, false, cond, List, [], ◌∷◌, ◌++◌, length, Ok, Some, None, Option, Contains, refl, sym, subst, ◌∙◌, arith}
 use Rattle.std.specs.Cmp.Lexicographic.{nat_list_eq_equiv}
 use Rattle.std.specs.List.{list_any}
 use Rattle.std.specs.Str.{bytes_eq}
@@ -8,13 +8,12 @@ use Rattle.std.proofs.lemmas.Slice.Eq.{bytes_eq-Decides}
 use Rattle.std.proofs.lemmas.List.Elements.{Contains-append_right}
 use Rattle.flash_format.specs.Head.{head_of, is_free}
 use Rattle.flash_format.specs.Cut.{cut}
-use Rattle.flash_format.specs.Components.{Component, component_at, components_from}
+use Rattle.flash_format.specs.Components.{Component, component_at, components, components_from}
 use Rattle.cbfs_walk.specs.Search.{component_in, first_named}
-use Rattle.cbfs_walk.specs.Shapes.{refused_or}
+use Rattle.cbfs_walk.specs.Shapes.{refused_or, shape_fault}
 use Rattle.cbfs_walk.specs.CellReadings.{place_after}
 use Rattle.cbfs_walk.specs.declared.walk.WalkFault.{WalkFault}
-use Rattle.check_findings.specs.Laws.{UnshadowedAreFound}
-use Rattle.check_findings.specs.Region.RegionFindings.{all_marked, component_finding, cells_findings, cell_count_findings, end_findings, is_named, shape_findings, region_findings, walk_findings}
+use Rattle.check_findings.specs.RegionFindings.{all_marked, component_finding, cells_findings, count_findings, end_findings, is_named, nothing, shape_findings, region_findings, walk_findings}
 use Rattle.check_findings.specs.declared.region.finding.RegionFinding.{RegionFinding}
 use Rattle.check_findings.specs.declared.region.finding.RegionFinding.TheVariants.{Deleted}
 
@@ -64,10 +63,10 @@ module _ (c : Component) where
           first_later earlier d others (known (here ∷ earlier) (k, omega (arith, lt), is)
           (λ there. quiet (Contains-append_right (component_finding (list_any (is_named d.name) earlier) d ∷ []) (all_marked (here ∷ earlier) (rest ++ last)) _ there)))
 
-pub unshadowed_found : UnshadowedAreFound
+pub unshadowed_found : (x : List ℕ) (c : Component) → shape_fault x ≡ None → Contains (components x) c → ¬ Contains (region_findings x) (component_finding true c) → component_in x c.name ≡ Ok (Some c)
 unfolding region_findings walk_findings component_in IsFirst
 unshadowed_found x c good listed none =
-    let last = end_findings x (place_after 0 (cut x).cells) (cut x).end ++ cell_count_findings (length x) (cut x).cells in
+    let last = end_findings x (place_after 0 (cut x).cells) (cut x).end ++ count_findings (nothing (length x)) 0 (cut x).cells in
     let all = cells_findings 0 (cut x).cells ++ last in
     let first = unshadowed c [] last 0 (cut x).cells listed
     (λ there. none (subst (λ (o : Option WalkFault). Contains (all_marked [] (refused_or shape_findings o all)) (component_finding true c)) (sym good) there)) in

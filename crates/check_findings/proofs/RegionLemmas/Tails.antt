@@ -1,10 +1,10 @@
 -- The bytes after the entries.
-use Rattle.std.proofs.Common.{◌≡◌, ℕ, ◌+◌, ◌-◌, ◌*◌, ◌<◌, ◌≤◌, IsTrue, false, zero, suc, All, List, [], ◌∷◌, ◌++◌, length, None, min, refl, sym, ap, ◌∙◌, arith, append_assoc, append-nil, take, drop, length-take, ⊎_elim}
-use Rattle.std.specs.Prelude.{slice_range}
+use Rattle.std.proofs.Common.{◌≡◌, ℕ, ◌+◌, ◌-◌, ◌*◌, ◌<◌, ◌≤◌, IsTrue, Bool, true, false, cond, map, zero, suc, All, List, [], ◌∷◌, ◌++◌, length, None, min, refl, sym, ap, ◌∙◌, arith, take, drop, length-take, ⊎_elim}
+use Rattle.std.specs.Prelude.{◌↔◌, slice_range}
 use Rattle.std.specs.List.{position_from}
 use Rattle.std.specs.Option.{option_or}
 use Rattle.std.proofs.lemmas.Bool.{cases_lt}
-use Rattle.std.proofs.lemmas.List.{drop_all, drop-drop, take_all, take-take}
+use Rattle.std.proofs.lemmas.List.{drop_all, drop-drop, map-append, take_all, take-take}
 use Rattle.std.proofs.lemmas.List.Elements.{All-nil, All-cons, All-head, All-tail}
 use Rattle.std.proofs.lemmas.Grind.{common_steps}
 use Rattle.flash_device.specs.Device.{Device}
@@ -12,8 +12,11 @@ use Rattle.flash_device.specs.Pages.{Pages, HasRead}
 use Rattle.flash_device.specs.Regions.{LiesOn, Range, bytes_in}
 use Rattle.flash_device.proofs.DeviceLemmas.{honest_still, length-bytes_in}
 use Rattle.cbfs_walk.proofs.Parts.{length-range, part-in, range_is, range-after}
-use Rattle.check_findings.specs.Laws.{BlankTailsAreKnown}
-use Rattle.check_findings.specs.Region.RegionFindings.{entries_findings, entry_findings, is_filled, tail_bytes, tail_findings}
+use Rattle.check_findings.specs.Laws.{IsBlankTail}
+use Rattle.check_findings.specs.RegionFindings.{begins_with_entry, entries_findings, is_filled, tail_bytes, tail_findings}
+use Rattle.check_findings.specs.Lists.{only_if}
+use Rattle.check_findings.specs.declared.region.finding.RegionFinding.TheVariants.{Tail, TailEntry}
+use Rattle.std.proofs.lemmas.List.FromFn.{filter_of_map_range_with_len_more}
 
 -- ---- the first filled byte
 
@@ -63,12 +66,14 @@ none_left x at k over = ap (position_from is_filled (at + k)) (drop_all k (tail_
 
 -- ---- entries
 
-pub entries_last : (n at : ℕ) (x : List ℕ) → entries_findings (suc n) at x ≡ entries_findings n at x ++ entry_findings (at + 64 * n) x
-unfolding entries_findings
-entries_last zero at x = append-nil (entry_findings at x) ∙ ap (λ p. entry_findings p x) {x = at} {y = at + 64 * 0} (omega arith)
-entries_last (suc n) at x =
-    ap (λ l. entry_findings at x ++ l) (entries_last n (at + 64) x ∙ ap (λ p. entries_findings n (at + 64) x ++ entry_findings p x) {x = at + 64 + 64 * n} {y = at + 64 * suc n} (omega arith))
-    ∙ sym (append_assoc (entry_findings at x) (entries_findings n (at + 64) x) (entry_findings (at + 64 * suc n) x))
+if_entry : (at : ℕ) (b : Bool) → map TailEntry (cond b (at ∷ []) []) ≡ only_if b (TailEntry at)
+if_entry at true = refl
+if_entry at false = refl
+
+pub entries_last : (n at : ℕ) (x : List ℕ) → entries_findings (n + 1) at x ≡ entries_findings n at x ++ only_if (begins_with_entry (drop (at + 64 * n) x)) (TailEntry (at + 64 * n))
+entries_last n at x =
+    ap (map TailEntry) (filter_of_map_range_with_len_more (λ p. begins_with_entry (drop p x)) (λ i. at + 64 * i) 0 n n (omega arith))
+    ∙ map-append TailEntry _ _ ∙ ap (λ l. entries_findings n at x ++ l) (if_entry (at + 64 * n) (begins_with_entry (drop (at + 64 * n) x)))
 
 -- ---- a blank tail
 
@@ -80,7 +85,7 @@ all_blank : (at : ℕ) (xs : List ℕ) → All (λ b. is_filled b ≡ false) xs 
 all_blank at [] blank = refl
 all_blank at (b ∷ xs) blank = rw (All-head (λ b. is_filled b ≡ false) b xs blank) (all_blank (at + 1) xs (All-tail (λ b. is_filled b ≡ false) b xs blank))
 
-pub blank_tails : BlankTailsAreKnown
+pub blank_tails : (at : ℕ) (x : List ℕ) → IsBlankTail at x ↔ (tail_findings at x ≡ Tail at ∷ [])
 unfolding tail_findings
 blank_tails at x = (
   λ blank. rw (all_blank at (tail_bytes at x) blank) refl,

@@ -1,5 +1,5 @@
 -- The findings so far, and of the rest of a region.
-use Rattle.std.proofs.Common.{◌≡◌, ℕ, ◌+◌, ◌*◌, ◌/◌, ◌%◌, ◌≤◌, IsTrue, List, [], ◌∷◌, ◌++◌, length, Option, Some, None, Ok, Err, refl, sym, ap, subst, ◌∙◌, arith, append_assoc}
+use Rattle.std.proofs.Common.{◌≡◌, ℕ, ◌+◌, ◌*◌, ◌/◌, ◌%◌, ◌≤◌, IsTrue, Bool, true, false, List, [], ◌∷◌, ◌++◌, length, Option, Some, None, Ok, Err, refl, sym, ap, ◌∙◌, arith, append_assoc}
 use Rattle.std.specs.Prelude.{IsErrOf}
 use Rattle.std.proofs.lemmas.Grind.{common_steps}
 use mathlib.Core.Path.{fun_ext}
@@ -20,14 +20,12 @@ use Rattle.cbfs_walk.specs.declared.walk.WalkFault.TheVariants as walk
 use Rattle.cbfs_walk.proofs.Shapes.{shaped_step}
 use Rattle.flash_format.specs.Head.{head_of, is_free}
 use Rattle.flash_format.specs.declared.head.DamageKind.{DamageKind}
-use Rattle.check_findings.specs.Region.Reports.{IsCountBefore, nothing, count_after}
-use Rattle.check_findings.specs.Region.RegionFindings.{cell_findings, cells_findings, cell_count_findings, end_findings, tail_findings, shape_findings, walk_findings}
-use Rattle.check_findings.specs.Region.Reports.{counts_at_end}
+use Rattle.check_findings.specs.RegionFindings.{cell_findings, cells_findings, count_after, count_findings, end_findings, nothing, tail_findings, shape_findings, walk_findings}
 use Rattle.check_findings.specs.declared.region.finding.RegionFinding.{RegionFinding}
 use Rattle.check_findings.specs.declared.region.finding.RegionFinding.TheVariants as findings
 use Rattle.check_findings.specs.declared.region.count.Count.{Count}
 use Rattle.check_findings.proofs.RegionLemmas.WalkParts.{Answers, Reached, reached_answer, reached_more, reached_start}
-use Rattle.check_findings.proofs.RegionLemmas.CountLemmas.{count_all, count_more, count_none, count_whole}
+use Rattle.check_findings.proofs.RegionLemmas.CountLemmas.{count_more}
 
 -- ---- by the cut
 
@@ -37,7 +35,7 @@ last bytes end at counts = end_findings bytes at end ++ counts
 
 -- the findings of a region after these counts, if the cut continues at an offset
 cut_findings : List ℕ → ℕ → Cut → Count → List RegionFinding
-cut_findings bytes at k n = cells_findings at k.cells ++ last bytes k.end (place_after at k.cells) (count_all n at k.cells)
+cut_findings bytes at k n = cells_findings at k.cells ++ last bytes k.end (place_after at k.cells) (count_findings n at k.cells)
 
 cell_step : List ℕ → Cell → (Count → List RegionFinding) → Count → List RegionFinding
 cell_step x given later n = cell_findings given.at x ++ later (count_after n (is_free given.head) given.at given.span)
@@ -65,8 +63,8 @@ whole_findings : (x : List ℕ) → walk_findings x ≡ findings_from x (nothing
 unfolding findings_from fault_findings walk_findings reading_of cut_findings last
 whole_findings x = go (shape_fault x)
   where
-    go : (o : Option WalkFault) → refused_or shape_findings o (cells_findings 0 (cut x).cells ++ last x (cut x).end (place_after 0 (cut x).cells) (cell_count_findings (length x) (cut x).cells)) ≡ refused_or fault_findings o (cut_findings x 0 (cut x)) (nothing (length x))
-    go None = ap (λ (m : List RegionFinding). cells_findings 0 (cut x).cells ++ last x (cut x).end (place_after 0 (cut x).cells) m) (sym (count_whole (length x) (cut x).cells))
+    go : (o : Option WalkFault) → refused_or shape_findings o (cells_findings 0 (cut x).cells ++ last x (cut x).end (place_after 0 (cut x).cells) (count_findings (nothing (length x)) 0 (cut x).cells)) ≡ refused_or fault_findings o (cut_findings x 0 (cut x)) (nothing (length x))
+    go None = refl
     go (Some fault) = refl
 
 -- the same by the result of the walk
@@ -87,7 +85,7 @@ tail_place x place at is = grind (arith, common_steps, is)
 -- the check has reached the walk's offset
 pub record Checking {F : Type 0} (facts : F → Device) (r : Range) (w : Walking) (found : List RegionFinding) (count : Count) (old now : Pages F) : Type 0 where
   pub reached : Reached facts r w (w.at / 16) old now
-  pub before : IsCountBefore w.at count
+  pub before : (count.components ≤ w.at) × (count.free ≤ w.at)
   pub so_far : OnHonestIn facts old.device r (λ x. walk_findings x ≡ found ++ findings_from x count w.at)
 
 pub checking_start : {F : Type 0} (facts : F → Device) (r : Range) (old : Pages F) → LiesOn r (facts old.device) → Checking facts r (walk_of r) [] (nothing r.size) old old
@@ -98,6 +96,11 @@ checking_start facts r old lies = record {
       let x = bytes_in r (facts old.device).content in
       whole_findings x ∙ ap (λ n. findings_from x (nothing n) 0) (length-bytes_in r (facts old.device).content lies.inside);
 }
+
+counted : (free : Bool) (n : Count) (at place len : ℕ) → (n.components ≤ at) × (n.free ≤ at) → place ≡ at → 64 ≤ len
+    → ((count_after n free place len).components ≤ at + len) × ((count_after n free place len).free ≤ at + len)
+counted true n at place len had is some = (omega (arith, had.0), omega (arith, had.1))
+counted false n at place len had is some = (omega (arith, had.0, some), omega (arith, had.1))
 
 module _ {F : Type 0} (facts : F → Device) (r : Range) (w : Walking) (found : List RegionFinding) (count : Count) (old now : Pages F) (lies : LiesOn r (facts old.device)) (i : Checking facts r w found count old now) where
   abbrev x : List ℕ
@@ -114,13 +117,13 @@ module _ {F : Type 0} (facts : F → Device) (r : Range) (w : Walking) (found : 
       → HasRead facts n 0 now mid → n ≡ reads_over c.span → HasRead facts m 0 mid new → m ≡ 3 + 2 * (c.span / 3840)
       → Answers facts w now (Ok (steps.Cell c))
       → v ≡ record w { at = w.at + c.span; steps = w.steps + 1 }
-      → IsCountBefore (c.at + c.span) more → more ≡ count_after count (is_free c.head) c.at c.span
+      → more ≡ count_after count (is_free c.head) c.at c.span
       → OnHonestIn facts mid.device r (λ y. StandsIn y c → next ≡ found ++ cell_findings c.at (cell_in y c))
       → Checking facts r v next more old new
   unfolding findings_by cell_step findings_from
-  checking_more c v next more mid new n m given reads few over fewer answer moved before is_more gains = rw moved (record {
+  checking_more c v next more mid new n m given reads few over fewer answer moved is_more gains = rw moved (record {
     reached = reached_more facts i.reached c (n + m) ((w.at + c.span) / 16) new given (HasRead-then facts n m 0 now mid new reads over) (omega (arith, few, fewer, given.0.positive, given.0.whole, i.reached.aligned));
-    before = subst (λ k. IsCountBefore (k + c.span) more) given.1 before;
+    before = rw is_more (counted (is_free c.head) count w.at c.at c.span i.before given.1 given.0.positive);
     so_far = λ h.
         let k = honest_still i.reached.read.device.calls.same_honesty h in
         let same : (facts mid.device).content ≡ (facts old.device).content = reads.device.unchanged k ∙ i.reached.read.device.unchanged h in
@@ -139,33 +142,33 @@ module _ {F : Type 0} (facts : F → Device) (r : Range) (w : Walking) (found : 
       is_all ∙ sym ((answered a answer other h).1 ∙ ap (λ (l : List RegionFinding). found ++ l) is)
 
   -- the last findings and the counts
-  with_counts : (more next all : List RegionFinding) (end : ℕ) → next ≡ found ++ more → all ≡ next ++ counts_at_end count end → all ≡ found ++ (more ++ counts_at_end count end)
-  with_counts more next all end pushed is_all = is_all ∙ ap (λ (l : List RegionFinding). l ++ counts_at_end count end) pushed ∙ append_assoc found more (counts_at_end count end)
+  with_counts : (more next all : List RegionFinding) (end : ℕ) → next ≡ found ++ more → all ≡ next ++ count_findings count end [] → all ≡ found ++ (more ++ count_findings count end [])
+  with_counts more next all end pushed is_all = is_all ∙ ap (λ (l : List RegionFinding). l ++ count_findings count end []) pushed ∙ append_assoc found more (count_findings count end [])
 
-  pub checking_end : (end : ℕ) (next all : List RegionFinding) → Answers facts w now (Ok steps.End) → end ≡ r.size → next ≡ found ++ findings.Complete ∷ [] → all ≡ next ++ counts_at_end count end
+  pub checking_end : (end : ℕ) (next all : List RegionFinding) → Answers facts w now (Ok steps.End) → end ≡ r.size → next ≡ found ++ findings.Complete ∷ [] → all ≡ next ++ count_findings count end []
       → IsTrue (facts old.device).honest → all ≡ walk_findings x
   unfolding findings_by cut_findings cells_findings last
   checking_end end next all answer place pushed is_all =
       let same : end ≡ length x = place ∙ sym (length-bytes_in r (facts old.device).content lies.inside) in
-      stopped (Ok steps.End) (findings.Complete ∷ counts_at_end count end) all answer (λ e. cc) (with_counts (findings.Complete ∷ []) next all end pushed is_all)
-      (ap (λ m. findings.Complete ∷ m) (count_none count (length x)) ∙ ap (λ p. findings.Complete ∷ counts_at_end count p) (sym same))
+      stopped (Ok steps.End) (findings.Complete ∷ count_findings count end []) all answer (λ e. cc) (with_counts (findings.Complete ∷ []) next all end pushed is_all)
+      (ap (λ p. findings.Complete ∷ count_findings count p []) (sym same))
 
   pub checking_tail : (at here n : ℕ) (mid : Pages F) (next all : List RegionFinding) → Answers facts w now (Ok (steps.Tail at)) → here ≡ w.at → HasRead facts n 0 now mid
-      → OnHonestIn facts mid.device r (λ y. next ≡ found ++ tail_findings here y) → all ≡ next ++ counts_at_end count here → IsTrue (facts old.device).honest → all ≡ walk_findings x
+      → OnHonestIn facts mid.device r (λ y. next ≡ found ++ tail_findings here y) → all ≡ next ++ count_findings count here [] → IsTrue (facts old.device).honest → all ≡ walk_findings x
   unfolding findings_by cut_findings cells_findings last
   checking_tail at here n mid next all answer place reads pushed is_all h =
       let k = honest_still i.reached.read.device.calls.same_honesty h in
       let content : (facts mid.device).content ≡ (facts old.device).content = reads.device.unchanged k ∙ i.reached.read.device.unchanged h in
       let same : at ≡ here = tail_place x w.at at (answered (Ok (steps.Tail at)) answer (λ e. cc) h).0 ∙ sym place in
-      stopped (Ok (steps.Tail at)) (tail_findings here x ++ counts_at_end count here) all answer (λ e. cc)
+      stopped (Ok (steps.Tail at)) (tail_findings here x ++ count_findings count here []) all answer (λ e. cc)
       (with_counts (tail_findings here x) next all here (rw content at (pushed (honest_still reads.device.calls.same_honesty k))) is_all)
-      (ap (λ m. tail_findings at x ++ m) (count_none count at) ∙ ap (λ p. tail_findings p x ++ counts_at_end count p) same) h
+      (ap (λ p. tail_findings p x ++ count_findings count p []) same) h
 
-  pub checking_damage : (at : ℕ) (kind : DamageKind) (next all : List RegionFinding) → Answers facts w now (Err (walk.Damaged at kind)) → next ≡ found ++ findings.Damaged at kind ∷ [] → all ≡ next ++ counts_at_end count at
+  pub checking_damage : (at : ℕ) (kind : DamageKind) (next all : List RegionFinding) → Answers facts w now (Err (walk.Damaged at kind)) → next ≡ found ++ findings.Damaged at kind ∷ [] → all ≡ next ++ count_findings count at []
       → IsTrue (facts old.device).honest → all ≡ walk_findings x
   unfolding findings_by cut_findings cells_findings last
   checking_damage at kind next all answer pushed is_all =
-      stopped (Err (walk.Damaged at kind)) (findings.Damaged at kind ∷ counts_at_end count at) all answer (λ e. cc) (with_counts (findings.Damaged at kind ∷ []) next all at pushed is_all) (ap (λ m. findings.Damaged at kind ∷ m) (count_none count at))
+      stopped (Err (walk.Damaged at kind)) (findings.Damaged at kind ∷ count_findings count at []) all answer (λ e. cc) (with_counts (findings.Damaged at kind ∷ []) next all at pushed is_all) refl
 
   pub checking_size : (all : List RegionFinding) → Answers facts w now (Err walk.RegionShape) → all ≡ found ++ findings.BadSize ∷ [] → IsTrue (facts old.device).honest → all ≡ walk_findings x
   unfolding findings_by fault_findings

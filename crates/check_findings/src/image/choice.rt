@@ -5,8 +5,8 @@ ghost use Rattle.flash_device.specs.Pages.{HasRead, HasAnswered, OnHonest};
 ghost use Rattle.flash_map.specs.declared.areas.NumberedArea.{NumberedArea};
 ghost use Rattle.flash_map.specs.Faults.{by_device};
 ghost use Rattle.flash_map.specs.Areas.{area_end};
-ghost use Rattle.check_findings.specs.Image.ImageFindings.{cbfs_areas, is_wanted, wanted_areas};
-ghost use Rattle.check_findings.specs.Image.Lookups.{HasNames, HasStarts};
+ghost use Rattle.check_findings.specs.ImageFindings.{cbfs_areas, is_wanted, wanted_areas};
+ghost use Rattle.check_findings.specs.ImageFindings.{HasNames, HasStarts};
 
 use crate::image::names::NameSet;
 use crate::image::starts::Starts;

@@ -8,12 +8,12 @@ ghost use Rattle.flash_device.specs.Pages.{HasRead, OnHonest};
 ghost use Rattle.flash_map.specs.Areas.{area_end, image_areas};
 ghost use Rattle.check_findings.specs.declared.image.finding.ImageFinding.TheVariants.{Map};
 ghost use Rattle.flash_map.specs.Faults.{by_device};
-ghost use Rattle.check_findings.specs.Image.ImageFindings as of;
-ghost use Rattle.check_findings.specs.Image.ImageFindings.{image_findings};
-ghost use Rattle.check_findings.specs.Image.ImageFindings.{left_after};
-ghost use Rattle.check_findings.specs.Image.Lookups.{HasNames};
-ghost use Rattle.check_findings.specs.Image.RegionAreas.{AreChecked, region_area, region_areas};
-ghost use Rattle.check_findings.specs.Image.RegionAreas.{sum_sizes};
+ghost use Rattle.check_findings.specs.ImageFindings as of;
+ghost use Rattle.check_findings.specs.ImageFindings.{image_findings};
+ghost use Rattle.check_findings.specs.ImageFindings.{left_after};
+ghost use Rattle.check_findings.specs.ImageFindings.{HasNames};
+ghost use Rattle.check_findings.specs.ImageFindings.{AreChecked, region_area, region_areas};
+ghost use Rattle.check_findings.specs.ImageFindings.{sum_sizes};
 
 use crate::image::choice::wanted_areas;
 use crate::image::finding::{ImageFinding, RegionFindings};
@@ -70,12 +70,10 @@ fn areas_findings<F: Flash>(
 ) -> Result<Vec<ImageFinding>, CheckFault>
     requires { All (λ a. area_end a.area ≤ length (F.facts paged.old.device).content) areas.now }
 
-    ensures after { HasRead F.facts
-        (length (F.facts paged.old.device).content / 2 + 2 * length areas.now)
-        (fault_count by_device result) paged.old paged.new }
-    ensures checked { IfOk result (λ findings.
-        AreChecked (length (F.facts paged.old.device).content) (length areas.now) 0
-        (region_areas findings.items)) }
+    ensures after { HasRead F.facts (length (F.facts paged.old.device).content / 2
+        + 2 * length areas.now) (fault_count by_device result) paged.old paged.new }
+    ensures checked { IfOk result (λ all. AreChecked (length (F.facts paged.old.device).content)
+        (length areas.now) 0 (region_areas all.items)) }
     ensures found { OnHonest F.facts paged.old.device (λ image.
         (names : List (List ℕ)) → HasNames expected.now names → IfOk result (λ findings.
         findings.items ≡ of.areas_findings image names (2 * length image) areas.now)) }
@@ -125,9 +123,8 @@ pub fn check_image<F: Flash>(
         (fault_count by_device result) paged.old paged.new }
     ensures total { IfOk result (λ checked. sum_sizes (region_areas checked.findings.items)
         ≤ 2 * length (F.facts paged.old.device).content) }
-    ensures inside { IfOk result (λ checked.
-        All (λ a. area_end a.area ≤ length (F.facts paged.old.device).content)
-        (region_areas checked.findings.items)) }
+    ensures inside { IfOk result (λ checked. All (λ a. area_end a.area
+        ≤ length (F.facts paged.old.device).content) (region_areas checked.findings.items)) }
     ensures count { IfOk result (λ checked.
         area_len * length checked.areas.items ≤ length (F.facts paged.old.device).content) }
     ensures fits { IfOk result (λ checked. area_len * length (region_areas checked.findings.items)

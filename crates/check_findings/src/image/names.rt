@@ -1,8 +1,9 @@
 //! Expected names of areas.
 ghost use Rattle.std.specs.Prelude.{◌≡◌, ◌∷◌, [], ◌++◌, List, ℕ, map, IfOk, OnOk};
-ghost use Rattle.check_findings.specs.Image.ImageFindings.{expected_names, has_one_of};
-ghost use Rattle.check_findings.specs.Image.ImageFindings.{names_findings};
-ghost use Rattle.check_findings.specs.Image.Lookups.{HasNames};
+ghost use Rattle.check_findings.specs.ImageFindings.{expected_names, has_one_of};
+ghost use Rattle.check_findings.specs.ImageFindings.{missing_name};
+ghost use Rattle.std.specs.List.{enumerate_from, flat_map};
+ghost use Rattle.check_findings.specs.ImageFindings.{HasNames};
 
 use crate::image::finding::ImageFinding;
 use crate::lists::push_if;
@@ -66,7 +67,7 @@ pub fn push_missing<'a>(
     areas: &'a [NumberedArea],
 ) -> Result<(), AllocError>
     ensures { OnOk result (findings.new.items ≡ findings.old.items
-        ++ names_findings areas.now 0 (map (λ n. n.now) names.now)) }
+        ++ flat_map (missing_name areas.now) (enumerate_from 0 (map (λ n. n.now) names.now))) }
 {
     let areas = AreaNames::of(alloc, areas)?;
     for number in 0..names.len() {

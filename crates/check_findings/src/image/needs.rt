@@ -1,6 +1,6 @@
 //! Required components.
 ghost use Rattle.std.specs.Prelude.{◌≡◌};
-ghost use Rattle.check_findings.specs.Image.Needs as needs;
+ghost use Rattle.check_findings.specs.Needs as needs;
 
 use crate::image::finding::ImageFinding;
 use crate::region::{Content, RegionFinding};

@@ -1,8 +1,8 @@
 //! Smallest sizes of areas by offset.
 ghost use Rattle.std.specs.Prelude.{◌≡◌, ◌∷◌, [], ◌++◌, List, IfOk, OnOk};
 ghost use Rattle.flash_map.specs.declared.areas.NumberedArea.{NumberedArea};
-ghost use Rattle.check_findings.specs.Image.ImageFindings.{has_smaller};
-ghost use Rattle.check_findings.specs.Image.Lookups.{HasStarts};
+ghost use Rattle.check_findings.specs.ImageFindings.{has_smaller};
+ghost use Rattle.check_findings.specs.ImageFindings.{HasStarts};
 
 use flash_map::NumberedArea;
 use std::alloc::{AllocError, Global};

@@ -1,6 +1,6 @@
 //! Bad findings.
 ghost use Rattle.std.specs.Prelude.{◌≡◌};
-ghost use Rattle.check_findings.specs.Image.Verdicts as verdicts;
+ghost use Rattle.check_findings.specs.Verdicts as verdicts;
 
 use crate::region::HashFinding;
 

@@ -6,7 +6,7 @@ ghost use Rattle.flash_device.specs.Device.{fault_count};
 ghost use Rattle.flash_map.specs.Fmap.{found_in};
 ghost use Rattle.flash_device.specs.Pages.{HasRead, OnHonest};
 ghost use Rattle.flash_map.specs.Faults.{by_device};
-ghost use Rattle.check_findings.specs.Map.MapFindings.{map_findings};
+ghost use Rattle.check_findings.specs.MapFindings.{map_findings};
 ghost use Rattle.flash_map.specs.Areas.{image_areas};
 
 use crate::map::finding::MapFinding;

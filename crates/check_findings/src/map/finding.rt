@@ -34,8 +34,6 @@ pub enum MapFinding {
     },
     /// The map has more than 4096 areas, so overlaps aren't checked.
     TooManyAreas,
-    /// No area has the name `FMAP`.
-    NoMapArea,
-    /// The first area `FMAP` doesn't contain the whole map.
-    MapAreaMisses(NumberedArea),
+    /// The first area `FMAP`, if any, doesn't contain the whole map.
+    MapAreaMisses(Option<NumberedArea>),
 }

@@ -5,15 +5,14 @@ ghost use Rattle.std.specs.List.{find, flat_map};
 ghost use Rattle.std.specs.Str.{is_utf8};
 ghost use lib.Chars.{codes};
 ghost use Rattle.flash_format.specs.Flashmap.{map_len};
-ghost use Rattle.check_findings.specs.Map.MapFindings.{area_findings, findings_of};
-ghost use Rattle.check_findings.specs.Map.MapFindings.{holds_map, map_area_findings};
+ghost use Rattle.check_findings.specs.MapFindings.{area_findings, findings_of};
+ghost use Rattle.check_findings.specs.MapFindings.{holds_map, map_area_findings};
 ghost use Rattle.flash_map.specs.Areas.{has_name};
 
-use crate::lists::{Pushed, push, push_if};
+use crate::lists::{Pushed, push_if};
 use crate::map::finding::{MapFinding, MapFindings};
 use crate::map::names::push_name_findings;
 use crate::map::overlaps::push_overlap_findings;
-use flash_format::Area;
 use flash_map::{FoundMap, NumberedArea};
 use std::alloc::{AllocError, Global};
 
@@ -72,11 +71,12 @@ fn push_map_area_findings(
     ensures { OnOk result (findings.new.items ≡ findings.old.items
         ++ map_area_findings map.now (find (has_name (codes "FMAP")) areas.now)) }
 {
-    let Some(a) = map_area(areas) else {
-        return push(findings, MapFinding::NoMapArea);
+    let area = map_area(areas);
+    let is_held = match area {
+        Some(a) => holds_map(map, a),
+        None => false,
     };
-    let misses = !holds_map(map, &a.area);
-    push_if(findings, misses, MapFinding::MapAreaMisses(a))
+    push_if(findings, !is_held, MapFinding::MapAreaMisses(area))
 }
 
 fn map_area(areas: &[NumberedArea]) -> Option<NumberedArea>
@@ -85,10 +85,11 @@ fn map_area(areas: &[NumberedArea]) -> Option<NumberedArea>
     areas.iter().copied().find(|a| a.area.name_is(b"FMAP"))
 }
 
-fn holds_map(map: &FoundMap, area: &Area) -> bool
+fn holds_map(map: &FoundMap, found: NumberedArea) -> bool
     requires { map.now.at + map_len map.now.head < 2 ^ 64 }
-    ensures { result ≡ holds_map map.now area.now }
+    ensures { result ≡ holds_map map.now found }
 {
+    let area = found.area;
     let map_end = map.at + map.head.map_len();
     let area_end = u64::from(area.offset) + u64::from(area.size);
     u64::from(area.offset) <= map.at && map_end <= area_end

@@ -3,7 +3,7 @@
 ghost use Rattle.std.specs.Prelude.{◌≡◌, [], ◌∷◌, ◌++◌, List, IfOk, OnOk};
 ghost use Rattle.std.specs.List.{flat_map};
 ghost use Rattle.flash_map.specs.declared.areas.NumberedArea.{NumberedArea};
-ghost use Rattle.check_findings.specs.Map.MapFindings.{name_findings};
+ghost use Rattle.check_findings.specs.MapFindings.{name_findings};
 
 use crate::lists::{Pushed, push_if};
 use crate::map::finding::{MapFinding, MapFindings};

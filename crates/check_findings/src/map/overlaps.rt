@@ -2,7 +2,7 @@
 
 ghost use Rattle.std.specs.Prelude.{◌≡◌, ◌++◌, OnOk};
 ghost use Rattle.std.specs.List.{find};
-ghost use Rattle.check_findings.specs.Map.MapFindings.{ends_inside, overlap, overlap_findings};
+ghost use Rattle.check_findings.specs.MapFindings.{ends_inside, overlap, overlap_findings};
 
 use crate::lists::{Pushed, push};
 use crate::map::finding::{MapFinding, MapFindings};

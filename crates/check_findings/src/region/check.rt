@@ -6,8 +6,8 @@ ghost use Rattle.flash_device.specs.Regions.{LiesOn};
 ghost use Rattle.cbfs_walk.specs.Cells.{IsCellIn, cell_in};
 ghost use Rattle.cbfs_walk.specs.Walks.{StandsIn};
 ghost use Rattle.flash_map.specs.Faults.{by_device};
-ghost use Rattle.check_findings.specs.Region.RegionFindings.{cell_findings, region_findings};
-ghost use Rattle.check_findings.specs.Region.RegionFindings.{walk_findings};
+ghost use Rattle.check_findings.specs.RegionFindings.{cell_findings, region_findings};
+ghost use Rattle.check_findings.specs.RegionFindings.{walk_findings};
 
 use crate::lists::push_if;
 use crate::region::count::Count;

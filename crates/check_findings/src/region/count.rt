@@ -1,5 +1,5 @@
 //! Sums over entries.
-ghost use Rattle.std.specs.Prelude.{◌≡◌, ◌+◌, ◌^◌, ◌<◌, ◌++◌, IfOk};
+ghost use Rattle.std.specs.Prelude.{◌≡◌, ◌+◌, ◌^◌, ◌<◌, ◌≤◌, [], ◌++◌, max, IfOk};
 ghost use Rattle.flash_format.specs.Head.{is_free};
 
 use crate::region::finding::RegionFinding;
@@ -24,9 +24,8 @@ pub struct Count {
 }
 
 impl Count {
-    ghost use Rattle.check_findings.specs.Region.Reports.{IsCountBefore, count_after};
-    ghost use Rattle.check_findings.specs.Region.Reports.{counts_at_end};
-    ghost use Rattle.check_findings.specs.Region.Reports.{nothing, room_to};
+    ghost use Rattle.check_findings.specs.RegionFindings.{count_after, count_findings};
+    ghost use Rattle.check_findings.specs.RegionFindings.{nothing, usable};
 
     pub fn new(size: u64) -> Count
         ensures { result ≡ nothing size }
@@ -40,7 +39,7 @@ impl Count {
     /// Returns the most usable bytes of an empty run, if the entries end here: all but the region's
     /// last four.
     fn room_to(self, end: u64) -> u64
-        ensures { result ≡ room_to self end }
+        ensures { result ≡ max self.room (usable self.size self.start end) }
     {
         let kept = if end == self.size { 4 } else { 0 };
         let usable = end.saturating_sub(self.start).saturating_sub(kept);
@@ -48,12 +47,11 @@ impl Count {
     }
 
     pub fn with(self, cell: &Cell) -> Count
-        requires before { IsCountBefore cell.now.at self }
+        requires before { (self.components ≤ cell.now.at) × (self.free ≤ cell.now.at) }
         requires small { cell.now.at + cell.now.span < 2 ^ 32 }
         requires some { 0 < cell.now.span }
 
-        ensures is { result ≡ count_after self (is_free cell.now.head) cell.now.at cell.now.span }
-        ensures before { IsCountBefore (cell.now.at + cell.now.span) result }
+        ensures { result ≡ count_after self (is_free cell.now.head) cell.now.at cell.now.span }
     {
         let mut next = self;
         if cell.head.is_free() {
@@ -72,17 +70,12 @@ impl Count {
         mut findings: Vec<RegionFinding>,
         end: u64,
     ) -> Result<Vec<RegionFinding>, AllocError>
-        ensures { IfOk result (λ all. all.items ≡ findings.items ++ counts_at_end self end) }
+        ensures { IfOk result (λ all. all.items ≡ findings.items ++ count_findings self end []) }
     {
-        findings.push(match self.components {
-            0 => RegionFinding::NoComponents,
-            components => RegionFinding::Components(components),
-        })?;
+        findings.push(RegionFinding::Components(self.components))?;
         findings.push(RegionFinding::FreeBytes(self.free))?;
-        findings.push(match self.room_to(end).checked_sub(METADATA) {
-            Some(len) => RegionFinding::LargestContent(len),
-            None => RegionFinding::NoRoom,
-        })?;
+        let largest = self.room_to(end).checked_sub(METADATA);
+        findings.push(RegionFinding::LargestContent(largest))?;
         Ok(findings)
     }
 }

@@ -1,6 +1,6 @@
 //! Findings of a region.
 ghost use Rattle.std.specs.Prelude.{◌≡◌, IfOk};
-ghost use Rattle.check_findings.specs.Region.RegionFindings.{hash_finding};
+ghost use Rattle.check_findings.specs.RegionFindings.{hash_finding};
 
 use cbfs_walk::HashState;
 use flash_format::{Algorithm, DamageKind};
@@ -151,14 +151,11 @@ pub enum RegionFinding {
         at: u64,
         kind: DamageKind,
     },
-    /// The number of components, if any.
+    /// The number of components.
     Components(u64),
-    NoComponents,
     /// The bytes of all empty entries.
     FreeBytes(u64),
     /// The longest content, in bytes, that `add` takes without `-A`, `-a` and `-b`, with a name of
-    /// at most 3 bytes.
-    LargestContent(u64),
-    /// Even an empty content has no room.
-    NoRoom,
+    /// at most 3 bytes; `None`: even an empty content has no room.
+    LargestContent(Option<u64>),
 }

@@ -1,8 +1,7 @@
 //! Components with the name of an earlier component.
 ghost use Rattle.std.specs.Prelude.{◌≡◌, [], IfOk, OnOk};
 ghost use Rattle.std.specs.List.{fold};
-ghost use Rattle.check_findings.specs.Region.RegionFindings.{all_marked};
-ghost use Rattle.check_findings.specs.Region.Reports.{mark_at};
+ghost use Rattle.check_findings.specs.RegionFindings.{all_marked, mark_at};
 
 use crate::lists::{Pushed, push_if};
 use crate::region::finding::{Name, RegionFinding};

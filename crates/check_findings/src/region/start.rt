@@ -2,7 +2,7 @@
 ghost use Rattle.std.specs.Prelude.{◌≡◌, ◌≤◌, drop, IfOk};
 ghost use Rattle.flash_device.specs.Pages.{HasAnswered, OnHonestIn};
 ghost use Rattle.flash_device.specs.Regions.{LiesOn};
-ghost use Rattle.check_findings.specs.Region.RegionFindings.{begins_with_entry};
+ghost use Rattle.check_findings.specs.RegionFindings.{begins_with_entry};
 
 use flash_device::{Flash, FlashFault, Paged};
 use flash_format::Head;

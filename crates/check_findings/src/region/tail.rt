@@ -5,9 +5,9 @@ ghost use Rattle.flash_device.specs.Device.{fault_count};
 ghost use Rattle.flash_device.specs.Pages.{HasAnswered, HasRead, OnHonestIn};
 ghost use Rattle.flash_device.specs.Regions.{LiesOn};
 ghost use Rattle.flash_map.specs.Faults.{by_device};
-ghost use Rattle.check_findings.specs.Region.RegionFindings.{is_filled, tail_bytes};
-ghost use Rattle.check_findings.specs.Region.RegionFindings.{entries_findings};
-ghost use Rattle.check_findings.specs.Region.RegionFindings.{tail_findings};
+ghost use Rattle.check_findings.specs.RegionFindings.{is_filled, tail_bytes};
+ghost use Rattle.check_findings.specs.RegionFindings.{entries_findings};
+ghost use Rattle.check_findings.specs.RegionFindings.{tail_findings};
 
 use crate::lists::push_if;
 use crate::region::finding::RegionFinding;

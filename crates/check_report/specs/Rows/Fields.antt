@@ -18,15 +18,9 @@ pub record SeenValue : Type 0 where
   pub text : Option (List ℕ)
   pub json : Option Json
 
-abbrev pub absent : SeenValue
-absent = record { text = None; json = None }
-
-abbrev pub dash : SeenValue
-dash = record { text = Some (codes "-"); json = None }
-
--- a text in JSON alone
-abbrev pub code_value : List ℕ → SeenValue
-code_value text = record { text = None; json = Some (string text) }
+-- in JSON alone
+abbrev pub json_value : Json → SeenValue
+json_value json = record { text = None; json = Some json }
 
 abbrev pub text_value : List ℕ → SeenValue
 text_value text = record { text = Some text; json = Some (string text) }
@@ -38,30 +32,21 @@ abbrev pub items : List Json → Items
 items [] = no_items
 items (j ∷ js) = item j (items js)
 
-abbrev pub bytes_json : List ℕ → Json
-bytes_json bytes = array (items (map number_json bytes))
-
 -- a name: a string if UTF-8, otherwise an array of bytes
 abbrev pub name_json : List ℕ → Json
-name_json name = if is_utf8 name then string name else bytes_json name
+name_json name = if is_utf8 name then string name else array (items (map number_json name))
 
 abbrev pub name_value : List ℕ → SeenValue
 name_value name = record { text = Some (printed_name name); json = Some (name_json name) }
 
-abbrev pub count_value : ℕ → SeenValue
-count_value n = record { text = Some (decimal n); json = Some (number_json n) }
-
-abbrev pub offset_value : ℕ → SeenValue
-offset_value n = record { text = Some (hexadecimal n); json = Some (number_json n) }
-
 abbrev pub seen_value : Value → SeenValue
-seen_value values.Absent = absent
-seen_value values.Dash = dash
-seen_value (values.Code text) = code_value text.now
+seen_value values.Absent = record { text = None; json = None }
+seen_value values.Dash = record { text = Some (codes "-"); json = None }
+seen_value (values.Code text) = json_value (string text.now)
 seen_value (values.Text text) = text_value text.now
 seen_value (values.Name name) = name_value name.now
-seen_value (values.Count n) = count_value n
-seen_value (values.Offset n) = offset_value n
+seen_value (values.Count n) = record { text = Some (decimal n); json = Some (number_json n) }
+seen_value (values.Offset n) = record { text = Some (hexadecimal n); json = Some (number_json n) }
 seen_value (values.Hexadecimal n) = text_value (hexadecimal n)
 
 -- ---- fields
@@ -79,13 +64,11 @@ field_text field = option_map_or (λ text. tab ++ text) field.1.text []
 -- the fields with a JSON value
 abbrev pub members : List SeenField → Members
 members [] = no_members
-members (field ∷ fields) =
-    option_map_or (λ j. member field.0 j (members fields)) field.1.json (members fields)
+members (f ∷ fs) = option_map_or (λ j. member f.0 j (members fs)) f.1.json (members fs)
 
 -- a line: the first field in text, and the other fields
-pub record Line : Type 0 where
-  pub head : List ℕ
-  pub fields : List SeenField
+abbrev pub Line : Type 0
+Line = record { head : List ℕ; fields : List SeenField }
 
 abbrev pub line_text : Line → List ℕ
 line_text line = line.head ++ flat_map field_text line.fields ++ line_feed

@@ -4,15 +4,15 @@ ghost use Rattle.std.specs.List.{flat_map};
 ghost use Rattle.std.specs.Fmt.{decimal};
 ghost use lib.Chars.{codes};
 ghost use Rattle.flash_format.specs.Texts.{hexadecimal};
-ghost use Rattle.json.specs.Print.{IsPrintable};
+ghost use Rattle.json.specs.Json.{array};
+ghost use Rattle.json.specs.Print.{IsPrintable, print};
 ghost use Rattle.json.specs.Reads.{token_of};
 ghost use Rattle.json.specs.Token.{number, string};
 ghost use Rattle.json.specs.Tree.{json_tokens};
 ghost use Rattle.check_report.specs.declared.rows.form.Form.TheVariants as forms;
-ghost use Rattle.check_report.specs.Rows.Fields.{bytes_json, name_json};
-ghost use Rattle.check_report.specs.Rows.Fields.{seen_field};
-ghost use Rattle.check_report.specs.Rows.Reports.{between, ending, file_fields, member_tokens};
-ghost use Rattle.check_report.specs.Rows.Reports.{parts, starting};
+ghost use Rattle.check_report.specs.Rows.Fields.{items, name_json, number_json, seen_field};
+ghost use Rattle.check_report.specs.Rows.Reports.{ending, file_fields, member_tokens};
+ghost use Rattle.check_report.specs.Rows.Reports.{parts, start_tokens};
 ghost use Rattle.check_report.specs.Rows.Effects.{AddsTokens};
 
 use crate::request::Files;
@@ -31,7 +31,8 @@ fn put(writer: &mut Writer, token: Token<'_>) -> Result<(), AllocError>
 }
 
 fn put_bytes(writer: &mut Writer, bytes: &[u8]) -> Result<(), AllocError>
-    ensures { AddsTokens result writer.old writer.new (json_tokens (bytes_json bytes.now)) }
+    ensures { AddsTokens result writer.old writer.new
+        (json_tokens (array (items (map number_json bytes.now)))) }
 {
     put(writer, Token::BeginArray)?;
     for byte in bytes {
@@ -116,7 +117,7 @@ fn file_fields<'a>(files: Files<'a>) -> [Field<'a>; 3]
 /// Returns the document up to the start of this array.
 pub fn json_start(alloc: Global, files: Files<'_>, array: &str) -> Result<Vec<u8>, AllocError>
     ensures { IfOk result (λ text. text.items
-        ≡ starting forms.Json files.entry array.now) }
+        ≡ print (start_tokens (file_fields files.entry) array.now)) }
 {
     let mut writer = Writer::new(Vec::new(alloc));
     put(&mut writer, Token::BeginObject)?;

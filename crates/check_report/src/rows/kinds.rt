@@ -1,7 +1,7 @@
 //! Kinds of rows. A kind is a verdict and a code.
-ghost use Rattle.std.specs.Prelude.{◌≡◌, ◌+◌, map, IfOk, OnOk};
-ghost use Rattle.check_report.specs.Rows.Limits.{count_in, counted, is_of, seen_kind};
-ghost use Rattle.check_report.specs.Rows.Rows.{seen_row, tallied};
+ghost use Rattle.std.specs.Prelude.{◌≡◌, ◌+◌, ◌++◌, ◌∷◌, [], List, count_by, map, IfOk, OnOk};
+ghost use Rattle.check_report.specs.Rows.Rows.{SeenRow, counts_of, is_like, kinds_of, row_of};
+ghost use Rattle.check_report.specs.Rows.Rows.{seen_kind, seen_row};
 ghost use Rattle.check_report.specs.Rows.Fields.{seen_field};
 ghost use Rattle.check_report.specs.Rows.Reports.{count_fields};
 
@@ -32,24 +32,21 @@ fn next(count: u64) -> Result<u64, AllocError>
     count.checked_add(1).ok_or(AllocError)
 }
 
-impl Kind {
-    fn is_of(&self, row: &Row) -> bool
-        ensures { result ≡ is_of (seen_kind self.now) (seen_row row.now) }
-    {
-        self.verdict.word() == row.verdict.word() && self.code == row.code
-    }
+fn is_of(kind: &Kind, row: &Row) -> bool
+    ensures { result ≡ is_like (row_of kind.now.verdict kind.now.code.now []) (seen_row row.now) }
+{
+    kind.verdict.word() == row.verdict.word() && kind.code == row.code
 }
 
 /// Counts a row. Returns the number of earlier rows of its kind.
 pub fn count_row(kinds: &mut Vec<Kind>, row: &Row) -> Result<u64, AllocError>
-    ensures before { IfOk result (λ n.
-        n ≡ count_in (map seen_kind kinds.old.items) (seen_row row.now)) }
-    ensures kinds { OnOk result (map seen_kind kinds.new.items
-        ≡ counted (map seen_kind kinds.old.items) (seen_row row.now)) }
+    ensures { IfOk result (λ n. (rows : List SeenRow) → map seen_kind kinds.old.items
+        ≡ kinds_of rows → (n ≡ count_by (is_like (seen_row row.now)) rows)
+        × (map seen_kind kinds.new.items ≡ kinds_of (rows ++ seen_row row.now ∷ []))) }
 {
     for i in 0..kinds.len() {
         let kind = kinds[i];
-        if kind.is_of(row) {
+        if is_of(&kind, row) {
             kinds[i].count = next(kind.count)?;
             return Ok(kind.count);
         }
@@ -73,10 +70,11 @@ impl Counts {
         ]
     }
 
-    pub fn with(mut self, verdict: Verdict) -> Result<Counts, AllocError>
-        ensures { IfOk result (λ counts. counts ≡ tallied self verdict) }
+    pub fn with(mut self, row: &Row) -> Result<Counts, AllocError>
+        ensures { IfOk result (λ counts. (rows : List SeenRow) → self ≡ counts_of rows
+            → counts ≡ counts_of (rows ++ seen_row row.now ∷ [])) }
     {
-        match verdict {
+        match row.verdict {
             Verdict::Bad => self.bad = next(self.bad)?,
             Verdict::Remark => self.remarks = next(self.remarks)?,
             Verdict::Change => self.changes = next(self.changes)?,

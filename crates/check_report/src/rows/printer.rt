@@ -1,7 +1,9 @@
 //! A report, printed line by line.
 ghost use Rattle.std.specs.Prelude.{◌≡◌, ◌∷◌, [], false, map, IfOk};
+ghost use lib.Chars.{codes};
+ghost use Rattle.json.specs.Token.{begin_array, end_array, key};
 ghost use Rattle.check_report.specs.Rows.Fields.{seen_field};
-ghost use Rattle.check_report.specs.Rows.Reports.{between, ending, parts, starting};
+ghost use Rattle.check_report.specs.Rows.Reports.{ending, file_fields, part, parts, start_tokens};
 ghost use Rattle.check_report.specs.Rows.Effects.{Prints, PrintsLines};
 
 use crate::fault::WriteFault;
@@ -39,7 +41,7 @@ impl<W: Sink + Drop> Printer<W> {
     /// Prints the report up to this array's first item.
     pub fn start(&mut self, files: Files<'_>, array: &str) -> Result<(), WriteFault>
         ensures { Prints W.contents W.faults result self.old self.new
-            (starting self.old.form files.entry array.now) false }
+            (part self.old.form false [] (start_tokens (file_fields files.entry) array.now)) false }
     {
         self.follows = false;
         match self.form {
@@ -64,7 +66,8 @@ impl<W: Sink + Drop> Printer<W> {
     #[tactic(auto, unfolding(json::specs::Print::print_from, json::specs::Print::escape_byte))]
     pub fn between(&mut self) -> Result<(), WriteFault>
         ensures { Prints W.contents W.faults result self.old self.new
-            (between self.old.form) false }
+            (part self.old.form false []
+            (end_array ∷ key (codes "rows") ∷ begin_array ∷ [])) false }
     {
         self.follows = false;
         match self.form {

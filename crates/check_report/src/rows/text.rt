@@ -2,7 +2,7 @@
 ghost use Rattle.std.specs.Prelude.{◌≡◌, ◌++◌, map, IfOk, OnOk};
 ghost use Rattle.std.specs.List.{flat_map};
 ghost use Rattle.std.specs.Fmt.{decimal};
-ghost use Rattle.flash_format.specs.Texts.{printed_name};
+ghost use Rattle.flash_format.specs.Texts.{line_feed, printed_name};
 ghost use Rattle.check_report.specs.Rows.Fields.{field_text, line_text, seen_field};
 ghost use Rattle.check_report.specs.Rows.Rows.{summary};
 
@@ -68,7 +68,7 @@ pub fn line(alloc: Global, head: &str, fields: &[Field<'_>]) -> Result<Vec<u8>, 
 /// Returns the line after all rows.
 #[tactic(auto, unfolding(crate::specs::Rows::Rows::summary))]
 pub fn summary(alloc: Global, counts: Counts) -> Result<Vec<u8>, AllocError>
-    ensures { IfOk result (λ text. text.items ≡ summary counts) }
+    ensures { IfOk result (λ text. text.items ≡ summary counts ++ line_feed) }
 {
     let mut text = Vec::new(alloc);
     push_decimal(&mut text, counts.bad)?;
@@ -76,6 +76,7 @@ pub fn summary(alloc: Global, counts: Counts) -> Result<Vec<u8>, AllocError>
     push_decimal(&mut text, counts.remarks)?;
     push(&mut text, b" remarks, ")?;
     push_decimal(&mut text, counts.changes)?;
-    push(&mut text, b" changes\n")?;
+    push(&mut text, b" changes")?;
+    push(&mut text, b"\n")?;
     Ok(text)
 }

@@ -1,9 +1,9 @@
 //! The rows of a report.
 ghost use Rattle.std.specs.Prelude.{◌≡◌, ◌∷◌, ◌||◌, [], false, nat_lt, map, if◌then◌else◌};
+ghost use Rattle.std.specs.Prelude.{option_map, option_to_list};
 ghost use Rattle.std.specs.List.{flat_map};
 ghost use Rattle.check_findings.specs.Lists.{only_if};
-ghost use Rattle.check_report.specs.Rows.Limits.{more_of, more_row, seen_kind};
-ghost use Rattle.check_report.specs.Rows.Rows.{row_line, seen_row};
+ghost use Rattle.check_report.specs.Rows.Rows.{more_of, row_line, seen_kind, seen_row};
 ghost use Rattle.check_report.specs.Rows.Effects.{Adds, Ends, HasWritten, PrintsLines};
 
 use crate::fault::WriteFault;
@@ -23,14 +23,6 @@ pub struct RowWriter<W: Sink + Drop> {
     is_verbose: bool,
     kinds: Vec<Kind>,
     counts: Counts,
-}
-
-/// Returns the row for the hidden rows of a kind.
-fn more_row<'a>(kind: &Kind) -> Row<'a>
-    ensures { seen_row result ≡ more_row (seen_kind kind.now) }
-{
-    let hidden = kind.count.saturating_sub(MOST);
-    kind.verdict.row(kind.code, "more of these").count(hidden)
 }
 
 fn limited(is_verbose: bool, kinds: &[Kind]) -> &[Kind]
@@ -56,7 +48,9 @@ impl<W: Sink + Drop> Printer<W> {
             (flat_map (λ kind. map row_line (more_of (seen_kind kind))) kinds.now) }
     {
         for kind in kinds {
-            self.row_if(kind.count > MOST, &more_row(kind))?;
+            let more = kind.verdict.row(kind.code, "more of these");
+            let hidden = kind.count.saturating_sub(MOST);
+            self.row_if(kind.count > MOST, &more.count(hidden))?;
         }
         Ok(())
     }
@@ -85,7 +79,7 @@ impl<W: Sink + Drop> RowWriter<W> {
         ensures { Adds W.contents W.faults result self.old self.new (seen_row row.entry ∷ []) }
     {
         let before = count_row(&mut self.kinds, &row)?;
-        self.counts = self.counts.with(row.verdict)?;
+        self.counts = self.counts.with(&row)?;
         let is_shown = self.is_verbose || before < MOST;
         self.printer.row_if(is_shown, &row)
     }
@@ -95,6 +89,16 @@ impl<W: Sink + Drop> RowWriter<W> {
             (only_if is_there (seen_row row.entry)) }
     {
         if is_there { self.add(row) } else { Ok(()) }
+    }
+
+    pub fn add_some(&mut self, row: Option<Row<'_>>) -> Result<(), WriteFault>
+        ensures { Adds W.contents W.faults result self.old self.new
+            (option_to_list (option_map seen_row row.entry)) }
+    {
+        match row {
+            Some(row) => self.add(row),
+            None => Ok(()),
+        }
     }
 
     /// Prints the end. Returns whether a row is bad.

@@ -1,7 +1,9 @@
 //! Changes of components, on failing devices, and with an absent region.
 use crate::report::support::keys;
 use crate::support::{ALL, Failing, FailingImages, equal, failing};
-use check_changes::{ChangeFault, ComponentChange, Images, RegionPair, component_changes};
+use check_changes::{
+    ChangeFault, ComponentChange, ComponentDifference, Images, RegionPair, component_changes,
+};
 use flash_store::Region;
 use std::process::Abort;
 use std::random::RandomSource;
@@ -23,11 +25,14 @@ fn changes_of(
 }
 
 fn word(changes: &[ComponentChange]) -> &'static str {
-    match changes {
-        [] => "same",
-        [ComponentChange::Added { at: 0, .. }] => "added",
-        [ComponentChange::Removed { at: 0, .. }] => "removed",
-        [ComponentChange::Changed { .. }] => "changed",
+    let [change] = changes else {
+        return if changes.is_empty() { "same" } else { "other" };
+    };
+    let at = change.at;
+    match change.what {
+        ComponentDifference::Added if at == 0 => "added",
+        ComponentDifference::Removed if at == 0 => "removed",
+        ComponentDifference::Content => "changed",
         _ => "other",
     }
 }

@@ -1,6 +1,6 @@
 use Rattle.std.proofs.Common.{◌≡◌, ◌++◌, Ok, map, ap, ap₂, ◌∙◌, rules}
 use Rattle.flash_device.proofs.DeviceLemmas.{honest_still}
-use Rattle.check_findings.specs.Image.ImageFindings.{image_findings}
+use Rattle.check_findings.specs.ImageFindings.{image_findings}
 use Rattle.check_report.specs.Names.{names_in}
 use Rattle.check_report.specs.Rows.Rows.{area_name}
 use Rattle.check_report.proofs.change.inspect_change.Goals as goal
@@ -25,5 +25,5 @@ returns-clause-inspection g c = λ h k.
     rw (first.unchanged h, second.unchanged k) at (c.in_ok-comparison.ensures.changes (honest_still first.calls.same_honesty h) (honest_still second.calls.same_honesty k)) in
     record {
       findings = found;
-      changes = record { comparison = rw (olds, news, found) at (compared old.found new_map); old = old; new_areas = news };
+      changes = record { comparison = rw (olds, news) at (compared old.found new_map); old = old; new_areas = news };
     }

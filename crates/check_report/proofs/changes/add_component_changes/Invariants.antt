@@ -1,9 +1,8 @@
 use Rattle.std.proofs.Common.{Ok, map, take}
-use Rattle.check_report.specs.Rows.Rows.{area_name}
 use Rattle.check_report.specs.Rows.Effects.{Adds}
 use Rattle.check_report.specs.ChangeRows.{component_change_row}
 use Rattle.check_report.proofs.changes.add_component_changes.Given as goal
 
 abbrev pub invariant-loop-change : goal.invariant-loop-change
 invariant-loop-change g l = Adds g.W.Sink.contents g.W.Sink.faults (Ok tt) l.initial.rows l.rows
-    (map (component_change_row l.verdict (area_name l.area)) (take l.change-index l.changes))
+    (map (component_change_row l.is_kept l.area) (take l.change-index l.changes))

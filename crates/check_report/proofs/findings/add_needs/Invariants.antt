@@ -1,6 +1,6 @@
 use Rattle.std.proofs.Common.{Ok, map, take}
 use Rattle.std.specs.List.{flat_map}
-use Rattle.check_findings.specs.Image.Needs.{wish_of}
+use Rattle.check_findings.specs.Needs.{wish_of}
 use Rattle.check_report.specs.Rows.Effects.{Adds}
 use Rattle.check_report.specs.FindingRows.{need_rows}
 use Rattle.check_report.proofs.findings.add_needs.Given as goal

@@ -1,5 +1,5 @@
 use Rattle.std.proofs.Common.{◌≡◌, [], rules}
-use Rattle.check_report.specs.Lists.{component_lines}
+use Rattle.check_report.specs.Reports.{component_lines}
 use Rattle.check_report.proofs.PrinterEffects.{prints_none, prints_then}
 use Rattle.check_report.proofs.list.list_area.Goals as goal
 use Rattle.check_report.proofs.list.list_area.Goals.{in-Component+in_ok-line, in_default}

@@ -1,6 +1,6 @@
 use Rattle.std.proofs.Common.{Ok, take}
 use Rattle.std.specs.List.{flat_map}
-use Rattle.check_report.specs.Lists.{component_lines}
+use Rattle.check_report.specs.Reports.{component_lines}
 use Rattle.check_report.specs.Rows.Effects.{PrintsLines}
 use Rattle.check_report.proofs.list.list_area.Given as goal
 

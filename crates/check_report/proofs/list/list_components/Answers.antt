@@ -1,5 +1,5 @@
 use Rattle.std.proofs.Common.{◌≡◌, [], rules}
-use Rattle.check_report.specs.Lists.{components_in}
+use Rattle.check_report.specs.Reports.{components_in}
 use Rattle.check_report.proofs.PrinterEffects.{prints_none, prints_then}
 use Rattle.check_report.proofs.list.list_components.Goals as goal
 use Rattle.check_report.proofs.list.list_components.Goals.{in-Region+in_ok-list_area, in_default}

@@ -1,6 +1,6 @@
 use Rattle.std.proofs.Common.{Ok, take}
 use Rattle.std.specs.List.{flat_map}
-use Rattle.check_report.specs.Lists.{components_in}
+use Rattle.check_report.specs.Reports.{components_in}
 use Rattle.check_report.specs.Rows.Effects.{PrintsLines}
 use Rattle.check_report.proofs.list.list_components.Given as goal
 

@@ -1,5 +1,5 @@
 use Rattle.std.proofs.Common.{◌≡◌, ◌*◌, ◌++◌, ap, arith, length, sym}
-use Rattle.check_changes.specs.Areas.AreaChanges.{area_changes, area_changes_in}
+use Rattle.check_changes.specs.Areas.{area_changes, area_changes_in}
 use Rattle.check_changes.proofs.AreaLemmas.ChangeSteps.{pushed-both}
 use Rattle.check_changes.proofs.ImageLemmas.{both-handed, both-then, both-within, OnBoth-before}
 use Rattle.check_changes.proofs.areas.areas.image_changes.Goals as goal
@@ -21,5 +21,5 @@ returns-clause-after g c =
 pub returns-clause-areas : goal.returns-clause-areas
 unfolding area_changes
 returns-clause-areas g c = λ h k.
-    let pushed = OnBoth-before _ _ (λ x y. c.push_changes.new.changes.items ≡ c.new-areas.result.items ++ area_changes_in (8 * length y) x y c.deref.result.now c.deref.result.now) c.in_ok-blocks.ensures.after c.in_ok-push_changes.ensures.changes h k in
+    let pushed = OnBoth-before _ _ (λ x y. c.push_changes.new.changes.items ≡ c.new-areas.result.items ++ area_changes_in x y c.deref.result.now (8 * length y) c.deref.result.now) c.in_ok-blocks.ensures.after c.in_ok-push_changes.ensures.changes h k in
     rw (sym c.in_ok-of.ensures, sym c.in_ok-of-2.ensures) (pushed-both _ _ _ _ _ c.new-areas.ensures.items (rw (c.deref.ensures.value, c.in_ok-pairs.ensures.found) at pushed) c.in_ok-push_gone.ensures)

@@ -1,6 +1,6 @@
 use Rattle.std.proofs.Common.{◌*◌, ◌++◌, length, arith}
 use Rattle.check_changes.specs.declared.fault.ChangeFault.TheVariants as faults
-use Rattle.check_changes.specs.Areas.AreaChanges.{area_changes_in}
+use Rattle.check_changes.specs.Areas.{area_changes_in}
 use Rattle.check_changes.proofs.AreaLemmas.ChangeSteps.{changes_in-more}
 use Rattle.check_changes.proofs.ImageLemmas.{both-handed, both-then, both-within}
 use Rattle.check_changes.proofs.areas.areas.push_changes.Goals as goal
@@ -28,5 +28,5 @@ loop-pair-preserved g c =
     record {
       within = omega (arith, had.within, done.fewer);
       read = both-within _ _ _ _ (omega (arith, had.within, done.fewer)) (omega (arith, had.within, done.fewer)) (both-then _ _ had.read done.after);
-      changes = changes_in-more _ _ c.args.pairs.now _ _ _ (λ x y. c.args.changes.now.items ++ area_changes_in (8 * length y) x y c.args.pairs.now c.args.pairs.now) c.loop-pair-test.true had.read had.changes c.in_ok-push_entry_changes.ensures done.left done.changes;
+      changes = changes_in-more _ _ c.args.pairs.now _ _ _ (λ x y. c.args.changes.now.items ++ area_changes_in x y c.args.pairs.now (8 * length y) c.args.pairs.now) c.loop-pair-test.true had.read had.changes c.in_ok-push_entry_changes.ensures done.left done.changes;
     }

@@ -1,5 +1,5 @@
 use Rattle.std.proofs.Common.{◌≡◌, ◌+◌, ◌-◌, ◌*◌, ◌/◌, ◌≤◌, ◌++◌, length, drop}
-use Rattle.check_changes.specs.Areas.AreaChanges.{area_changes_in}
+use Rattle.check_changes.specs.Areas.{area_changes_in}
 use Rattle.check_changes.specs.Images.{HasReadBoth, OnBoth, lengths}
 use Rattle.check_changes.proofs.areas.areas.push_changes.Given as goal
 
@@ -12,6 +12,6 @@ invariant-loop-pair g l =
     record {
       within : l.left ≤ most;
       read : HasReadBoth f k n n 0 0 l.initial.images l.images;
-      changes : OnBoth f k l.initial.images (λ x y. l.changes.items ++ area_changes_in l.left x y l.pairs (drop l.pair-index l.pairs)
-          ≡ l.initial.changes.items ++ area_changes_in (8 * length y) x y l.pairs l.pairs);
+      changes : OnBoth f k l.initial.images (λ x y. l.changes.items ++ area_changes_in x y l.pairs l.left (drop l.pair-index l.pairs)
+          ≡ l.initial.changes.items ++ area_changes_in x y l.pairs (8 * length y) l.pairs);
     }

@@ -1,6 +1,6 @@
 use Rattle.std.proofs.Common.{◌≡◌, arith, rules}
 use Rattle.std.specs.Prelude.{◌&&◌, not}
-use Rattle.check_changes.specs.Areas.AreaChanges.{is_difference, is_held, is_own_difference}
+use Rattle.check_changes.specs.Areas.{is_difference, is_held, is_own_difference}
 use Rattle.check_changes.proofs.AreaLemmas.BlockLemmas.{at_most_one, count_below-more}
 use Rattle.check_changes.proofs.ImageLemmas.{both-then, OnBoth-before}
 use Rattle.check_changes.proofs.areas.blocks.different_in.Goals.{then-is_different, else-is_different}

@@ -1,6 +1,6 @@
 use Rattle.std.proofs.Common.{◌≡◌, ◌≤◌}
-use Rattle.check_changes.specs.Areas.AreaChanges.{is_difference, is_own_difference}
-use Rattle.check_changes.specs.Areas.Blocks.{count_below}
+use Rattle.check_changes.specs.Areas.{is_difference, is_own_difference}
+use Rattle.check_changes.specs.Blocks.{count_below}
 use Rattle.check_changes.specs.Images.{HasReadBoth, OnBoth}
 use Rattle.check_changes.proofs.areas.blocks.different_in.Given as goal
 

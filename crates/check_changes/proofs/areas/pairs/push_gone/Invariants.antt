@@ -1,6 +1,6 @@
 use Rattle.std.proofs.Common.{◌≡◌, ◌++◌, drop}
 use Rattle.std.specs.List.{flat_map}
-use Rattle.check_changes.specs.Areas.AreaChanges.{gone_of}
+use Rattle.check_changes.specs.Areas.{gone_of}
 use Rattle.check_changes.proofs.areas.pairs.push_gone.Given as goal
 
 abbrev pub invariant-loop-area : goal.invariant-loop-area

@@ -1,5 +1,4 @@
-use Rattle.check_changes.specs.Components.ComponentChanges.{changes_between}
-use Rattle.flash_device.specs.Regions.{bytes_in}
+use Rattle.check_changes.specs.Components.{changes_between}
 use Rattle.check_changes.proofs.AreaLemmas.ChangeSteps.{pushed-both}
 use Rattle.check_changes.proofs.ImageLemmas.{both-handed}
 use Rattle.check_changes.proofs.components.changes.list_changes.Goals as goal
@@ -9,8 +8,7 @@ unfolding changes_between
 returns-clause-changes g c = λ h k.
     let old = c.in_ok-with_firsts.ensures in
     let new = c.in_ok-with_firsts-2.ensures in
-    let removed = c.in_ok-push_removed.ensures (bytes_in c.args.regions.old (g.F.Flash.facts c.args.images.now.old_image.device).content) (bytes_in c.args.regions.new (g.G.Flash.facts c.args.images.now.new_image.device).content) in
-    pushed-both _ _ _ _ _ c.new-changes.ensures.items (rw (old.region, new.region, old.all, new.all) at (c.in_ok-push_changes.ensures.changes h k)) (rw (old.all, new.all) at removed)
+    pushed-both _ _ _ _ _ c.new-changes.ensures.items (rw (old.region, new.region, old.all, new.all) at (c.in_ok-push_changes.ensures.changes h k)) (rw (old.all, new.all) at c.in_ok-push_removed.ensures)
 
 pub returns-in_err-push_changes-clause-after : goal.returns-in_err-push_changes-clause-after
 returns-in_err-push_changes-clause-after g c = both-handed _ _ _ _ c.from_residual-in_err-push_changes.ensures.1 (rw c.in_ok-with_firsts-2.ensures.all at c.in_err-push_changes.ensures.after)

@@ -1,8 +1,8 @@
 use Rattle.std.proofs.Common.{◌≡◌, ◌++◌, ◌/◌, take, drop}
 use Rattle.std.specs.List.{flat_map}
-use Rattle.check_changes.specs.Components.ComponentChanges.{new_changes}
-use Rattle.check_changes.specs.Components.Pairs.{listed_regions}
-use Rattle.check_changes.specs.Components.Listings.{spans, states_in}
+use Rattle.check_changes.specs.Components.{new_changes}
+use Rattle.check_changes.specs.Listings.{spans}
+use Rattle.check_changes.specs.Regions.{listed_regions}
 use Rattle.check_changes.specs.Images.{HasReadBoth, OnBothIn}
 use Rattle.check_changes.proofs.components.changes.push_changes.Given as goal
 
@@ -16,6 +16,6 @@ invariant-loop-listed g l =
     record {
       read : HasReadBoth f k n n 0 0 l.initial.images l.images;
       changes : OnBothIn f k l.initial.images (listed_regions l.lists) (λ x y.
-          l.changes.items ++ flat_map (new_changes (states_in x old) (states_in y new)) (states_in y (drop l.listed-index new))
-          ≡ l.initial.changes.items ++ flat_map (new_changes (states_in x old) (states_in y new)) (states_in y new));
+          l.changes.items ++ flat_map (new_changes x y old new) (drop l.listed-index new)
+          ≡ l.initial.changes.items ++ flat_map (new_changes x y old new) new);
     }

@@ -1,6 +1,6 @@
 use Rattle.std.proofs.Common.{◌≡◌, arith}
 use Rattle.flash_device.proofs.DeviceLemmas.{length-bytes_in}
-use Rattle.check_changes.specs.Areas.AreaChanges.{is_difference}
+use Rattle.check_changes.specs.Areas.{is_difference}
 use Rattle.check_changes.proofs.ComponentLemmas.Reads.{differ-all, same-all, same-more}
 use Rattle.check_changes.proofs.ImageLemmas.{both-then, OnBoth-before}
 use Rattle.check_changes.proofs.components.comparison.same_bytes.Goals as goal
@@ -23,6 +23,6 @@ loop-number-preserved g c =
 pub returns-clause-same : goal.returns-clause-same
 returns-clause-same g c = λ h k.
     let r = c.args.regions in
-    let old = length-bytes_in r.old _ c.requires.regions.old.inside in
-    let new = length-bytes_in r.new _ c.requires.regions.new.inside in
+    let old = length-bytes_in r.old _ c.requires.regions.0.inside in
+    let new = length-bytes_in r.new _ c.requires.regions.1.inside in
     same-all _ _ c.loop-number.number (omega (arith, old, c.requires.same_size)) (omega (arith, new)) (c.loop-number.invariant.same h k)

@@ -2,7 +2,7 @@ use Rattle.std.proofs.Common.{◌≤◌, length, arith}
 use Rattle.flash_device.proofs.DeviceLemmas.{honest_still}
 use Rattle.flash_device.proofs.WindowLemmas.{HasRead-then}
 use Rattle.flash_map.specs.Areas.{area_end}
-use Rattle.check_findings.specs.Image.ImageFindings.{is_wanted}
+use Rattle.check_findings.specs.ImageFindings.{is_wanted}
 use Rattle.check_findings.proofs.ImageLemmas.Regions.{filtered, wanted_more}
 use Rattle.check_findings.proofs.image.choice.wanted_areas.Goals as goal
 

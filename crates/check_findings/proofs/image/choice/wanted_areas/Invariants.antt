@@ -2,8 +2,8 @@ use Rattle.std.proofs.Common.{◌≡◌, ◌≤◌, ℕ, All, List, length, take
 use Rattle.std.specs.Prelude.{filter}
 use Rattle.flash_device.specs.Pages.{HasRead, OnHonest}
 use Rattle.flash_map.specs.Areas.{area_end}
-use Rattle.check_findings.specs.Image.ImageFindings.{is_wanted}
-use Rattle.check_findings.specs.Image.Lookups.{HasNames}
+use Rattle.check_findings.specs.ImageFindings.{is_wanted}
+use Rattle.check_findings.specs.ImageFindings.{HasNames}
 use Rattle.check_findings.proofs.image.choice.wanted_areas.Given as goal
 
 abbrev pub invariant-loop-area : goal.invariant-loop-area

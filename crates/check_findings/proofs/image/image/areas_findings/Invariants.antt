@@ -1,8 +1,8 @@
 use Rattle.std.proofs.Common.{◌≡◌, ◌+◌, ◌-◌, ◌*◌, ◌/◌, ◌++◌, ℕ, List, drop, length}
 use Rattle.flash_device.specs.Pages.{HasRead, OnHonest}
-use Rattle.check_findings.specs.Image.ImageFindings.{areas_findings}
-use Rattle.check_findings.specs.Image.Lookups.{HasNames}
-use Rattle.check_findings.specs.Image.RegionAreas.{AreChecked, region_areas}
+use Rattle.check_findings.specs.ImageFindings.{areas_findings}
+use Rattle.check_findings.specs.ImageFindings.{HasNames}
+use Rattle.check_findings.specs.ImageFindings.{AreChecked, region_areas}
 use Rattle.check_findings.proofs.image.image.areas_findings.Given as goal
 
 abbrev pub invariant-loop-area : goal.invariant-loop-area

@@ -1,7 +1,7 @@
 use Rattle.std.proofs.Common.{◌≤◌, ◌∙◌, All, length, ap, subst, sym, arith}
 use Rattle.flash_device.proofs.DeviceLemmas.{honest_still}
 use Rattle.flash_map.specs.Areas.{area_end}
-use Rattle.check_findings.specs.Image.RegionAreas.{region_areas, sum_sizes}
+use Rattle.check_findings.specs.ImageFindings.{region_areas, sum_sizes}
 use Rattle.check_findings.proofs.ImageLemmas.Regions.{regions_of, found_image}
 use Rattle.check_findings.proofs.image.image.check_image.Goals as goal
 

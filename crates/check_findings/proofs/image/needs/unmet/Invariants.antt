@@ -1,5 +1,5 @@
 use Rattle.std.proofs.Common.{◌≡◌, drop}
-use Rattle.check_findings.specs.Image.Needs.{unmet, wish_of}
+use Rattle.check_findings.specs.Needs.{unmet, wish_of}
 use Rattle.check_findings.proofs.image.needs.unmet.Given as goal
 
 abbrev pub invariant-loop-finding : goal.invariant-loop-finding

@@ -4,7 +4,7 @@ use Rattle.flash_map.specs.Fmap.{found_from, found_in}
 use Rattle.flash_device.proofs.DeviceLemmas.{honest_still}
 use Rattle.flash_map.specs.declared.areas.NumberedArea.{NumberedArea}
 use Rattle.check_findings.specs.declared.map.finding.MapFinding.{MapFinding}
-use Rattle.check_findings.specs.Map.MapFindings.{findings_of, map_findings}
+use Rattle.check_findings.specs.MapFindings.{findings_of, map_findings}
 use Rattle.flash_map.specs.Areas.{image_areas}
 use Rattle.check_findings.proofs.map.check.check_map.Goals as goal
 use Rattle.check_findings.proofs.map.check.check_map.Goals.{in-Some+in_ok-next-in-Some+in_ok-findings-in-Some, in-None+in_ok-findings-in-None}

@@ -1,6 +1,6 @@
 use Rattle.std.proofs.Common.{◌≡◌, ◌++◌, drop}
 use Rattle.std.specs.List.{flat_map}
-use Rattle.check_findings.specs.Map.MapFindings.{area_findings}
+use Rattle.check_findings.specs.MapFindings.{area_findings}
 use Rattle.check_findings.proofs.map.findings.push_area_findings.Given as goal
 
 abbrev pub invariant-loop-a : goal.invariant-loop-a

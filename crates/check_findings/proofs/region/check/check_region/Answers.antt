@@ -1,5 +1,5 @@
 use Rattle.std.proofs.Common.{[], ap, ◌∙◌}
-use Rattle.check_findings.specs.Region.RegionFindings.{all_marked, region_findings}
+use Rattle.check_findings.specs.RegionFindings.{all_marked, region_findings}
 use Rattle.check_findings.proofs.region.check.check_region.Goals as goal
 
 pub returns-clause-findings : goal.returns-clause-findings

@@ -17,7 +17,7 @@ loop-cell-preserved g c =
     let answer = rw is at c.in-Ok-Cell.ensures.answer in
     let moved = rw is at c.in-Ok-Cell.ensures.moved in (
       checking_more g.F.Flash.facts c.args.region c.loop-cell.walk c.loop-cell.findings.items c.loop-cell.count _ _ c.requires c.loop-cell.invariant.0 c.in-Ok-Cell.cell _ _ _ _ _ _ _
-          given reads refl c.in_ok-push_cell-in-Ok-Cell.ensures.after refl answer moved c.with-count.ensures.before c.with-count.ensures.is c.in_ok-push_cell-in-Ok-Cell.ensures.found,
+          given reads refl c.in_ok-push_cell-in-Ok-Cell.ensures.after refl answer moved c.with-count.ensures c.in_ok-push_cell-in-Ok-Cell.ensures.found,
       ap (λ at. at + c.in-Ok-Cell.cell.span) given.1 ∙ sym (ap (λ (w : Walking). w.at) moved),
     )
 

@@ -3,7 +3,7 @@ use Rattle.std.specs.List.{position_from}
 use Rattle.flash_device.specs.Regions.{bytes_in}
 use Rattle.flash_device.proofs.DeviceLemmas.{length-bytes_in}
 use Rattle.flash_device.proofs.WindowLemmas.{HasRead-then}
-use Rattle.check_findings.specs.Region.RegionFindings.{is_filled, tail_bytes}
+use Rattle.check_findings.specs.RegionFindings.{is_filled, tail_bytes}
 use Rattle.check_findings.proofs.RegionLemmas.Tails.{filled_next, none_left}
 use Rattle.check_findings.proofs.region.tail.find_filled.Goals as goal
 

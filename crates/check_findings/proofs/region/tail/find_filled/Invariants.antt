@@ -1,7 +1,7 @@
 use Rattle.std.proofs.Common.{◌≡◌, ◌+◌, ◌*◌, drop}
 use Rattle.std.specs.List.{position_from}
 use Rattle.flash_device.specs.Pages.{HasRead, OnHonestIn}
-use Rattle.check_findings.specs.Region.RegionFindings.{is_filled, tail_bytes}
+use Rattle.check_findings.specs.RegionFindings.{is_filled, tail_bytes}
 use Rattle.check_findings.proofs.region.tail.find_filled.Given as goal
 
 abbrev pub invariant-loop-i : goal.invariant-loop-i

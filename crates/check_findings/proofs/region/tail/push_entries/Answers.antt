@@ -1,13 +1,14 @@
-use Rattle.std.proofs.Common.{◌≡◌, ◌+◌, ◌*◌, ◌++◌, sym, add-one, append-nil, append_assoc, subst, arith}
+use Rattle.std.proofs.Common.{◌≡◌, ◌+◌, ◌*◌, ◌++◌, sym, append-nil, drop, append_assoc, subst, arith}
 use Rattle.flash_device.specs.Regions.{bytes_in}
 use Rattle.flash_device.proofs.DeviceLemmas.{honest_still, length-bytes_in}
 use Rattle.flash_device.proofs.WindowLemmas.{HasRead-none, HasRead-then}
-use Rattle.check_findings.specs.Region.RegionFindings.{entries_findings, entry_findings}
+use Rattle.check_findings.specs.RegionFindings.{begins_with_entry, entries_findings}
+use Rattle.check_findings.specs.Lists.{only_if}
+use Rattle.check_findings.specs.declared.region.finding.RegionFinding.TheVariants.{TailEntry}
 use Rattle.check_findings.proofs.RegionLemmas.Tails.{entries_last}
 use Rattle.check_findings.proofs.region.tail.push_entries.Goals as goal
 
 pub loop-i-init : goal.loop-i-init
-unfolding entries_findings
 loop-i-init g c = record { read = HasRead-none _ _; found = λ h. sym (append-nil c.args.findings.now.items) }
 
 pub loop-i-preserved : goal.loop-i-preserved
@@ -22,7 +23,7 @@ loop-i-preserved g c =
       read = HasRead-then _ _ 1 0 _ _ _ had.read entry.after.read;
       found = λ h.
           let has = rw (device.unchanged h) at (entry.has (honest_still device.calls.same_honesty h)) in
-          rw (add-one i, entries_last i at x, sym (append_assoc c.args.findings.now.items (entries_findings i at x) (entry_findings (at + 64 * i) x)), sym (had.found h)) (rw has at c.in_ok-push_if.ensures);
+          rw (entries_last i at x, sym (append_assoc c.args.findings.now.items (entries_findings i at x) (only_if (begins_with_entry (drop (at + 64 * i) x)) (TailEntry (at + 64 * i)))), sym (had.found h)) (rw has at c.in_ok-push_if.ensures);
     }
 
 pub returns-clause-found : goal.returns-clause-found

@@ -1,14 +1,13 @@
-use Rattle.std.proofs.Common.{rules}
-use Rattle.check_changes.specs.Components.Listings.{IsListedIn}
-use Rattle.check_changes.proofs.ComponentLemmas.FirstLemmas.{IsFirst, first_listed, first_state}
+use Rattle.std.proofs.Common.{◌≡◌, rules}
+use Rattle.std.specs.Prelude.{option_copied}
+use Rattle.check_changes.specs.Components.{first_of}
+use Rattle.check_changes.specs.Listings.{IsListedIn}
+use Rattle.check_changes.proofs.ComponentLemmas.FirstLemmas.{first_listed}
 use Rattle.check_changes.proofs.components.first.Listing.namesake.Goals as goal
 
 pub returns : goal.returns
 returns c =
     let l = c.args.self.now in
     let name = c.args.listed.now.name in
-    let is : IsFirst name l.all.now c.copied.result = search (rules, l.notes name) in
-    record {
-      first = λ x. first_state name l.all.now x _ is;
-      listed = first_listed name l.all.now (IsListedIn l.region.size) _ is l.cells;
-    }
+    let is : option_copied c.copied.result ≡ first_of name l.all.now = search (rules, l.notes name) in
+    record { first = is; listed = first_listed name l.all.now (IsListedIn l.region.size) _ is l.cells }

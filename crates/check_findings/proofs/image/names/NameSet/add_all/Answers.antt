@@ -1,5 +1,5 @@
 use Rattle.std.proofs.Common.{◌++◌, take}
-use Rattle.check_findings.specs.Image.Lookups.{HasNames}
+use Rattle.check_findings.specs.ImageFindings.{HasNames}
 use Rattle.check_findings.proofs.ImageLemmas.NameLemmas.{texts, has_more, one_more}
 use Rattle.flash_map.proofs.NameLemmas.{one_taken}
 use Rattle.check_findings.proofs.image.names.NameSet.add_all.Goals as goal

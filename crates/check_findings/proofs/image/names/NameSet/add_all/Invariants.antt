@@ -1,5 +1,5 @@
 use Rattle.std.proofs.Common.{ℕ, List, ◌++◌, take}
-use Rattle.check_findings.specs.Image.Lookups.{HasNames}
+use Rattle.check_findings.specs.ImageFindings.{HasNames}
 use Rattle.check_findings.proofs.ImageLemmas.NameLemmas.{texts}
 use Rattle.check_findings.proofs.image.names.NameSet.add_all.Given as goal
 

@@ -1,6 +1,6 @@
 use Rattle.std.proofs.Common.{◌∙◌, ap}
 use Rattle.flash_format.specs.Flashmap.{text_of}
-use Rattle.check_findings.specs.Image.Lookups.{holds_name}
+use Rattle.check_findings.specs.ImageFindings.{holds_name}
 use Rattle.check_findings.proofs.image.names.NameSet.contains.Goals as goal
 
 pub returns : goal.returns

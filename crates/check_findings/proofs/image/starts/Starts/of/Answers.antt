@@ -1,4 +1,4 @@
-use Rattle.check_findings.specs.Image.Lookups.{HasStarts}
+use Rattle.check_findings.specs.ImageFindings.{HasStarts}
 use Rattle.flash_map.proofs.NameLemmas.{one_taken}
 use Rattle.check_findings.proofs.image.starts.Starts.of.Goals as goal
 

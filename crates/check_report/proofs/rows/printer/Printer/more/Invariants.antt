@@ -1,7 +1,6 @@
 use Rattle.std.proofs.Common.{Ok, map, take}
 use Rattle.std.specs.List.{flat_map}
-use Rattle.check_report.specs.Rows.Limits.{more_of, seen_kind}
-use Rattle.check_report.specs.Rows.Rows.{row_line}
+use Rattle.check_report.specs.Rows.Rows.{more_of, row_line, seen_kind}
 use Rattle.check_report.specs.Rows.Effects.{PrintsLines}
 use Rattle.check_report.proofs.rows.printer.Printer.more.Given as goal
 

@@ -18,7 +18,6 @@ is_bad_map (of_map.AreaOutside a) = true
 is_bad_map (of_map.SameName a first) = true
 is_bad_map (of_map.Overlap a other) = true
 is_bad_map of_map.TooManyAreas = true
-is_bad_map of_map.NoMapArea = true
 is_bad_map (of_map.MapAreaMisses a) = true
 is_bad_map (of_map.Map map) = false
 is_bad_map (of_map.OtherMap map) = false
@@ -35,8 +34,7 @@ is_bad_hash needs (hashes.Valid algorithm) = false
 abbrev pub is_bad_region : Bool → RegionFinding → Bool
 is_bad_region needs of_region.BadSize = true
 is_bad_region needs of_region.NotCbfs = true
-is_bad_region needs (of_region.Component at name shadowed content) =
-    shadowed || is_bad_hash needs content.hash
+is_bad_region needs (of_region.Component at name shadowed c) = shadowed || is_bad_hash needs c.hash
 is_bad_region needs (of_region.TailFilled at) = true
 is_bad_region needs (of_region.TailEntry at) = true
 is_bad_region needs (of_region.Damaged at kind) = true
@@ -44,10 +42,8 @@ is_bad_region needs (of_region.Deleted at) = false
 is_bad_region needs of_region.Complete = false
 is_bad_region needs (of_region.Tail at) = false
 is_bad_region needs (of_region.Components n) = false
-is_bad_region needs of_region.NoComponents = false
 is_bad_region needs (of_region.FreeBytes n) = false
 is_bad_region needs (of_region.LargestContent n) = false
-is_bad_region needs of_region.NoRoom = false
 
 abbrev pub is_bad : Bool → ImageFinding → Bool
 is_bad needs (Map finding) = is_bad_map finding

@@ -4,10 +4,9 @@ use Rattle.std.specs.Prelude.{if◌then◌else◌}
 use Rattle.std.specs.List.{filter_map, slice_get}
 use Rattle.std.specs.Str.{bytes_eq}
 use Rattle.flash_format.specs.Flashmap.{is_area}
-use Rattle.flash_map.specs.declared.areas.NumberedArea.{NumberedArea}
 use Rattle.check_findings.specs.declared.region.finding.Content.{Content}
 use Rattle.check_findings.specs.declared.region.finding.RegionFinding.{RegionFinding}
-use Rattle.check_findings.specs.declared.region.finding.RegionFinding.TheVariants as of_region
+use Rattle.check_findings.specs.declared.region.finding.RegionFinding.TheVariants.{Component}
 use Rattle.check_findings.specs.declared.image.finding.ImageFinding.{ImageFinding}
 use Rattle.check_findings.specs.declared.image.finding.ImageFinding.TheVariants.{Region}
 use Rattle.check_findings.specs.declared.image.needs.Need.{Need}
@@ -32,24 +31,21 @@ is_met (places.At start) content size = content.start == start
 is_met places.End content size = content.start + content.len == size
 
 abbrev pub content_named : List ℕ → RegionFinding → Option Content
-content_named name (of_region.Component at other shadowed content) =
-    if bytes_eq other name then Some content else None
+content_named name (Component at other is c) = if bytes_eq other name then Some c else None
 content_named name _ = None
 
 -- the first content of this name
 abbrev pub first_content : List ℕ → List RegionFinding → Option Content
 first_content name findings = slice_get (filter_map (content_named name) findings) 0
 
--- the reason if the content doesn't meet the need
-abbrev pub unmet_by : NumberedArea → Wish → Option Content → Option NeedFinding
-unmet_by a wish None = Some Missing
-unmet_by a wish (Some content) =
-    if is_met wish.place content a.area.size then None else Some (Elsewhere content.start)
+-- the reason if the content doesn't meet the need, in an area of this size
+abbrev pub unmet_by : NeededPlace → ℕ → Option Content → Option NeedFinding
+unmet_by place size None = Some Missing
+unmet_by place size (Some c) = if is_met place c size then None else Some (Elsewhere c.start)
 
 -- the reason if the findings don't meet the need, by the first area of this name
 abbrev pub unmet : List ImageFinding → Wish → Option NeedFinding
 unmet [] wish = Some Missing
-unmet (Region a of_region ∷ findings) wish =
-    if is_area wish.area a.area then unmet_by a wish (first_content wish.name of_region)
-    else unmet findings wish
+unmet (Region a all ∷ findings) wish = if is_area wish.area a.area
+    then unmet_by wish.place a.area.size (first_content wish.name all) else unmet findings wish
 unmet (_ ∷ findings) wish = unmet findings wish

@@ -1,21 +1,22 @@
 -- A law about changes of areas.
-use Rattle.std.specs.Prelude.{◌≡◌, ◌≢◌, ℕ, ◌+◌, ◌<◌, ◌≤◌, Bool, false, ◌&&◌, List, Contains, IsTrue, length, slice_index, nat_lt, nat_le, Some}
+use Rattle.std.specs.Prelude.{◌≡◌, ◌≢◌, ℕ, ◌+◌, ◌<◌, ◌≤◌, Bool, true, false, ◌&&◌, List, Contains, IsTrue, length, slice_index, nat_lt, nat_le, Some}
 use Rattle.std.specs.List.{list_any}
 use Rattle.flash_map.specs.declared.areas.NumberedArea.{NumberedArea}
 use Rattle.flash_map.specs.Areas.{area_end}
 use Rattle.check_changes.specs.declared.areas.change.AreaChange.{AreaChange}
-use Rattle.check_changes.specs.declared.areas.change.AreaChange.TheVariants.{Differs, NotCompared}
-use Rattle.check_changes.specs.Areas.AreaChanges.{pairs, area_changes}
+use Rattle.check_changes.specs.declared.areas.change.AreaDifference.{AreaDifference}
+use Rattle.check_changes.specs.declared.areas.change.AreaDifference.TheVariants.{Differs, NotCompared}
+use Rattle.check_changes.specs.Areas.{pairs, area_changes}
 
--- the area has the byte at this offset
-abbrev pub has_byte : NumberedArea → ℕ → Bool
-has_byte a at = nat_le a.area.offset at && nat_lt at (area_end a.area)
+-- different outside smaller areas, or not compared
+abbrev pub is_unequal : AreaDifference → Bool
+is_unequal (Differs blocks own) = nat_lt 0 own
+is_unequal NotCompared = true
+is_unequal _ = false
 
--- the change reports the byte's area as different outside smaller areas, or as not compared
+-- the change reports an area with the byte at this offset as different or not compared
 abbrev pub reports : ℕ → AreaChange → Bool
-reports at (Differs a blocks own) = has_byte a at && nat_lt 0 own
-reports at (NotCompared a) = has_byte a at
-reports at _ = false
+reports at c = nat_le c.area.area.offset at && nat_lt at (area_end c.area.area) && is_unequal c.what
 
 -- Both areas have equal sizes, lie in their images and differ in byte i.
 pub record DifferAt (x y : List ℕ) (old new : NumberedArea) (i : ℕ) : Type 0 where
@@ -29,6 +30,5 @@ pub record DifferAt (x y : List ℕ) (old new : NumberedArea) (i : ℕ) : Type 0
 abbrev pub DifferencesAreReported : Type 0
 DifferencesAreReported =
     (x y : List ℕ) (olds news : List NumberedArea) (old new : NumberedArea) (i : ℕ)
-    → Contains (pairs olds news) (record { old = Some old; new = new })
-    → DifferAt x y old new i
+    → Contains (pairs olds news) (record { old = Some old; new = new }) → DifferAt x y old new i
     → IsTrue (list_any (reports (new.area.offset + i)) (area_changes x olds y news))

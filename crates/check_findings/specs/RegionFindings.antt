@@ -1,8 +1,9 @@
 -- Findings of a region.
-use Rattle.std.specs.Prelude.{ℕ, zero, suc, ◌+◌, ◌-◌, ◌/◌, Bool, false, not, ◌||◌}
-use Rattle.std.specs.Prelude.{List, [], ◌∷◌, ◌++◌, drop, filter, length, max, slice_range}
-use Rattle.std.specs.Prelude.{nat_le, is_some, ◌==◌, if◌then◌else◌}
-use Rattle.std.specs.List.{list_any, position_from, scan, sum_by}
+use Rattle.std.specs.Prelude.{ℕ, ◌+◌, ◌-◌, ◌*◌, ◌/◌, Bool, true, false, not, ◌||◌}
+use Rattle.std.specs.Prelude.{List, [], ◌∷◌, ◌++◌, drop, filter, length, map, max, slice_range}
+use Rattle.std.specs.Prelude.{slice_index_or, slice_set}
+use Rattle.std.specs.Prelude.{Some, None, nat_le, is_some, ◌==◌, if◌then◌else◌}
+use Rattle.std.specs.List.{flat_map, list_any, position_from, range_with_len, scan, sum_by}
 use Rattle.std.specs.Option.{option_map_or}
 use Rattle.std.specs.Str.{bytes_eq}
 use Rattle.flash_format.specs.Head.{head_of, is_free}
@@ -24,6 +25,8 @@ use Rattle.check_findings.specs.declared.region.finding.HashFinding.{HashFinding
 use Rattle.check_findings.specs.declared.region.finding.HashFinding.TheVariants as hashes
 use Rattle.check_findings.specs.declared.region.finding.RegionFinding.{RegionFinding}
 use Rattle.check_findings.specs.declared.region.finding.RegionFinding.TheVariants as findings
+use Rattle.check_findings.specs.declared.region.finding.RegionFinding.TheVariants.{Component as Found}
+use Rattle.check_findings.specs.declared.region.count.Count.{Count}
 
 abbrev pub hash_finding : HashState → HashFinding
 hash_finding states.Absent = hashes.Missing
@@ -32,16 +35,12 @@ hash_finding (states.Invalid digest) = hashes.Invalid (algorithm digest)
 hash_finding states.Unsupported = hashes.Unsupported
 
 abbrev pub component_content : Component → Content
-component_content c = let h = head_of c.bytes in record {
-  start = c.at + h.offset;
-  kind = h.kind;
-  len = h.len;
-  compression = packing c.attributes;
-  hash = hash_finding (hash_state c.attributes c.content);
-}
+component_content c = let h = head_of c.bytes in let code = packing c.attributes in
+    let hash = hash_finding (hash_state c.attributes c.content) in
+    record { start = c.at + h.offset; kind = h.kind; len = h.len; compression = code; hash = hash }
 
 abbrev pub component_finding : Bool → Component → RegionFinding
-component_finding shadowed c = findings.Component c.at c.name shadowed (component_content c)
+component_finding shadowed c = Found c.at c.name shadowed (component_content c)
 
 -- of an entry; an empty entry of type 0 is a deleted component
 abbrev pub cell_findings : ℕ → List ℕ → List RegionFinding
@@ -51,8 +50,7 @@ cell_findings at x =
 
 -- of entries from this offset on
 unfoldable pub cells_findings : ℕ → List (List ℕ) → List RegionFinding
-cells_findings at [] = []
-cells_findings at (x ∷ cells) = cell_findings at x ++ cells_findings (at + length x) cells
+cells_findings at cells = flat_map (λ l. l) (scan (λ at x. at + length x) cell_findings at cells)
 
 -- ---- the end of the entries
 
@@ -67,20 +65,15 @@ is_filled b = not (b == 0xff || b == 0x00)
 abbrev pub tail_bytes : ℕ → List ℕ → List ℕ
 tail_bytes at x = slice_range x at (length x - 4)
 
--- of an entry in the tail
-abbrev pub entry_findings : ℕ → List ℕ → List RegionFinding
-entry_findings at x = only_if (begins_with_entry (drop at x)) (findings.TailEntry at)
-
--- of n offsets in steps of 64
-unfoldable pub entries_findings : ℕ → ℕ → List ℕ → List RegionFinding
-entries_findings zero at x = []
-entries_findings (suc n) at x = entry_findings at x ++ entries_findings n (at + 64) x
+-- of the entries at n offsets in steps of 64
+abbrev pub entries_findings : ℕ → ℕ → List ℕ → List RegionFinding
+entries_findings n at x = map findings.TailEntry
+    (filter (λ p. begins_with_entry (drop p x)) (map (λ i. at + 64 * i) (range_with_len 0 n)))
 
 -- of the tail, its first filled byte, and entries; a blank tail has no entries
 unfoldable pub tail_findings : ℕ → List ℕ → List RegionFinding
-tail_findings at x =
-    findings.Tail at ∷ option_map_or (λ place.
-    findings.TailFilled place ∷ entries_findings ((length x - at) / 64) at x)
+tail_findings at x = findings.Tail at ∷ option_map_or (λ place. findings.TailFilled place
+    ∷ entries_findings ((length x - at) / 64) at x)
     (position_from is_filled at (tail_bytes at x)) []
 
 -- of the end of the entries
@@ -97,9 +90,6 @@ shape_findings _ = []
 
 -- ---- counts
 
-unfoldable pub free_bytes : List (List ℕ) → ℕ
-free_bytes cells = sum_by length (filter (λ x. is_free (head_of x)) cells)
-
 -- the usable bytes of an empty run: four less at the end of the region
 abbrev pub usable : ℕ → ℕ → ℕ → ℕ
 usable size start end = end - start - (if end == size then 4 else 0)
@@ -108,47 +98,57 @@ usable size start end = end - start - (if end == size then 4 else 0)
 unfoldable pub largest_room : ℕ → ℕ → ℕ → List (List ℕ) → ℕ
 largest_room size start at [] = usable size start at
 largest_room size start at (x ∷ cells) =
-    let end = at + length x in
-    if is_free (head_of x) then largest_room size start end cells
+    let end = at + length x in if is_free (head_of x) then largest_room size start end cells
     else max (usable size start at) (largest_room size end end cells)
 
--- In `room` bytes, 28 bytes hold the header and a name of at most 3 bytes with its NUL.
-abbrev pub count_findings : ℕ → ℕ → ℕ → List RegionFinding
-count_findings components free room =
-    (if components == 0 then findings.NoComponents else findings.Components components)
-    ∷ findings.FreeBytes free
-    ∷ (if nat_le 28 room then findings.LargestContent (room - 28) else findings.NoRoom) ∷ []
+-- no counts, before the first entry of a region of this size
+abbrev pub nothing : ℕ → Count
+nothing size = record { size = size; components = 0; free = 0; start = 0; room = 0 }
 
--- of the counts in a region of this size
-abbrev pub cell_count_findings : ℕ → List (List ℕ) → List RegionFinding
-cell_count_findings size cells =
-    count_findings (length (components_from 0 cells)) (free_bytes cells)
-    (largest_room size 0 0 cells)
+-- after an entry of this length
+abbrev pub count_after : Count → Bool → ℕ → ℕ → Count
+count_after n free at len = let room = max n.room (usable n.size n.start at) in
+    if free then record n { free = n.free + len }
+    else record n { components = n.components + 1; room = room; start = at + len }
+
+-- of these counts, and cells from `at` on. In `room` bytes, 28 bytes hold the header and a name of
+-- at most 3 bytes with its NUL.
+abbrev pub count_findings : Count → ℕ → List (List ℕ) → List RegionFinding
+count_findings n at cells = let room = max n.room (largest_room n.size n.start at cells) in
+    findings.Components (n.components + length (components_from at cells))
+    ∷ findings.FreeBytes (n.free + sum_by length (filter (λ x. is_free (head_of x)) cells))
+    ∷ findings.LargestContent (if nat_le 28 room then Some (room - 28) else None) ∷ []
 
 -- ---- the region
 
 -- a bad shape alone, or the findings of the entries, of their end, and of the counts
 unfoldable pub walk_findings : List ℕ → List RegionFinding
-walk_findings x =
-    refused_or shape_findings (shape_fault x)
-    (cells_findings 0 (cut x).cells
+walk_findings x = refused_or shape_findings (shape_fault x) (cells_findings 0 (cut x).cells
     ++ (end_findings x (place_after 0 (cut x).cells) (cut x).end
-    ++ cell_count_findings (length x) (cut x).cells))
+    ++ count_findings (nothing (length x)) 0 (cut x).cells))
 
 -- ---- shadowed components
 
 abbrev pub is_named : List ℕ → RegionFinding → Bool
-is_named name (findings.Component at other shadowed content) = bytes_eq name other
+is_named name (Found at other is content) = bytes_eq name other
 is_named name _ = false
 
 -- a component is shadowed if an earlier component has its name
 abbrev pub marked : List RegionFinding → RegionFinding → RegionFinding
-marked earlier (findings.Component at name shadowed content) =
-    findings.Component at name (shadowed || list_any (is_named name) earlier) content
+marked earlier (Found at name is c) = Found at name (is || list_any (is_named name) earlier) c
 marked earlier other = other
 
 unfoldable pub all_marked : List RegionFinding → List RegionFinding → List RegionFinding
 all_marked earlier all = scan (λ earlier finding. finding ∷ earlier) marked earlier all
+
+-- with a mark
+abbrev pub shadowed : RegionFinding → RegionFinding
+shadowed (Found at name is content) = Found at name true content
+shadowed other = other
+
+-- the component at this index is marked
+abbrev pub mark_at : List RegionFinding → ℕ → List RegionFinding
+mark_at all i = slice_set all i (shadowed (slice_index_or all i findings.NotCbfs))
 
 -- of the walk, with marks
 unfoldable pub region_findings : List ℕ → List RegionFinding

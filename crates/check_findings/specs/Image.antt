@@ -1,5 +1,0 @@
-pub mod ImageFindings
-pub mod RegionAreas
-pub mod Lookups
-pub mod Verdicts
-pub mod Needs

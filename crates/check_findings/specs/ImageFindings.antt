@@ -1,0 +1,119 @@
+-- Findings of an image. This project defines their order and the choice of regions.
+use Rattle.std.specs.Prelude.{◌≡◌, ℕ, ◌+◌, ◌-◌, ◌*◌, ◌≤◌, Bool, false, not, ◌&&◌, ◌||◌, All, List}
+use Rattle.std.specs.Prelude.{[], ◌∷◌, ◌++◌, filter, length, map, is_none, is_some, nat_le, nat_lt}
+use Rattle.std.specs.Prelude.{◌==◌, if◌then◌else◌}
+use Rattle.std.specs.List.{enumerate_from, find, flat_map, list_any, scan, sum_by}
+use Rattle.std.specs.Option.{option_map_or}
+use Rattle.std.specs.Ordering.{nat_cmp}
+use Rattle.std.specs.Str.{bytes_eq}
+use Rattle.std.specs.Cmp.Lexicographic.{slice_cmp}
+use Rattle.std.specs.BTreeMap.{get, get_by}
+use lib.Chars.{codes}
+use Rattle.check_findings.specs.Lists.{only_if}
+use Rattle.flash_format.specs.Flashmap.{is_area}
+use Rattle.flash_device.specs.Regions.{Range, bytes_in}
+use Rattle.flash_map.specs.declared.areas.NumberedArea.{NumberedArea}
+use Rattle.check_findings.specs.MapFindings.{map_findings}
+use Rattle.flash_map.specs.Areas.{area_end, has_name, image_areas}
+use Rattle.check_findings.specs.RegionFindings.{begins_with_entry, region_findings}
+use Rattle.check_findings.specs.declared.image.finding.ImageFinding.{ImageFinding}
+use Rattle.check_findings.specs.declared.image.finding.ImageFinding.TheVariants.{Map, Region}
+use Rattle.check_findings.specs.declared.image.finding.ImageFinding.TheVariants.{NotChecked, NoArea}
+use Rattle.check_findings.specs.declared.image.names.NameSet.{NameSet}
+use Rattle.check_findings.specs.declared.image.starts.Starts.{Starts}
+
+abbrev pub range_of : NumberedArea → Range
+range_of a = record { start = a.area.offset; size = a.area.size }
+
+abbrev pub bytes_of : List ℕ → NumberedArea → List ℕ
+bytes_of image a = bytes_in (range_of a) image
+
+-- the area has a name of the list
+abbrev pub has_one_of : List (List ℕ) → NumberedArea → Bool
+has_one_of names a = list_any (λ name. is_area name a.area) names
+
+-- the given names and the default region
+abbrev pub expected_names : List (List ℕ) → List (List ℕ) → List (List ℕ)
+expected_names names expected = (names ++ codes "COREBOOT" ∷ []) ++ expected
+
+-- the area begins at `at`, and has room for a header and fewer than `size` bytes
+abbrev pub begins_at : ℕ → ℕ → NumberedArea → Bool
+begins_at at size a = a.area.offset == at && (nat_le 24 a.area.size && nat_lt a.area.size size)
+
+-- a smaller area has the same offset, and so the same entry
+abbrev pub has_smaller : List NumberedArea → NumberedArea → Bool
+has_smaller areas a = list_any (begins_at a.area.offset a.area.size) areas
+
+-- the area lies inside the image, and has a name of the list, or begins with an entry and is the
+-- smallest at its offset
+abbrev pub is_wanted : List ℕ → List (List ℕ) → List NumberedArea → NumberedArea → Bool
+is_wanted image names areas a =
+    nat_le (area_end a.area) (length image) && (has_one_of names a
+    || (not (has_smaller areas a) && begins_with_entry (bytes_of image a)))
+
+abbrev pub wanted_areas : List ℕ → List (List ℕ) → List NumberedArea → List NumberedArea
+wanted_areas image names areas = filter (is_wanted image names areas) areas
+
+-- the areas to check without expected names
+abbrev pub cbfs_areas : List ℕ → List NumberedArea → List NumberedArea
+cbfs_areas image areas = wanted_areas image [] areas
+
+-- of an area, with `left` bytes for checks
+abbrev pub area_finding : List ℕ → List (List ℕ) → ℕ → NumberedArea → ImageFinding
+area_finding image names left a = if nat_le a.area.size left
+    then Region a (region_findings (bytes_of image a)) else NotChecked a (has_one_of names a)
+
+-- the remaining bytes for checks
+abbrev pub left_after : ℕ → NumberedArea → ℕ
+left_after left a = if nat_le a.area.size left then left - a.area.size else left
+
+-- of the areas to check, with `left` bytes for checks
+abbrev pub areas_findings : List ℕ → List (List ℕ) → ℕ → List NumberedArea → List ImageFinding
+areas_findings image names left areas = scan left_after (area_finding image names) left areas
+
+-- of a name without an area, by its index
+abbrev pub missing_name : List NumberedArea → ℕ × List ℕ → List ImageFinding
+missing_name areas n = only_if (is_none (find (has_name n.1) areas)) (NoArea n.0)
+
+-- of the map, regions, and names without an area
+unfoldable pub image_findings : List ℕ → List (List ℕ) → List (List ℕ) → List ImageFinding
+image_findings image names expected =
+    let areas = image_areas image in let all = expected_names names expected in
+    map Map (map_findings image)
+    ++ areas_findings image all (2 * length image) (wanted_areas image all areas)
+    ++ flat_map (missing_name areas) (enumerate_from 0 names)
+
+-- ---- the checked areas
+
+abbrev pub region_area : ImageFinding → List NumberedArea
+region_area (Region a findings) = a ∷ []
+region_area _ = []
+
+abbrev pub region_areas : List ImageFinding → List NumberedArea
+region_areas findings = flat_map region_area findings
+
+abbrev pub sum_sizes : List NumberedArea → ℕ
+sum_sizes areas = sum_by (λ (a : NumberedArea). a.area.size) areas
+
+-- at most `most` areas lie inside an image of n bytes, and leave `left` of 2n bytes
+pub record AreChecked (n most left : ℕ) (areas : List NumberedArea) : Type 0 where
+  pub count : length areas ≤ most
+  pub inside : All (λ a. area_end a.area ≤ n) areas
+  pub total : sum_sizes areas + left ≤ 2 * n
+
+-- ---- tables of names and offsets
+
+abbrev pub holds_name : NameSet → List ℕ → Bool
+holds_name set name = is_some (get_by (λ k. slice_cmp nat_cmp name k.now) set.names)
+
+-- the set has exactly these names
+abbrev pub HasNames : NameSet → List (List ℕ) → Type 0
+HasNames set names = (name : List ℕ) → holds_name set name ≡ list_any (λ n. bytes_eq n name) names
+
+-- the table has a size below `size` at `at`
+abbrev pub is_below : Starts → ℕ → ℕ → Bool
+is_below s at size = option_map_or (λ n. nat_lt n size) (get nat_cmp s.smallest at) false
+
+-- the table has a smaller size exactly if a smaller area with room for an entry has the offset
+abbrev pub HasStarts : Starts → List NumberedArea → Type 0
+HasStarts s areas = (at size : ℕ) → is_below s at size ≡ list_any (begins_at at size) areas

@@ -1,2 +1,0 @@
-pub mod RegionFindings
-pub mod Reports
