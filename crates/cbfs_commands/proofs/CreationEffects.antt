@@ -31,16 +31,16 @@ all-written image filled mapped now read source n at len regions long is_filled 
     let all : filled ≡ replicate (length image) 0xff = is_filled ∙ ap (λ (l : List ℕ). erased ++ l) rest ∙ append-nil erased ∙ ap (λ k. (let l : List ℕ = replicate k 0xff in l)) long in
     is ∙ ap (λ (l : List ℕ). fold (λ image place. with_edit place formatted image) l regions) (is_mapped ∙ ap (λ (l : List ℕ). overwritten l at (take len read)) all ∙ ap (λ (l : List ℕ). overwritten (replicate (length image) 0xff) at (take len l)) same)
 
-module _ {F : Type 0} {facts : F → Device} {n : ℕ} (names : List (List ℕ)) {old new : Pages F} {source now : Device} {answer : CommandResult} (calls : Calls n (fault_count by_device answer) (facts old.device) (facts new.device)) (reads : Calls (source_calls (changes (creates names)) (length source.content)) (fault_count by_source answer) source now) where
-  pub creation : MayHaveWritten answer → (IsErrOf answer refusals.Output → ⊥) → OnHonest facts old.device (λ image. Serves (changes (creates names)) source → LeavesOr (facts new.device).content answer (outcome (changes (creates names)) image source.content))
-      → HasApplied facts n (creates names) old new source now answer
+module _ {F : Type 0} {n : ℕ} (names : List (List ℕ)) {old new : Pages F} {source now : Device} {answer : CommandResult} (calls : Calls n (fault_count by_device answer) old.device new.device) (reads : Calls (source_calls (changes (creates names)) (length source.content)) (fault_count by_source answer) source now) where
+  pub creation : MayHaveWritten answer → (IsErrOf answer refusals.Output → ⊥) → OnHonest old.device (λ image. Serves (changes (creates names)) source → LeavesOr new.device.content answer (outcome (changes (creates names)) image source.content))
+      → HasApplied n (creates names) old new source now answer
   creation may no_output left = record { calls = calls; source_calls = reads; no_output = no_output; spares = λ h. whole-image _ _ calls.same_length; refused = λ h. inl may; left = left; stopped = λ h serves. calls.same_length }
 
-  pub creation_stopped : (answer ≡ Err refusals.Device) ⊎ (answer ≡ Err refusals.Source) → HasApplied facts n (creates names) old new source now answer
+  pub creation_stopped : (answer ≡ Err refusals.Device) ⊎ (answer ≡ Err refusals.Source) → HasApplied n (creates names) old new source now answer
   creation_stopped failed = creation (inr failed) (λ output. elim failed [ inl device ↦ absurd cc | inr stopped ↦ absurd cc ]) (λ h serves. inr failed)
 
 -- a successful creation makes the image of its plan
-pub creation_done : {F : Type 0} {facts : F → Device} {n : ℕ} (names : List (List ℕ)) {old new : Pages F} {source now : Device} (plan : Plan) → Calls n 0 (facts old.device) (facts new.device) → Calls (source_calls (changes (creates names)) (length source.content)) 0 source now
-    → OnHonest facts old.device (λ image. IsTrue source.honest → ((let r : Result Plan Refusal = Ok plan in IsErrOf r refusals.Source) ⊎ (Ok plan ≡ plan_for (length image) names source.content)) × ((facts new.device).content ≡ created_image (length image) plan source.content))
-    → HasApplied facts n (creates names) old new source now (Ok tt)
+pub creation_done : {F : Type 0} {n : ℕ} (names : List (List ℕ)) {old new : Pages F} {source now : Device} (plan : Plan) → Calls n 0 old.device new.device → Calls (source_calls (changes (creates names)) (length source.content)) 0 source now
+    → OnHonest old.device (λ image. IsTrue source.honest → ((let r : Result Plan Refusal = Ok plan in IsErrOf r refusals.Source) ⊎ (Ok plan ≡ plan_for (length image) names source.content)) × (new.device.content ≡ created_image (length image) plan source.content))
+    → HasApplied n (creates names) old new source now (Ok tt)
 creation_done names plan calls reads made = creation names calls reads (inl refl) (λ output. absurd cc) (λ h serves. let m = made h (serves refl) in elim m.0 [ inl failed ↦ absurd cc | inr is ↦ inl (rw (← is) (refl, m.1)) ])

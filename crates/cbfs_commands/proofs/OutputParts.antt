@@ -71,33 +71,33 @@ pub record Telling (whole rest : Printout) (before after : Option (List ℕ)) : 
   pub is : whole ≡ text_then text rest
 
 -- the same for a device's bytes, after at most n reads
-pub record ToldSoFar {F W : Type 0} (facts : F → Device) (contents : W → Option (List ℕ)) (faults : W → ℕ) (n : ℕ) (whole rest : List ℕ → Printout) (old now : Pages F) (before after : W) : Type 0 where
-  pub reads : HasRead facts n 0 old now
+pub record ToldSoFar {F W : Type 0} (contents : W → Option (List ℕ)) (faults : W → ℕ) (n : ℕ) (whole rest : List ℕ → Printout) (old now : Pages F) (before after : W) : Type 0 where
+  pub reads : HasRead n 0 old now
   pub sink : faults before ≤ faults after
-  pub printout : OnHonest facts old.device (λ image. Telling (whole image) (rest image) (contents before) (contents after))
+  pub printout : OnHonest old.device (λ image. Telling (whole image) (rest image) (contents before) (contents after))
 
-module _ {F W : Type 0} {facts : F → Device} {contents : W → Option (List ℕ)} {faults : W → ℕ} where
+module _ {F W : Type 0} {contents : W → Option (List ℕ)} {faults : W → ℕ} where
   -- no output yet
   pub so_far-none : (n : ℕ) (whole rest : List ℕ → Printout) (p : Pages F) (out : W) → ((image : List ℕ) → whole image ≡ rest image)
-      → ToldSoFar facts contents faults n whole rest p p out out
+      → ToldSoFar contents faults n whole rest p p out out
   so_far-none n whole rest p out is = record {
-    reads = HasRead-within facts 0 n 0 p p (omega arith) (HasRead-none facts p);
+    reads = HasRead-within 0 n 0 p p (omega arith) (HasRead-none p);
     sink = omega arith;
-    printout = λ h. record { text = []; written = Appends-nil (contents out); is = is (facts p.device).content };
+    printout = λ h. record { text = []; written = Appends-nil (contents out); is = is p.device.content };
   }
 
-  module _ {n : ℕ} {whole rest : List ℕ → Printout} {old mid : Pages F} {a b : W} (p : ToldSoFar facts contents faults n whole rest old mid a b) where
+  module _ {n : ℕ} {whole rest : List ℕ → Printout} {old mid : Pages F} {a b : W} (p : ToldSoFar contents faults n whole rest old mid a b) where
     module _ {k : ℕ} {new : Pages F} {c : W} where
       -- one more text
-      pub so_far-more : {text : List ℕ → List ℕ} (m : ℕ) (next : List ℕ → Printout) → HasOutput facts contents faults k mid new b c (Ok tt) (λ image. shows (text image))
-          → OnHonest facts mid.device (λ image. rest image ≡ text_then (text image) (next image)) → n + k ≤ m → ToldSoFar facts contents faults m whole next old new a c
+      pub so_far-more : {text : List ℕ → List ℕ} (m : ℕ) (next : List ℕ → Printout) → HasOutput contents faults k mid new b c (Ok tt) (λ image. shows (text image))
+          → OnHonest mid.device (λ image. rest image ≡ text_then (text image) (next image)) → n + k ≤ m → ToldSoFar contents faults m whole next old new a c
       so_far-more {text} m next step is few = record {
-        reads = HasRead-within facts (n + k) m 0 old new few (HasRead-then facts n k 0 old mid new p.reads step.read);
+        reads = HasRead-within (n + k) m 0 old new few (HasRead-then n k 0 old mid new p.reads step.read);
         sink = omega (arith, p.sink, step.sink);
         printout = λ h.
             let so_far = p.printout h in
             let still = honest_still p.reads.device.calls.same_honesty h in
-            let image : List ℕ = (facts old.device).content in
+            let image : List ℕ = old.device.content in
             let piece = subst (λ (l : List ℕ). Appends (contents b) (contents c) (text l)) (p.reads.device.unchanged h) (printout-text _ _ _ (step.printout still)) in
             let left = subst (λ (l : List ℕ). rest l ≡ text_then (text l) (next l)) (p.reads.device.unchanged h) (is still) in
             record {
@@ -109,10 +109,10 @@ module _ {F W : Type 0} {facts : F → Device} {contents : W → Option (List �
       }
 
       -- the rest of the output
-      pub so_far-ends : {answer : CommandResult} {t : List ℕ → Printout} (m : ℕ) → HasOutput facts contents faults k mid new b c answer t
-          → OnHonest facts mid.device (λ image. rest image ≡ t image) → n + k ≤ m → HasOutput facts contents faults m old new a c answer whole
+      pub so_far-ends : {answer : CommandResult} {t : List ℕ → Printout} (m : ℕ) → HasOutput contents faults k mid new b c answer t
+          → OnHonest mid.device (λ image. rest image ≡ t image) → n + k ≤ m → HasOutput contents faults m old new a c answer whole
       so_far-ends {answer} {t} m last is few = record {
-        read = HasRead-within facts (n + k) m _ old new few (HasRead-then facts n k _ old mid new p.reads last.read);
+        read = HasRead-within (n + k) m _ old new few (HasRead-then n k _ old mid new p.reads last.read);
         sink = omega (arith, p.sink, last.sink);
         output = λ failed. omega (arith, p.sink, last.output failed);
         no_source = last.no_source;
@@ -124,11 +124,11 @@ module _ {F W : Type 0} {facts : F → Device} {contents : W → Option (List �
             (prints-then _ _ _ answer so_far.text _ so_far.written (subst (λ (l : List ℕ). PrintsOut (contents b) (contents c) answer (rest l)) (p.reads.device.unchanged h) here));
       }
 
-  module _ {k : ℕ} {old mid new : Pages F} {a b : W} {answer : CommandResult} {t : List ℕ → Printout} (printout : HasOutput facts contents faults k mid new a b answer t) where
+  module _ {k : ℕ} {old mid new : Pages F} {a b : W} {answer : CommandResult} {t : List ℕ → Printout} (printout : HasOutput contents faults k mid new a b answer t) where
     -- output after reads
-    pub printout-after : {n : ℕ} (m : ℕ) → HasRead facts n 0 old mid → n + k ≤ m → HasOutput facts contents faults m old new a b answer t
+    pub printout-after : {n : ℕ} (m : ℕ) → HasRead n 0 old mid → n + k ≤ m → HasOutput contents faults m old new a b answer t
     printout-after {n} m first few = record {
-      read = HasRead-within facts (n + k) m _ old new few (HasRead-then facts n k _ old mid new first printout.read);
+      read = HasRead-within (n + k) m _ old new few (HasRead-then n k _ old mid new first printout.read);
       sink = printout.sink;
       output = printout.output;
       no_source = printout.no_source;
@@ -137,37 +137,37 @@ module _ {F W : Type 0} {facts : F → Device} {contents : W → Option (List �
 
   module _ {k : ℕ} {old new : Pages F} {a b : W} {text : List ℕ → List ℕ} where
     -- a partial text is a prefix of the output
-    pub printout-stopped : {refusal : Refusal} {answer : CommandResult} (t : List ℕ → Printout) → HasOutput facts contents faults k old new a b (Err refusal) (λ image. shows (text image)) → IsErrAnd answer (λ r. r ≡ refusal)
-        → HasOutput facts contents faults k old new a b answer (λ image. text_then (text image) (t image))
-    printout-stopped {refusal} {answer} t printout is = subst (λ (r : CommandResult). HasOutput facts contents faults k old new a b r (λ image. text_then (text image) (t image))) (handed answer refusal is) (record {
+    pub printout-stopped : {refusal : Refusal} {answer : CommandResult} (t : List ℕ → Printout) → HasOutput contents faults k old new a b (Err refusal) (λ image. shows (text image)) → IsErrAnd answer (λ r. r ≡ refusal)
+        → HasOutput contents faults k old new a b answer (λ image. text_then (text image) (t image))
+    printout-stopped {refusal} {answer} t printout is = subst (λ (r : CommandResult). HasOutput contents faults k old new a b r (λ image. text_then (text image) (t image))) (handed answer refusal is) (record {
       read = printout.read;
       sink = printout.sink;
       output = printout.output;
       no_source = printout.no_source;
-      printout = λ h. prints-stopped _ _ refusal (text (facts old.device).content) (t (facts old.device).content) (printout.printout h);
+      printout = λ h. prints-stopped _ _ refusal (text old.device.content) (t old.device.content) (printout.printout h);
     })
 
     -- a complete output before the next output
-    pub so_far-of : (next : List ℕ → Printout) → HasOutput facts contents faults k old new a b (Ok tt) (λ image. shows (text image))
-        → ToldSoFar facts contents faults k (λ image. text_then (text image) (next image)) next old new a b
-    so_far-of next printout = record { reads = printout.read; sink = printout.sink; printout = λ h. record { text = text (facts old.device).content; written = printout-text _ _ _ (printout.printout h); is = refl } }
+    pub so_far-of : (next : List ℕ → Printout) → HasOutput contents faults k old new a b (Ok tt) (λ image. shows (text image))
+        → ToldSoFar contents faults k (λ image. text_then (text image) (next image)) next old new a b
+    so_far-of next printout = record { reads = printout.read; sink = printout.sink; printout = λ h. record { text = text old.device.content; written = printout-text _ _ _ (printout.printout h); is = refl } }
 
   -- by more calls
-  pub printout-within : {k : ℕ} {old new : Pages F} {a b : W} {answer : CommandResult} {t : List ℕ → Printout} (m : ℕ) → k ≤ m → HasOutput facts contents faults k old new a b answer t
-      → HasOutput facts contents faults m old new a b answer t
-  printout-within m few printout = printout-after printout m (HasRead-none facts _) (omega (arith, few))
+  pub printout-within : {k : ℕ} {old new : Pages F} {a b : W} {answer : CommandResult} {t : List ℕ → Printout} (m : ℕ) → k ≤ m → HasOutput contents faults k old new a b answer t
+      → HasOutput contents faults m old new a b answer t
+  printout-within m few printout = printout-after printout m (HasRead-none _) (omega (arith, few))
 
   -- a row after reads
-  pub printout-row : {k : ℕ} {old new : Pages F} {a b : W} {answer : CommandResult} {text : List ℕ} → HasRead facts k 0 old new → faults a ≤ faults b → OnErr answer (faults a < faults b) → OnErr answer (answer ≡ Err refusals.Output)
-      → PrintsOut (contents a) (contents b) answer (shows text) → HasOutput facts contents faults k old new a b answer (λ image. shows text)
+  pub printout-row : {k : ℕ} {old new : Pages F} {a b : W} {answer : CommandResult} {text : List ℕ} → HasRead k 0 old new → faults a ≤ faults b → OnErr answer (faults a < faults b) → OnErr answer (answer ≡ Err refusals.Output)
+      → PrintsOut (contents a) (contents b) answer (shows text) → HasOutput contents faults k old new a b answer (λ image. shows text)
   printout-row {answer = Ok done} read sink output only printout = record { read = read; sink = sink; output = λ failed. absurd cc; no_source = λ failed. absurd cc; printout = λ h. printout }
   printout-row {answer = Err refusal} read sink output only printout =
       let is : refusal ≡ refusals.Output = cc in
       record { read = rw is read; sink = sink; output = λ failed. output; no_source = λ failed. absurd cc; printout = λ h. printout }
 
-  pub printout-none : (p : Pages F) (out : W) → HasOutput facts contents faults 0 p p out out (Ok tt) (λ image. shows [])
+  pub printout-none : (p : Pages F) (out : W) → HasOutput contents faults 0 p p out out (Ok tt) (λ image. shows [])
   printout-none p out = record {
-    read = HasRead-none facts p;
+    read = HasRead-none p;
     sink = omega arith;
     output = λ failed. absurd cc;
     no_source = λ failed. absurd cc;
@@ -175,9 +175,9 @@ module _ {F W : Type 0} {facts : F → Device} {contents : W → Option (List �
   }
 
   -- only an error: the device's, or the output's only content
-  pub printout-refusal : {k : ℕ} {old new : Pages F} {out : W} {refusal : Refusal} {answer : CommandResult} (t : List ℕ → Printout) → IsErrAnd answer (λ r. r ≡ refusal) → HasRead facts k (by_device refusal) old new
-      → (refusal ≡ refusals.Output → ⊥) → (refusal ≡ refusals.Source → ⊥) → OnHonest facts old.device (λ image. (refusal ≡ refusals.Device) ⊎ (t image ≡ refuses refusal)) → HasOutput facts contents faults k old new out out answer t
-  printout-refusal {k} {old} {new} {out} {refusal} {answer} t is read no_output no_source printout = subst (λ (r : CommandResult). HasOutput facts contents faults k old new out out r t) (handed answer refusal is) (record {
+  pub printout-refusal : {k : ℕ} {old new : Pages F} {out : W} {refusal : Refusal} {answer : CommandResult} (t : List ℕ → Printout) → IsErrAnd answer (λ r. r ≡ refusal) → HasRead k (by_device refusal) old new
+      → (refusal ≡ refusals.Output → ⊥) → (refusal ≡ refusals.Source → ⊥) → OnHonest old.device (λ image. (refusal ≡ refusals.Device) ⊎ (t image ≡ refuses refusal)) → HasOutput contents faults k old new out out answer t
+  printout-refusal {k} {old} {new} {out} {refusal} {answer} t is read no_output no_source printout = subst (λ (r : CommandResult). HasOutput contents faults k old new out out r t) (handed answer refusal is) (record {
     read = read;
     sink = omega arith;
     output = λ failed. absurd (no_output cc);
@@ -189,8 +189,8 @@ module _ {F W : Type 0} {facts : F → Device} {contents : W → Option (List �
   })
 
 -- reads leave a cell in its region
-pub still_cell : {F : Type 0} {facts : F → Device} {region : Range} {cell : Cell} {n refused : ℕ} {old new : Pages F} → HasRead facts n refused old new
-    → IsCellOf facts region cell old.device → IsCellOf facts region cell new.device
+pub still_cell : {F : Type 0} {region : Range} {cell : Cell} {n refused : ℕ} {old new : Pages F} → HasRead n refused old new
+    → IsCellOf region cell old.device → IsCellOf region cell new.device
 still_cell {region = region} {cell = cell} read is = record {
   region = LiesOn-calls read.device.calls is.region;
   cell = is.cell;
@@ -200,11 +200,11 @@ still_cell {region = region} {cell = cell} read is = record {
 }
 
 -- a call that only reads the device, by its parts
-pub told_by_parts : {F W : Type 0} {facts : F → Device} {contents : W → Option (List ℕ)} {faults : W → ℕ} {n : ℕ} {old new : Pages F} {out_old out_new : W} {answer : CommandResult} {t : List ℕ → Printout}
-    → OnHonest facts old.device (λ image. PrintsOut (contents out_old) (contents out_new) answer (t image))
-    → HasRead facts n (fault_count by_device answer) old new
+pub told_by_parts : {F W : Type 0} {contents : W → Option (List ℕ)} {faults : W → ℕ} {n : ℕ} {old new : Pages F} {out_old out_new : W} {answer : CommandResult} {t : List ℕ → Printout}
+    → OnHonest old.device (λ image. PrintsOut (contents out_old) (contents out_new) answer (t image))
+    → HasRead n (fault_count by_device answer) old new
     → faults out_old ≤ faults out_new
     → (IsErrOf answer refusals.Output → faults out_old < faults out_new)
     → (IsErrOf answer refusals.Source → ⊥)
-    → HasOutput facts contents faults n old new out_old out_new answer t
+    → HasOutput contents faults n old new out_old out_new answer t
 told_by_parts printout read sink output no_source = record { read = read; sink = sink; output = output; no_source = no_source; printout = printout }

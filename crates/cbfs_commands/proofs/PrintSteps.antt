@@ -73,29 +73,29 @@ blames_no_other _ = (λ e. cc, λ e. cc)
 -- ---- the loop
 
 -- a walk at a position, and the output of the earlier cells
-pub record PrintedTo {F W : Type 0} (facts : F → Device) (contents : W → Option (List ℕ)) (sinks : W → ℕ) (verbose : Bool) (r : Range) (old now : Pages F) (before after : W) (w : Walking) : Type 0 where
+pub record PrintedTo {F W : Type 0} (contents : W → Option (List ℕ)) (sinks : W → ℕ) (verbose : Bool) (r : Range) (old now : Pages F) (before after : W) (w : Walking) : Type 0 where
   pub region : w.region ≡ r
   pub going : w.ended ≡ None
   pub inside : w.at ≤ r.size
   pub aligned : w.at % 64 ≡ 0
-  pub printout : ToldSoFar facts contents sinks (region_reads verbose w.at) (λ image. print_region (bytes_in r image) verbose) (λ image. print_from verbose (bytes_in r image) w.at) old now before after
+  pub printout : ToldSoFar contents sinks (region_reads verbose w.at) (λ image. print_region (bytes_in r image) verbose) (λ image. print_from verbose (bytes_in r image) w.at) old now before after
 
-module _ {F W : Type 0} {facts : F → Device} {contents : W → Option (List ℕ)} {sinks : W → ℕ} {verbose : Bool} {r : Range} {old now next : Pages F} {before after : W} {w : Walking}
-    (p : PrintedTo facts contents sinks verbose r old now before after w) (lies : LiesOn r (facts old.device)) (a : walks.StepResult)
-    (read : HasRead facts (reads_at w.region.size w.at a) (fault_count walks.by_device a) now next)
-    (answer : OnHonestIn facts now.device w.region (λ x. w.ended ≡ None → IsErrOf a faults.Device ⊎ (a ≡ answer_at x w.at))) where
+module _ {F W : Type 0} {contents : W → Option (List ℕ)} {sinks : W → ℕ} {verbose : Bool} {r : Range} {old now next : Pages F} {before after : W} {w : Walking}
+    (p : PrintedTo contents sinks verbose r old now before after w) (lies : LiesOn r old.device) (a : walks.StepResult)
+    (read : HasRead (reads_at w.region.size w.at a) (fault_count walks.by_device a) now next)
+    (answer : OnHonestIn now.device w.region (λ x. w.ended ≡ None → IsErrOf a faults.Device ⊎ (a ≡ answer_at x w.at))) where
   abbrev Printed : Pages F → W → CommandResult → Type 0
-  Printed new out result = HasOutput facts contents sinks (region_reads verbose r.size + 2) old new before out result (λ image. print_region (bytes_in r image) verbose)
+  Printed new out result = HasOutput contents sinks (region_reads verbose r.size + 2) old new before out result (λ image. print_region (bytes_in r image) verbose)
 
   size : w.region.size ≡ r.size
   size = ap (λ (q : Range). q.size) p.region
 
   -- the remaining output
-  rest : OnHonest facts now.device (λ image. IsErrOf a faults.Device ⊎ (print_from verbose (bytes_in r image) w.at ≡ print_by verbose (bytes_in r image) a))
+  rest : OnHonest now.device (λ image. IsErrOf a faults.Device ⊎ (print_from verbose (bytes_in r image) w.at ≡ print_by verbose (bytes_in r image) a))
   rest h = elim (answer h p.going) [
     | inl device ↦ inl device
     | inr is ↦ inr (
-        let image : List ℕ = (facts now.device).content in
+        let image : List ℕ = now.device.content in
         let x : List ℕ = bytes_in r image in
         let lies_now : LiesIn r image = omega (arith, lies.inside, p.printout.reads.device.calls.same_length) in
         let here : answer_at x w.at ≡ a = ap (λ (k : Range). answer_at (bytes_in k image) w.at) (sym p.region) ∙ sym is in
@@ -103,7 +103,7 @@ module _ {F W : Type 0} {facts : F → Device} {contents : W → Option (List �
         ∙ ap (print_by verbose x) here)
   ]
 
-  rest-step : (s : Step) → a ≡ Ok s → OnHonest facts now.device (λ image. print_from verbose (bytes_in r image) w.at ≡ print_by verbose (bytes_in r image) (Ok s))
+  rest-step : (s : Step) → a ≡ Ok s → OnHonest now.device (λ image. print_from verbose (bytes_in r image) w.at ≡ print_by verbose (bytes_in r image) (Ok s))
   rest-step s is h = elim (rw is at (rest h)) [
     | inl device ↦ absurd cc
     | inr e ↦ e
@@ -114,19 +114,19 @@ module _ {F W : Type 0} {facts : F → Device} {contents : W → Option (List �
     few = 2 + c.span / 3840 + (if verbose then details_reads c.span else 0)
 
     abbrev Shown : ℕ → Pages F → Pages F → W → CommandResult → Type 0
-    Shown n from new out result = HasOutput facts contents sinks n from new after out result (λ image. shows (shown_cell verbose c.at (cell_bytes r c image)))
+    Shown n from new out result = HasOutput contents sinks n from new after out result (λ image. shows (shown_cell verbose c.at (cell_bytes r c image)))
 
     given : IsCellIn w.region.size c × (c.at ≡ w.at)
     given = rw is at cell
 
-    others : OnHonest facts now.device (λ image. print_from verbose (bytes_in r image) w.at ≡ text_then (shown_cell verbose c.at (cell_bytes r c image)) (print_from verbose (bytes_in r image) (w.at + c.span)))
-    others h = let image : List ℕ = (facts now.device).content in rest-step (steps.Cell c) is h ∙ ap (λ q. text_then (shown_cell verbose c.at (cell_bytes r c image)) (print_from verbose (bytes_in r image) (q + c.span))) given.1
+    others : OnHonest now.device (λ image. print_from verbose (bytes_in r image) w.at ≡ text_then (shown_cell verbose c.at (cell_bytes r c image)) (print_from verbose (bytes_in r image) (w.at + c.span)))
+    others h = let image : List ℕ = now.device.content in rest-step (steps.Cell c) is h ∙ ap (λ q. text_then (shown_cell verbose c.at (cell_bytes r c image)) (print_from verbose (bytes_in r image) (q + c.span))) given.1
 
     lines : {new : Pages F} {out : W} {result : CommandResult} → Shown few next new out result → Shown (1 + c.span / 3840 + few) now new out result
     lines printout = printout-after printout _ (rw is at read) (omega arith)
 
-    pub printed-more : {new : Pages F} {out : W} → Shown few next new out (Ok tt) → (v : Walking) → v ≡ walk_after w a → PrintedTo facts contents sinks verbose r old new before out v
-    printed-more {new} {out} printout v is_moved = subst (λ (u : Walking). PrintedTo facts contents sinks verbose r old new before out u) (sym (rw is at is_moved)) (record {
+    pub printed-more : {new : Pages F} {out : W} → Shown few next new out (Ok tt) → (v : Walking) → v ≡ walk_after w a → PrintedTo contents sinks verbose r old new before out v
+    printed-more {new} {out} printout v is_moved = subst (λ (u : Walking). PrintedTo contents sinks verbose r old new before out u) (sym (rw is at is_moved)) (record {
       region = p.region;
       going = p.going;
       inside = omega (arith, given.0.inside, given.1, size);
@@ -139,7 +139,7 @@ module _ {F W : Type 0} {facts : F → Device} {contents : W → Option (List �
         so_far-ends p.printout _ (printout-stopped (λ image. print_from verbose (bytes_in r image) (w.at + c.span)) (lines printout) stopped) others
         (omega (arith, reads_with verbose w.at c.span r.size p.aligned given.0.whole given.0.positive (omega (arith, given.0.inside, given.1, size))))
 
-  ends : (s : Step) → a ≡ Ok s → ((x : List ℕ) → print_by verbose x (Ok s) ≡ shows []) → HasRead facts (1 + (w.region.size - w.at) / 3840) 0 now next → Printed next after (Ok tt)
+  ends : (s : Step) → a ≡ Ok s → ((x : List ℕ) → print_by verbose x (Ok s) ≡ shows []) → HasRead (1 + (w.region.size - w.at) / 3840) 0 now next → Printed next after (Ok tt)
   ends s is none few =
       so_far-ends p.printout _ (printout-after (printout-none next after) (1 + (w.region.size - w.at) / 3840) few (omega arith)) (λ h. rest-step s is h ∙ none _)
       (omega (arith, reads_left verbose w.at r.size p.inside, size))
@@ -155,5 +155,5 @@ module _ {F W : Type 0} {facts : F → Device} {contents : W → Option (List �
       let none = blames_no_other fault in
       so_far-ends p.printout _ (printout-refusal (λ image. print_from verbose (bytes_in r image) w.at) failed (rw (is, counted fault) at read) none.0 none.1 (λ h. elim (rw is at (rest h)) [
         | inl device ↦ inl (let same : fault ≡ faults.Device = cc in ap walk_refusal same)
-        | inr e ↦ inr (e ∙ refused_by verbose (bytes_in r (facts now.device).content) fault)
+        | inr e ↦ inr (e ∙ refused_by verbose (bytes_in r now.device.content) fault)
       ])) (λ h. refl) (omega (arith, reads_left verbose w.at r.size p.inside, size))

@@ -189,27 +189,27 @@ no_source = record { content = []; calls = 0; faults = 0; honest = true }
 -- A change by at most n device calls. A fault implies a failure of the device or source. An honest
 -- device keeps all bytes outside the allowed region, and all bytes after any other error. For an
 -- honest source, the result is the change or an interruption.
-pub record HasApplied {F : Type 0} (facts : F → Device) (n : ℕ) (change : Change)
+pub record HasApplied {F : Type 0} (n : ℕ) (change : Change)
     (old new : Pages F) (source source_now : Device) (answer : CommandResult) : Type 0 where
-  pub calls : Calls n (fault_count by_device answer) (facts old.device) (facts new.device)
+  pub calls : Calls n (fault_count by_device answer) old.device new.device
   pub source_calls : Calls (source_calls (changes change) (length source.content))
       (fault_count by_source answer) source source_now
   pub no_output : IsErrOf answer refusals.Output → ⊥
-  pub spares : OnHonest facts old.device (λ image.
-      SparesOutside (change.target image) image (facts new.device).content)
-  pub refused : OnHonest facts old.device (λ image.
-      MayHaveWritten answer ⊎ ((facts new.device).content ≡ image))
-  pub left : OnHonest facts old.device (λ image. Serves (changes change) source
-      → LeavesOr (facts new.device).content answer (outcome (changes change) image source.content))
-  pub stopped : OnHonest facts old.device (λ image. Serves (changes change) source
-      → change.Stopped image source.content answer (facts new.device).content)
+  pub spares : OnHonest old.device (λ image.
+      SparesOutside (change.target image) image new.device.content)
+  pub refused : OnHonest old.device (λ image.
+      MayHaveWritten answer ⊎ (new.device.content ≡ image))
+  pub left : OnHonest old.device (λ image. Serves (changes change) source
+      → LeavesOr new.device.content answer (outcome (changes change) image source.content))
+  pub stopped : OnHonest old.device (λ image. Serves (changes change) source
+      → change.Stopped image source.content answer new.device.content)
 
 -- A command by at most n device calls. Unused devices remain, and a fault implies a failure of its
 -- device. The other fields require an honest device.
-pub record HasRun {F S W : Type 0} (facts : F → Device) (sources : S → Device)
+pub record HasRun {F S W : Type 0} (sources : S → Device)
     (contents : W → Option (List ℕ)) (faults : W → ℕ) (n : ℕ) (d : Effect) (old new : Pages F)
     (source_old source_new : S) (out_old out_new : W) (answer : CommandResult) : Type 0 where
-  pub calls : Calls n (fault_count by_device answer) (facts old.device) (facts new.device)
+  pub calls : Calls n (fault_count by_device answer) old.device new.device
   pub source_calls : Calls (source_calls d (length (sources source_old).content))
       (fault_count by_source answer) (sources source_old) (sources source_new)
   pub sink : faults out_old ≤ faults out_new
@@ -218,12 +218,12 @@ pub record HasRun {F S W : Type 0} (facts : F → Device) (sources : S → Devic
   pub source : IsErrOf answer refusals.Source → IsTrue (reads_source d)
   pub output : IsErrOf answer refusals.Output
       → IsTrue (writes_output d) × (faults out_old < faults out_new)
-  pub spares : OnHonest facts old.device (λ image.
-      SparesOutside ((change_of d).target image) image (facts new.device).content)
-  pub refused : OnHonest facts old.device (λ image.
-      MayHaveWritten answer ⊎ ((facts new.device).content ≡ image))
-  pub outcome : OnHonest facts old.device (λ image.
+  pub spares : OnHonest old.device (λ image.
+      SparesOutside ((change_of d).target image) image new.device.content)
+  pub refused : OnHonest old.device (λ image.
+      MayHaveWritten answer ⊎ (new.device.content ≡ image))
+  pub outcome : OnHonest old.device (λ image.
       Serves d (sources source_old) → Meets d (contents out_old) (contents out_new) image
-      (sources source_old).content (facts new.device).content answer)
-  pub stopped : OnHonest facts old.device (λ image. Serves d (sources source_old)
-      → (change_of d).Stopped image (sources source_old).content answer (facts new.device).content)
+      (sources source_old).content new.device.content answer)
+  pub stopped : OnHonest old.device (λ image. Serves d (sources source_old)
+      → (change_of d).Stopped image (sources source_old).content answer new.device.content)

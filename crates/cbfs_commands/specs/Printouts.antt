@@ -41,16 +41,16 @@ PrintsOut old new answer t =
     ((answer ≡ t.answer) × Appends old new t.written) ⊎ StopsWriting old new answer t.written
 
 -- A cell of a region within bounds. An honest device has the cell at its offset.
-pub record IsCellOf {F : Type 0} (facts : F → Device) (r : Range) (c : Cell)
+pub record IsCellOf {F : Type 0} (r : Range) (c : Cell)
     (device : F) : Type 0 where
-  pub region : LiesOn r (facts device)
+  pub region : LiesOn r (device)
   pub cell : IsCellIn r.size c
-  pub stands : OnHonestIn facts device r (λ x. StandsIn x c)
+  pub stands : OnHonestIn device r (λ x. StandsIn x c)
 
 -- a cell in use
-pub record IsComponentOf {F : Type 0} (facts : F → Device) (r : Range) (c : Cell)
+pub record IsComponentOf {F : Type 0} (r : Range) (c : Cell)
     (device : F) : Type 0 where
-  pub cell : IsCellOf facts r c device
+  pub cell : IsCellOf r c device
   pub used : is_free c.head ≡ false
 
 -- a cell's bytes, by its region and the image
@@ -59,12 +59,12 @@ cell_bytes region cell image = cell_in (bytes_in region image) cell
 
 -- A call that reads the device at most n times and writes to a sink. A fault implies a failure of
 -- its device. `printout` requires an honest device.
-pub record HasOutput {F W : Type 0} (facts : F → Device) (contents : W → Option (List ℕ))
+pub record HasOutput {F W : Type 0} (contents : W → Option (List ℕ))
     (faults : W → ℕ) (n : ℕ) (old new : Pages F) (out_old out_new : W) (answer : CommandResult)
     (t : List ℕ → Printout) : Type 0 where
-  pub read : HasRead facts n (fault_count by_device answer) old new
+  pub read : HasRead n (fault_count by_device answer) old new
   pub sink : faults out_old ≤ faults out_new
   pub output : IsErrOf answer refusals.Output → faults out_old < faults out_new
   pub no_source : IsErrOf answer refusals.Source → ⊥
-  pub printout : OnHonest facts old.device (λ image.
+  pub printout : OnHonest old.device (λ image.
       PrintsOut (contents out_old) (contents out_new) answer (t image))

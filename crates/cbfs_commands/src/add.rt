@@ -17,7 +17,7 @@ pub fn add<F: Flash, S: Source>(
     spot: Spot,
     source: &mut S,
 ) -> Result<(), Refusal>
-    ensures { HasApplied F.facts (2 * length (F.facts paged.old.device).content + 64)
+    ensures { HasApplied (2 * length paged.old.device.content + 64)
         (adds region.now name.now kind hash spot) paged.old paged.new (S.facts source.old)
         (S.facts source.new) result }
 {

@@ -27,8 +27,8 @@ fn dispatch<F: Flash, S: Source, W: Sink>(
     source: &mut S,
     out: &mut W,
 ) -> Result<(), Refusal>
-    ensures { HasRun F.facts S.facts W.contents W.faults
-        (2 * length (F.facts paged.old.device).content + 64) (effect (request_of command.now))
+    ensures { HasRun S.facts W.contents W.faults
+        (2 * length paged.old.device.content + 64) (effect (request_of command.now))
         paged.old paged.new source.old source.new out.old out.new result }
 {
     match command {
@@ -57,8 +57,8 @@ pub fn run<F: Flash, S: Source, W: Sink>(
     out: &mut W,
 ) -> Result<(), Refusal>
     // On any device, for any source and sink.
-    ensures calls { Calls (2 * length (F.facts paged.old.device).content + 64)
-        (fault_count by_device result) (F.facts paged.old.device) (F.facts paged.new.device) }
+    ensures calls { Calls (2 * length paged.old.device.content + 64)
+        (fault_count by_device result) paged.old.device paged.new.device }
     ensures source_calls { Calls
         (source_calls (effect (request_of command.now)) (length (S.facts source.old).content))
         (fault_count by_source result) (S.facts source.old) (S.facts source.new) }
@@ -71,7 +71,7 @@ pub fn run<F: Flash, S: Source, W: Sink>(
 
     // A fault implies a failure of its device, and a command that uses the device.
     ensures device { IsErrOf result Refusal.Device →
-        (F.facts paged.old.device).faults < (F.facts paged.new.device).faults }
+        paged.old.device.faults < paged.new.device.faults }
     ensures source { IsErrOf result Refusal.Source
         → IsTrue (reads_source (effect (request_of command.now)))
         × ((S.facts source.old).faults < (S.facts source.new).faults) }
@@ -80,22 +80,22 @@ pub fn run<F: Flash, S: Source, W: Sink>(
         × (W.faults out.old < W.faults out.new) }
 
     // For any answer and source.
-    ensures spares { IsTrue (F.facts paged.old.device).honest → SparesOutside
-        ((change_of (effect (request_of command.now))).target (F.facts paged.old.device).content)
-        (F.facts paged.old.device).content (F.facts paged.new.device).content }
-    ensures refused { IsTrue (F.facts paged.old.device).honest → MayHaveWritten result
-        ⊎ ((F.facts paged.new.device).content ≡ (F.facts paged.old.device).content) }
+    ensures spares { IsTrue paged.old.device.honest → SparesOutside
+        ((change_of (effect (request_of command.now))).target paged.old.device.content)
+        paged.old.device.content paged.new.device.content }
+    ensures refused { IsTrue paged.old.device.honest → MayHaveWritten result
+        ⊎ (paged.new.device.content ≡ paged.old.device.content) }
 
     // For an honest source, if the command reads it.
-    ensures outcome { IsTrue (F.facts paged.old.device).honest
+    ensures outcome { IsTrue paged.old.device.honest
         → Serves (effect (request_of command.now)) (S.facts source.old)
         → Meets (effect (request_of command.now)) (W.contents out.old) (W.contents out.new)
-        (F.facts paged.old.device).content (S.facts source.old).content
-        (F.facts paged.new.device).content result }
-    ensures stopped { IsTrue (F.facts paged.old.device).honest
+        paged.old.device.content (S.facts source.old).content
+        paged.new.device.content result }
+    ensures stopped { IsTrue paged.old.device.honest
         → Serves (effect (request_of command.now)) (S.facts source.old)
-        → (change_of (effect (request_of command.now))).Stopped (F.facts paged.old.device).content
-        (S.facts source.old).content result (F.facts paged.new.device).content }
+        → (change_of (effect (request_of command.now))).Stopped paged.old.device.content
+        (S.facts source.old).content result paged.new.device.content }
 {
     dispatch(paged, command, source, out)
 }

@@ -17,9 +17,9 @@ fn extract_component<F: Flash, W: Sink>(
     cell: &Cell,
     out: &mut W,
 ) -> Result<(), Refusal>
-    requires { IsComponentOf F.facts region cell.now paged.old.device }
+    requires { IsComponentOf region cell.now paged.old.device }
 
-    ensures { HasOutput F.facts W.contents W.faults (cell.now.span / 3840 + 2)
+    ensures { HasOutput W.contents W.faults (cell.now.span / 3840 + 2)
         paged.old paged.new out.old out.new result (λ image.
         printed_component (component_at cell.now.at (cell_bytes region cell.now image))) }
 {
@@ -38,8 +38,8 @@ pub fn extract<F: Flash, W: Sink>(
     name: &[u8],
     out: &mut W,
 ) -> Result<(), Refusal>
-    ensures { HasOutput F.facts W.contents W.faults
-        (2 * length (F.facts paged.old.device).content + 64)
+    ensures { HasOutput W.contents W.faults
+        (2 * length paged.old.device.content + 64)
         paged.old paged.new out.old out.new result (λ image.
         printed_in image region.now (λ x. extract_region x name.now)) }
 {

@@ -54,10 +54,10 @@ fn list_area<F: Flash, W: Sink>(
     out: &mut W,
 ) -> Result<(), Refusal>
     requires inside { map.now.at + map_len map.now.head
-        ≤ length (F.facts paged.old.device).content }
+        ≤ length paged.old.device.content }
     requires number { i < map.now.head.nareas }
 
-    ensures { HasOutput F.facts W.contents W.faults 1
+    ensures { HasOutput W.contents W.faults 1
         paged.old paged.new out.old out.new result (λ image.
         shows (area_line (area_of (drop (map.now.at + fmap_head_len + area_len * i) image)))) }
 {
@@ -72,9 +72,9 @@ fn list_areas<F: Flash, W: Sink>(
     row: &mut Row,
     out: &mut W,
 ) -> Result<(), Refusal>
-    requires { map.now.at + map_len map.now.head ≤ length (F.facts paged.old.device).content }
+    requires { map.now.at + map_len map.now.head ≤ length paged.old.device.content }
 
-    ensures { HasOutput F.facts W.contents W.faults map.now.head.nareas
+    ensures { HasOutput W.contents W.faults map.now.head.nareas
         paged.old paged.new out.old out.new result (λ image. shows (flat_map area_line
         (areas_from map.now.head.nareas (drop (map.now.at + fmap_head_len) image)))) }
 {
@@ -87,8 +87,8 @@ fn list_areas<F: Flash, W: Sink>(
 /// Prints the offset and the areas of the image's map.
 #[tactic(auto, unfolding(crate::specs::Rows::layout))]
 pub fn layout<F: Flash, W: Sink>(paged: &mut Paged<F>, out: &mut W) -> Result<(), Refusal>
-    ensures { HasOutput F.facts W.contents W.faults (length (F.facts paged.old.device).content / 2
-        + length (F.facts paged.old.device).content / area_len + 8)
+    ensures { HasOutput W.contents W.faults (length paged.old.device.content / 2
+        + length paged.old.device.content / area_len + 8)
         paged.old paged.new out.old out.new result layout }
 {
     let Some(map) = find_fmap(paged)? else {

@@ -14,9 +14,9 @@ pub fn copy_out<F: Flash, W: Sink>(
     size: u64,
     out: &mut W,
 ) -> Result<(), Refusal>
-    requires { start + size ≤ length (F.facts paged.old.device).content }
+    requires { start + size ≤ length paged.old.device.content }
 
-    ensures { HasOutput F.facts W.contents W.faults ((size + 4095) / 4096)
+    ensures { HasOutput W.contents W.faults ((size + 4095) / 4096)
         paged.old paged.new out.old out.new result (λ image.
         shows (slice_range image start (start + size))) }
 {
@@ -30,8 +30,8 @@ pub fn read<F: Flash, W: Sink>(
     name: &[u8],
     out: &mut W,
 ) -> Result<(), Refusal>
-    ensures { HasOutput F.facts W.contents W.faults
-        (2 * length (F.facts paged.old.device).content + 64)
+    ensures { HasOutput W.contents W.faults
+        (2 * length paged.old.device.content + 64)
         paged.old paged.new out.old out.new result (λ image. printed_in image name.now shows) }
 {
     let region = flash_map::region(paged, name)?;

@@ -8,7 +8,7 @@ use flash_device::{Flash, Paged};
 
 /// Replaces the first component with the name by free space.
 pub fn remove<F: Flash>(paged: &mut Paged<F>, region: &[u8], name: &[u8]) -> Result<(), Refusal>
-    ensures { HasApplied F.facts (2 * length (F.facts paged.old.device).content + 64)
+    ensures { HasApplied (2 * length paged.old.device.content + 64)
         (removes region.now name.now) paged.old paged.new no_source no_source result }
 {
     let region = flash_map::region(paged, region)?;

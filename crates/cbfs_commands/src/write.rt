@@ -12,7 +12,7 @@ pub fn write<F: Flash, S: Source>(
     name: &[u8],
     source: &mut S,
 ) -> Result<(), Refusal>
-    ensures { HasApplied F.facts (2 * length (F.facts paged.old.device).content + 64)
+    ensures { HasApplied (2 * length paged.old.device.content + 64)
         (replaces name.now) paged.old paged.new (S.facts source.old) (S.facts source.new) result }
 {
     let region = flash_map::region(paged, name)?;

@@ -278,16 +278,16 @@ pub content_read : (n told : ℕ) (old new : Device) → Reads ((n + 4095) / 409
 content_read n told old new read = record { calls = Calls-at_most ((n + 4095) / 4096) (n / 4096 + 1) told old new (omega (arith, read.calls.no_more)) read.calls; unchanged = read.unchanged }
 
 -- the device's calls: search and writes
-pub sought_written : {F : Type 0} (facts : F → Device) (r : Range) (told : ℕ) (old mid new : Pages F) → HasRead facts (r.size / 16 + 1) 0 old mid → HasChanged facts r (r.size / 4096 + r.size / 4096 + 6) told mid new
-    → HasChanged facts r (r.size / 16 + r.size / 2048 + 7) told old new
-sought_written facts r told old mid new read changed =
+pub sought_written : {F : Type 0} (r : Range) (told : ℕ) (old mid new : Pages F) → HasRead (r.size / 16 + 1) 0 old mid → HasChanged r (r.size / 4096 + r.size / 4096 + 6) told mid new
+    → HasChanged r (r.size / 16 + r.size / 2048 + 7) told old new
+sought_written r told old mid new read changed =
     let n = r.size / 16 + 1 in
     let m = r.size / 4096 + r.size / 4096 + 6 in
     let few : r.size / 4096 + r.size / 4096 ≤ r.size / 2048 = omega arith in
-    let calls = Calls-then n m told (facts old.device) (facts mid.device) (facts new.device) read.device.calls changed.calls in
+    let calls = Calls-then n m told old.device mid.device new.device read.device.calls changed.calls in
     record {
-      calls = Calls-at_most (n + m) (r.size / 16 + r.size / 2048 + 7) told (facts old.device) (facts new.device) (omega (arith, few, calls.no_more)) calls;
-      outside = λ h. subst (λ (l : List ℕ). SameOutside r.start r.size l (facts new.device).content) (read.device.unchanged h) (changed.outside (honest_still read.device.calls.same_honesty h));
+      calls = Calls-at_most (n + m) (r.size / 16 + r.size / 2048 + 7) told old.device new.device (omega (arith, few, calls.no_more)) calls;
+      outside = λ h. subst (λ (l : List ℕ). SameOutside r.start r.size l new.device.content) (read.device.unchanged h) (changed.outside (honest_still read.device.calls.same_honesty h));
     }
 
 -- the search's result after the caller's own checks

@@ -85,62 +85,62 @@ found_refusal x read other = refl
 -- ---- the loop
 
 -- a search up to the walk's offset, with its invariant on any device
-pub record Surveying {F S A : Type 0} (facts : F → Device) (r : Range) (sense : S → ℕ → Reading A) (want : Result A EditFault) (IsBefore : ℕ → S → Type 0) (w : Walking) (s : S) (old now : Pages F) : Type 0 where
+pub record Surveying {F S A : Type 0} (r : Range) (sense : S → ℕ → Reading A) (want : Result A EditFault) (IsBefore : ℕ → S → Type 0) (w : Walking) (s : S) (old now : Pages F) : Type 0 where
   pub region : w.region ≡ r
   pub going : w.ended ≡ None
   pub inside : w.at ≤ r.size
   pub aligned : w.at % 64 ≡ 0
-  pub read : HasRead facts (w.at / 16) 0 old now
+  pub read : HasRead (w.at / 16) 0 old now
   pub before : IsBefore w.at s
-  pub so_far : IsTrue (facts old.device).honest → want ≡ found_from (bytes_in r (facts old.device).content) (sense s w.at) w.at
+  pub so_far : IsTrue old.device.honest → want ≡ found_from (bytes_in r old.device.content) (sense s w.at) w.at
 
-pub surveying_start : {F S A : Type 0} (facts : F → Device) (r : Range) (sense : S → ℕ → Reading A) (want : Result A EditFault) (IsBefore : ℕ → S → Type 0) (s : S) (old : Pages F)
-    → IsBefore 0 s → (let x = bytes_in r (facts old.device).content in want ≡ unless_unsound x (sense s 0 (cut x).cells))
-    → Surveying facts r sense want IsBefore (walk_of r) s old old
-surveying_start facts r sense want IsBefore s old before is = record {
+pub surveying_start : {F S A : Type 0} (r : Range) (sense : S → ℕ → Reading A) (want : Result A EditFault) (IsBefore : ℕ → S → Type 0) (s : S) (old : Pages F)
+    → IsBefore 0 s → (let x = bytes_in r old.device.content in want ≡ unless_unsound x (sense s 0 (cut x).cells))
+    → Surveying r sense want IsBefore (walk_of r) s old old
+surveying_start r sense want IsBefore s old before is = record {
   region = refl;
   going = refl;
   inside = omega arith;
   aligned = refl;
-  read = HasRead-within facts 0 (0 / 16) 0 old old (omega arith) (HasRead-none facts old);
+  read = HasRead-within 0 (0 / 16) 0 old old (omega arith) (HasRead-none old);
   before = before;
-  so_far = λ h. is ∙ found_whole (bytes_in r (facts old.device).content) (sense s 0);
+  so_far = λ h. is ∙ found_whole (bytes_in r old.device.content) (sense s 0);
 }
 
 told_step : (s : Step) (b : StepResult) → (let a : StepResult = Ok s in IsErrOf a walk.Device ⊎ (a ≡ b)) → Ok s ≡ b
 told_step s b (inl e) = absurd cc
 told_step s b (inr e) = e
 
-module _ {F S A : Type 0} (facts : F → Device) (r : Range) (sense : S → ℕ → Reading A) (want : Result A EditFault) (IsBefore : ℕ → S → Type 0) (w : Walking) (s : S) (old now : Pages F) (lies : LiesOn r (facts old.device)) (i : Surveying facts r sense want IsBefore w s old now) where
+module _ {F S A : Type 0} (r : Range) (sense : S → ℕ → Reading A) (want : Result A EditFault) (IsBefore : ℕ → S → Type 0) (w : Walking) (s : S) (old now : Pages F) (lies : LiesOn r old.device) (i : Surveying r sense want IsBefore w s old now) where
   abbrev x : List ℕ
-  x = bytes_in r (facts old.device).content
+  x = bytes_in r old.device.content
 
-  answered : (a : StepResult) → IsTrue (facts old.device).honest → a ≡ answer_at (bytes_in w.region (facts now.device).content) w.at
+  answered : (a : StepResult) → IsTrue old.device.honest → a ≡ answer_at (bytes_in w.region now.device.content) w.at
       → (a ≡ answer_at x w.at) × (want ≡ found_by x (sense s w.at) a)
   answered a h is =
-      let len : length x ≡ r.size = length-bytes_in r (facts old.device).content lies.inside in
-      let here : a ≡ answer_at x w.at = is ∙ ap (λ (k : Range). answer_at (bytes_in k (facts now.device).content) w.at) i.region ∙ ap (λ (l : List ℕ). answer_at (bytes_in r l) w.at) (i.read.device.unchanged h) in
+      let len : length x ≡ r.size = length-bytes_in r old.device.content lies.inside in
+      let here : a ≡ answer_at x w.at = is ∙ ap (λ (k : Range). answer_at (bytes_in k now.device.content) w.at) i.region ∙ ap (λ (l : List ℕ). answer_at (bytes_in r l) w.at) (i.read.device.unchanged h) in
       (here, i.so_far h ∙ found_step x (sense s w.at) w.at (omega (arith, len, i.inside)) i.aligned ∙ ap (λ (b : StepResult). found_by x (sense s w.at) b) (sym here))
 
   -- a cell, and the search after it
   pub surveying_more : (c : Cell) (v : Walking) (t : S) (mid new : Pages F) (n : ℕ) → IsCellIn w.region.size c × (c.at ≡ w.at)
-      → HasRead facts n 0 now mid → n ≡ reads_over c.span → HasRead facts 1 0 mid new
-      → (IsTrue (facts now.device).honest → w.ended ≡ None → (let a : StepResult = Ok (steps.Cell c) in IsErrOf a walk.Device ⊎ (a ≡ answer_at (bytes_in w.region (facts now.device).content) w.at)))
+      → HasRead n 0 now mid → n ≡ reads_over c.span → HasRead 1 0 mid new
+      → (IsTrue now.device.honest → w.ended ≡ None → (let a : StepResult = Ok (steps.Cell c) in IsErrOf a walk.Device ⊎ (a ≡ answer_at (bytes_in w.region now.device.content) w.at)))
       → v ≡ record w { at = w.at + c.span; steps = w.steps + 1 }
       → IsBefore (c.at + c.span) t
-      → (IsTrue (facts mid.device).honest → StandsIn (bytes_in r (facts mid.device).content) c → (cells : List (List ℕ)) → sense s c.at (cell_in (bytes_in r (facts mid.device).content) c ∷ cells) ≡ sense t (c.at + c.span) cells)
-      → Surveying facts r sense want IsBefore v t old new
+      → (IsTrue mid.device.honest → StandsIn (bytes_in r mid.device.content) c → (cells : List (List ℕ)) → sense s c.at (cell_in (bytes_in r mid.device.content) c ∷ cells) ≡ sense t (c.at + c.span) cells)
+      → Surveying r sense want IsBefore v t old new
   unfolding found_from
   surveying_more c v t mid new n given reads few more answer moved before pass = rw moved (record {
     region = i.region;
     going = i.going;
     inside = omega (arith, cell_of_region.inside, given.1);
     aligned = omega (arith, i.aligned, given.0.whole);
-    read = HasRead-within facts (w.at / 16 + (n + 1)) ((w.at + c.span) / 16) 0 old new (omega (arith, few, given.0.positive)) (HasRead-then facts (w.at / 16) (n + 1) 0 old now new i.read (HasRead-then facts n 1 0 now mid new reads more));
+    read = HasRead-within (w.at / 16 + (n + 1)) ((w.at + c.span) / 16) 0 old new (omega (arith, few, given.0.positive)) (HasRead-then (w.at / 16) (n + 1) 0 old now new i.read (HasRead-then n 1 0 now mid new reads more));
     before = subst (λ k. IsBefore (k + c.span) t) given.1 before;
     so_far = λ h.
         let k = honest_still i.read.device.calls.same_honesty h in
-        let same : (facts mid.device).content ≡ (facts old.device).content = reads.device.unchanged k ∙ i.read.device.unchanged h in
+        let same : mid.device.content ≡ old.device.content = reads.device.unchanged k ∙ i.read.device.unchanged h in
         let told = answered (Ok (steps.Cell c)) h (told_step _ _ (answer k i.going)) in
         let stands : StandsIn x c = ap (λ p. answer_at x p) given.1 ∙ sym told.0 in
         let next = fun_ext ((rw same at (pass (honest_still reads.device.calls.same_honesty k))) stands) in
@@ -162,20 +162,20 @@ module _ {F S A : Type 0} (facts : F → Device) (r : Range) (sense : S → ℕ 
       | inr end ↦ ap (λ (t : Step). found_by x (sense s w.at) (Ok t)) end
     ]
 
-    pub last_after : (mid : Pages F) → HasRead facts (reads_at w.region.size w.at (Ok step)) 0 now mid → HasRead facts (r.size / 16 + 1) 0 old mid
+    pub last_after : (mid : Pages F) → HasRead (reads_at w.region.size w.at (Ok step)) 0 now mid → HasRead (r.size / 16 + 1) 0 old mid
     last_after mid reading =
-        HasRead-within facts (w.at / 16 + reads_over (w.region.size - w.at)) (r.size / 16 + 1) 0 old mid (omega (arith, i.inside, i.aligned, ap (λ (k : Range). k.size) i.region))
-        (HasRead-then facts (w.at / 16) (reads_over (w.region.size - w.at)) 0 old now mid i.read (rw (last_reads step w.region.size w.at last) at reading))
+        HasRead-within (w.at / 16 + reads_over (w.region.size - w.at)) (r.size / 16 + 1) 0 old mid (omega (arith, i.inside, i.aligned, ap (λ (k : Range). k.size) i.region))
+        (HasRead-then (w.at / 16) (reads_over (w.region.size - w.at)) 0 old now mid i.read (rw (last_reads step w.region.size w.at last) at reading))
 
-    pub last_answer : (IsTrue (facts now.device).honest → w.ended ≡ None → (let a : StepResult = Ok step in IsErrOf a walk.Device ⊎ (a ≡ answer_at (bytes_in w.region (facts now.device).content) w.at)))
-        → IsTrue (facts old.device).honest → sense s w.at [] ≡ want
+    pub last_answer : (IsTrue now.device.honest → w.ended ≡ None → (let a : StepResult = Ok step in IsErrOf a walk.Device ⊎ (a ≡ answer_at (bytes_in w.region now.device.content) w.at)))
+        → IsTrue old.device.honest → sense s w.at [] ≡ want
     last_answer answer h = sym ((answered (Ok step) h (told_step _ _ (answer (honest_still i.read.device.calls.same_honesty h) i.going))).1 ∙ last_found)
 
-  pub surveying_err : (fault : WalkFault) → (answer : IsTrue (facts now.device).honest → w.ended ≡ None → (let a : StepResult = Err fault in IsErrOf a walk.Device ⊎ (a ≡ answer_at (bytes_in w.region (facts now.device).content) w.at)))
-      → IsTrue (facts old.device).honest → (let a : Result A EditFault = Err (edit_fault_of fault) in IsErrOf a faults.Device ⊎ (a ≡ want))
+  pub surveying_err : (fault : WalkFault) → (answer : IsTrue now.device.honest → w.ended ≡ None → (let a : StepResult = Err fault in IsErrOf a walk.Device ⊎ (a ≡ answer_at (bytes_in w.region now.device.content) w.at)))
+      → IsTrue old.device.honest → (let a : Result A EditFault = Err (edit_fault_of fault) in IsErrOf a faults.Device ⊎ (a ≡ want))
   surveying_err fault answer h = go (answer (honest_still i.read.device.calls.same_honesty h) i.going)
     where
-      go : (let a : StepResult = Err fault in IsErrOf a walk.Device ⊎ (a ≡ answer_at (bytes_in w.region (facts now.device).content) w.at))
+      go : (let a : StepResult = Err fault in IsErrOf a walk.Device ⊎ (a ≡ answer_at (bytes_in w.region now.device.content) w.at))
           → (let a : Result A EditFault = Err (edit_fault_of fault) in IsErrOf a faults.Device ⊎ (a ≡ want))
       go (inl device) = let is : fault ≡ walk.Device = cc in inl (ap (λ (f : WalkFault). let a : Result A EditFault = Err (edit_fault_of f) in a) is)
       go (inr is) = inr (sym ((answered (Err fault) h is).1 ∙ found_refusal x (sense s w.at) fault))

@@ -40,31 +40,31 @@ abbrev pub stop_count : {T : Type 0} → (EditFault → ℕ) → Result T CopyIn
 stop_count told result = fault_count (λ fault. told (copy_edit_fault fault)) result
 
 -- P of a region before and after, on an honest device
-abbrev pub OnHonestChange : {F : Type 0} → (F → Device) → Range → Pages F → Pages F
+abbrev pub OnHonestChange : {F : Type 0} → Range → Pages F → Pages F
     → (List ℕ → List ℕ → Type 0) → Type 0
-OnHonestChange facts region old new P = IsTrue (facts old.device).honest
-    → P (bytes_in region (facts old.device).content) (bytes_in region (facts new.device).content)
+OnHonestChange region old new P = IsTrue old.device.honest
+    → P (bytes_in region old.device.content) (bytes_in region new.device.content)
 
 -- A write into a region by at most n calls. On an honest device, success applies `done`, and `Left`
 -- holds in any case.
-pub record HasWrittenIn {F T E : Type 0} (facts : F → Device) (region : Range) (n : ℕ)
+pub record HasWrittenIn {F T E : Type 0} (region : Range) (n : ℕ)
     (done : List ℕ → List ℕ) (Left : List ℕ → List ℕ → Type 0) (old new : Pages F)
     (result : Result T E) : Type 0 where
-  pub after : HasChanged facts region n (refusals result) old new
-  pub written : OnHonestChange facts region old new (λ x y. OnOk result (y ≡ done x))
-  pub left : OnHonestChange facts region old new Left
+  pub after : HasChanged region n (refusals result) old new
+  pub written : OnHonestChange region old new (λ x y. OnOk result (y ≡ done x))
+  pub left : OnHonestChange region old new Left
 
 -- A copy of a source into a region. `copied` and `torn` require an honest device, `copied` also an
 -- honest source.
-pub record HasCopied {F T : Type 0} (facts : F → Device) (region : Range) (at : ℕ)
+pub record HasCopied {F T : Type 0} (region : Range) (at : ℕ)
     (old new : Pages F) (input input_now : Device) (result : Result T CopyInFault) : Type 0 where
-  pub after : HasChanged facts region ((length input.content + 4095) / 4096)
+  pub after : HasChanged region ((length input.content + 4095) / 4096)
       (stop_count by_device result) old new
   pub source : Reads ((length input.content + 4095) / 4096) (stop_count by_source result)
       input input_now
-  pub copied : OnHonestChange facts region old new (λ x y.
+  pub copied : OnHonestChange region old new (λ x y.
       IsTrue input.honest → OnOk result (y ≡ overwritten x at input.content))
-  pub torn : OnHonestChange facts region old new (SameOutside at (length input.content))
+  pub torn : OnHonestChange region old new (SameOutside at (length input.content))
 
 -- between the commits of an edit: an empty entry's header over the group, then arbitrary bytes up
 -- to `to`

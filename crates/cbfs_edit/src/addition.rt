@@ -86,10 +86,10 @@ fn copy_content<F: Flash, S: Source>(
     hash: HashChoice,
     source: &mut S,
 ) -> Result<Option<Digest>, CopyInFault>
-    requires region { LiesOn region (F.facts paged.old.device) }
+    requires region { LiesOn region paged.old.device }
     requires inside { at + length (S.facts source.old).content ≤ region.size }
 
-    ensures after { HasCopied F.facts region at paged.old paged.new (S.facts source.old)
+    ensures after { HasCopied region at paged.old paged.new (S.facts source.old)
         (S.facts source.new) result }
     ensures digest_len { IfOk result (λ digest.
         (content : List ℕ) → hash_len digest ≡ hash_len (digest_of hash content)) }
@@ -120,10 +120,10 @@ fn copy_hashed<F: Flash, S: Source, H: sha2::Digest>(
     at: u64,
     source: &mut S,
 ) -> Result<H::Output, CopyInFault>
-    requires region { LiesOn region (F.facts paged.old.device) }
+    requires region { LiesOn region paged.old.device }
     requires inside { at + length (S.facts source.old).content ≤ region.size }
 
-    ensures after { HasCopied F.facts region at paged.old paged.new (S.facts source.old)
+    ensures after { HasCopied region at paged.old paged.new (S.facts source.old)
         (S.facts source.new) result }
 
     // For an honest source.
@@ -187,21 +187,21 @@ fn insert<F: Flash, S: Source>(
     label: &Label<'_>,
     source: &mut S,
 ) -> Result<(), CopyInFault>
-    requires region { LiesOn region (F.facts paged.old.device) }
+    requires region { LiesOn region paged.old.device }
     requires fits { Fits wanted region.size place }
     requires name { length label.now.name.now ≤ 127 }
     requires wanted { wanted
         ≡ wanted_for (component_of_label label.now (S.facts source.old).content) wanted.spot }
 
-    ensures after { HasChanged F.facts region (region.size / 4096 + region.size / 4096 + 6)
+    ensures after { HasChanged region (region.size / 4096 + region.size / 4096 + 6)
         (stop_count by_device result) paged.old paged.new }
     ensures source { Reads ((length (S.facts source.old).content + 4095) / 4096)
         (stop_count by_source result) (S.facts source.old) (S.facts source.new) }
 
-    ensures added { OnHonestChange F.facts region paged.old paged.new (λ x y.
+    ensures added { OnHonestChange region paged.old paged.new (λ x y.
         IsTrue (S.facts source.old).honest → OnOk result
         (y ≡ added x (component_of_label label.now (S.facts source.old).content) place)) }
-    ensures stopped { OnHonestChange F.facts region paged.old paged.new (λ x y. OnErr result
+    ensures stopped { OnHonestChange region paged.old paged.new (λ x y. OnErr result
         (IsInsertStop place.run (written_to region.size wanted.len place)
         ((IsErrOf result CopyInFault.Source → ⊥) × (IsTrue (S.facts source.old).honest →
         y ≡ added x (component_of_label label.now (S.facts source.old).content) place)) x y)) }
@@ -276,9 +276,9 @@ pub fn add<F: Flash, S: Source>(
     spot: Spot,
     source: &mut S,
 ) -> Result<Placed, EditFault>
-    requires { LiesOn region (F.facts paged.old.device) }
+    requires { LiesOn region paged.old.device }
 
-    ensures after { HasChanged F.facts region (region.size / 16 + region.size / 2048 + 7)
+    ensures after { HasChanged region (region.size / 16 + region.size / 2048 + 7)
         (fault_count by_device result) paged.old paged.new }
     ensures source { Reads (length (S.facts source.old).content / 4096 + 1)
         (fault_count by_source result) (S.facts source.old) (S.facts source.new) }
@@ -287,25 +287,25 @@ pub fn add<F: Flash, S: Source>(
         (result ≡ Err fault) × (paged.new ≡ paged.old) × (source.new ≡ source.old)) }
 
     // For any source.
-    ensures answer { OnHonestIn F.facts paged.old.device region (λ x.
+    ensures answer { OnHonestIn paged.old.device region (λ x.
         IsErrOf result EditFault.Device ⊎ (IsErrOf result EditFault.Source ⊎ (result ≡ placed_of
         (addition_in x (new_component name.now kind hash (S.facts source.old).content) spot)))) }
-    ensures refused { IsTrue (F.facts paged.old.device).honest
+    ensures refused { IsTrue paged.old.device.honest
         → IfErr result (λ fault. fault ≢ EditFault.Device → fault ≢ EditFault.Source
-        → (F.facts paged.new.device).content ≡ (F.facts paged.old.device).content) }
-    ensures before { OnHonestChange F.facts region paged.old paged.new (λ x y.
+        → paged.new.device.content ≡ paged.old.device.content) }
+    ensures before { OnHonestChange region paged.old paged.new (λ x y.
         IsErrOf result EditFault.Source → AddLeavesBefore x
         (new_component name.now kind hash (S.facts source.old).content) spot y) }
 
     // For an honest source.
-    ensures added { OnHonestChange F.facts region paged.old paged.new (λ x y.
+    ensures added { OnHonestChange region paged.old paged.new (λ x y.
         IsTrue (S.facts source.old).honest → OnOk result
         (y ≡ added_to x (new_component name.now kind hash (S.facts source.old).content) spot)) }
-    ensures image { OnHonestIn F.facts paged.old.device region (λ x.
-        IsTrue (S.facts source.old).honest → OnOk result ((F.facts paged.new.device).content
-        ≡ overwritten (F.facts paged.old.device).content region.start
+    ensures image { OnHonestIn paged.old.device region (λ x.
+        IsTrue (S.facts source.old).honest → OnOk result (paged.new.device.content
+        ≡ overwritten paged.old.device.content region.start
         (added_to x (new_component name.now kind hash (S.facts source.old).content) spot))) }
-    ensures stopped { OnHonestChange F.facts region paged.old paged.new (λ x y.
+    ensures stopped { OnHonestChange region paged.old paged.new (λ x y.
         IsTrue (S.facts source.old).honest → IsErrOf result EditFault.Device
         → AddLeavesWhole x (new_component name.now kind hash (S.facts source.old).content) spot y) }
 {

@@ -48,13 +48,13 @@ pub fn apply_all<F: Flash, S: Source>(
     edits: &mut [Edit<'_, S>],
     replies: &mut [Reply],
 )
-    requires region { LiesOn region (F.facts paged.old.device) }
+    requires region { LiesOn region paged.old.device }
     requires same_length { length edits.old ≡ length replies.old }
 
-    ensures after { HasChanged F.facts region (sum_by (edit_calls region.size) edits.old)
+    ensures after { HasChanged region (sum_by (edit_calls region.size) edits.old)
         (sum_by (faults_of by_device) replies.new) paged.old paged.new }
-    ensures run { Run S.facts region edits.old edits.new replies.new (F.facts paged.old.device)
-        (F.facts paged.new.device) }
+    ensures run { Run S.facts region edits.old edits.new replies.new paged.old.device
+        paged.new.device }
 {
     for i in 0..edits.len() {
         replies[i] = apply(paged, region, &mut edits[i]);
@@ -62,12 +62,12 @@ pub fn apply_all<F: Flash, S: Source>(
 }
 
 fn apply<F: Flash, S: Source>(paged: &mut Paged<F>, region: Region, edit: &mut Edit<'_, S>) -> Reply
-    requires { LiesOn region (F.facts paged.old.device) }
+    requires { LiesOn region paged.old.device }
 
-    ensures after { HasChanged F.facts region (edit_calls region.size edit.old)
+    ensures after { HasChanged region (edit_calls region.size edit.old)
         (faults_of by_device result) paged.old paged.new }
-    ensures step { Step S.facts region edit.old edit.new (F.facts paged.old.device) result
-        (F.facts paged.new.device) }
+    ensures step { Step S.facts region edit.old edit.new paged.old.device result
+        paged.new.device }
 {
     match edit {
         Edit::Add {

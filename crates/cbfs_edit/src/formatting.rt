@@ -18,19 +18,19 @@ use flash_map::Region;
 /// Formats the region as a single empty entry, without reading, and keeps its last four bytes. A
 /// device fault leaves the region unchanged, or a single free cell.
 pub fn format<F: Flash>(paged: &mut Paged<F>, region: Region) -> Result<(), EditFault>
-    requires { LiesOn region (F.facts paged.old.device) }
+    requires { LiesOn region paged.old.device }
 
-    ensures after { HasChanged F.facts region (region.size / 4096 + 2)
+    ensures after { HasChanged region (region.size / 4096 + 2)
         (fault_count by_device result) paged.old paged.new }
     ensures answer { IsErrOf result EditFault.Device
         ⊎ (result ≡ (if has_bad_size region.size then Err EditFault.RegionShape else Ok tt)) }
 
-    ensures formatted { OnHonestChange F.facts region paged.old paged.new
+    ensures formatted { OnHonestChange region paged.old paged.new
         (λ x y. OnOk result (y ≡ formatted x)) }
-    ensures refused { IsTrue (F.facts paged.old.device).honest
+    ensures refused { IsTrue paged.old.device.honest
         → IfErr result (λ fault. fault ≢ EditFault.Device
-        → (F.facts paged.new.device).content ≡ (F.facts paged.old.device).content) }
-    ensures stopped { OnHonestChange F.facts region paged.old paged.new (λ x y.
+        → paged.new.device.content ≡ paged.old.device.content) }
+    ensures stopped { OnHonestChange region paged.old paged.new (λ x y.
         IsErrOf result EditFault.Device
         → ((y ≡ x) ⊎ IsOneFreeCell y) × (last_four y ≡ last_four x)) }
 {

@@ -41,14 +41,14 @@ pub fn find_group<F: Flash>(
     region: Region,
     name: &[u8],
 ) -> Result<CellRange, EditFault>
-    requires { LiesOn region (F.facts paged.old.device) }
+    requires { LiesOn region paged.old.device }
 
-    ensures after { HasRead F.facts (region.size / 16 + 1) (fault_count by_device result)
+    ensures after { HasRead (region.size / 16 + 1) (fault_count by_device result)
         paged.old paged.new }
     ensures no_source { IsErrOf result EditFault.Source → ⊥ }
     ensures group { IfOk result (λ group. IsCellRange group region.size) }
 
-    ensures answer { OnHonestIn F.facts paged.old.device region (λ x.
+    ensures answer { OnHonestIn paged.old.device region (λ x.
         IsErrOf result EditFault.Device ⊎ (result ≡ removal_in x name.now)) }
 {
     let mut walk = Walk::new(region);
@@ -70,13 +70,13 @@ fn pass<F: Flash>(
     name: &[u8],
     search: Search,
 ) -> Result<Search, FlashFault>
-    requires region { LiesOn region (F.facts paged.old.device) }
+    requires region { LiesOn region paged.old.device }
     requires cell { IsCellIn region.size cell.now }
     requires before { IsBefore cell.now.at search }
 
-    ensures after { HasAnswered F.facts 1 paged.old paged.new result }
+    ensures after { HasAnswered 1 paged.old paged.new result }
     ensures before { IfOk result (IsBefore (cell.now.at + cell.now.span)) }
-    ensures passed { OnHonestIn F.facts paged.old.device region (λ x.
+    ensures passed { OnHonestIn paged.old.device region (λ x.
         StandsIn x cell.now → IfOk result (λ next.
         (cells : List (List ℕ)) → group_by name.now search cell.now.at (cell_in x cell.now ∷ cells)
         ≡ group_by name.now next (cell.now.at + cell.now.span) cells)) }

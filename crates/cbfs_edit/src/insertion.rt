@@ -33,10 +33,10 @@ fn write_metadata<F: Flash>(
     end: u64,
     metadata: &[u8],
 ) -> Result<(), FlashFault>
-    requires region { LiesOn region (F.facts paged.old.device) }
+    requires region { LiesOn region paged.old.device }
     requires room { HasRoom region.size place end (length metadata.now) }
 
-    ensures { HasWrittenIn F.facts region 1 (λ x. with_metadata x place metadata.now)
+    ensures { HasWrittenIn region 1 (λ x. with_metadata x place metadata.now)
         (IsUnfinished place) paged.old paged.new result }
 {
     let skip = held_back(place);
@@ -50,10 +50,10 @@ fn write_bound<F: Flash>(
     place: Place,
     end: u64,
 ) -> Result<(), FlashFault>
-    requires region { LiesOn region (F.facts paged.old.device) }
+    requires region { LiesOn region paged.old.device }
     requires room { HasRoom region.size place end (place.content - place.header) }
 
-    ensures { HasWrittenIn F.facts region 1 (λ x. with_bound x end place.run.end)
+    ensures { HasWrittenIn region 1 (λ x. with_bound x end place.run.end)
         (IsUnfinished place) paged.old paged.new result }
 {
     if end == place.run.end {
@@ -90,10 +90,10 @@ fn show<F: Flash>(
     end: u64,
     metadata: &[u8],
 ) -> Result<(), FlashFault>
-    requires region { LiesOn region (F.facts paged.old.device) }
+    requires region { LiesOn region paged.old.device }
     requires room { HasRoom region.size place end (length metadata.now) }
 
-    ensures { HasWrittenIn F.facts region 3 (λ x. with_component x place end metadata.now)
+    ensures { HasWrittenIn region 3 (λ x. with_component x place end metadata.now)
         (λ x y. (y ≡ with_component x place end metadata.now) ⊎ IsUnfinished place x y)
         paged.old paged.new result }
 {
@@ -111,13 +111,13 @@ pub fn describe<F: Flash>(
     end: u64,
     meta: &Meta<'_>,
 ) -> Result<(), FlashFault>
-    requires region { LiesOn region (F.facts paged.old.device) }
+    requires region { LiesOn region paged.old.device }
     requires room { HasRoom region.size place end (described_len meta.now) }
     requires name { length meta.now.name.now ≤ 127 }
     requires gap { meta.now.gap < 64 }
 
     ensures metadata { length (metadata_of meta.now) ≡ described_len meta.now }
-    ensures after { HasWrittenIn F.facts region 3
+    ensures after { HasWrittenIn region 3
         (λ x. with_component x place end (metadata_of meta.now))
         (λ x y. (y ≡ with_component x place end (metadata_of meta.now)) ⊎ IsUnfinished place x y)
         paged.old paged.new result }

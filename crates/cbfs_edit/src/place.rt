@@ -67,15 +67,15 @@ pub fn find_place<F: Flash>(
     name: &[u8],
     wanted: Wanted,
 ) -> Result<Place, EditFault>
-    requires region { LiesOn region (F.facts paged.old.device) }
+    requires region { LiesOn region paged.old.device }
     requires wanted { IsWanted wanted }
 
-    ensures after { HasRead F.facts (region.size / 16 + 1) (fault_count by_device result)
+    ensures after { HasRead (region.size / 16 + 1) (fault_count by_device result)
         paged.old paged.new }
     ensures no_source { IsErrOf result EditFault.Source → ⊥ }
     ensures fits { IfOk result (Fits wanted region.size) }
 
-    ensures answer { OnHonestIn F.facts paged.old.device region (λ x.
+    ensures answer { OnHonestIn paged.old.device region (λ x.
         IsErrOf result EditFault.Device ⊎ (result ≡ placing_in x name.now wanted)) }
 {
     let mut walk = Walk::new(region);
@@ -102,13 +102,13 @@ fn pass<F: Flash>(
     wanted: Wanted,
     survey: Survey,
 ) -> Result<Survey, FlashFault>
-    requires region { LiesOn region (F.facts paged.old.device) }
+    requires region { LiesOn region paged.old.device }
     requires cell { IsCellIn region.size cell.now }
     requires before { IsSurvey wanted region.size cell.now.at survey }
 
-    ensures after { HasAnswered F.facts 1 paged.old paged.new result }
+    ensures after { HasAnswered 1 paged.old paged.new result }
     ensures before { IfOk result (IsSurvey wanted region.size (cell.now.at + cell.now.span)) }
-    ensures passed { OnHonestIn F.facts paged.old.device region (λ x. StandsIn x cell.now
+    ensures passed { OnHonestIn paged.old.device region (λ x. StandsIn x cell.now
         → IfOk result (λ next. (cells : List (List ℕ))
         → place_by name.now wanted region.size survey (cell_in x cell.now ∷ cells)
         ≡ place_by name.now wanted region.size next cells)) }

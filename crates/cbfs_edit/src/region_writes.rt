@@ -19,10 +19,10 @@ pub fn commit_in<F: Flash>(
     at: u64,
     bytes: &[u8; HEADER_LENGTH],
 ) -> Result<(), FlashFault>
-    requires region { LiesOn region (F.facts paged.old.device) }
+    requires region { LiesOn region paged.old.device }
     requires inside { at + header_length ≤ region.size }
 
-    ensures { HasWrittenIn F.facts region 1 (λ x. overwritten x at bytes.now)
+    ensures { HasWrittenIn region 1 (λ x. overwritten x at bytes.now)
         (λ x y. (y ≡ x) ⊎ (y ≡ overwritten x at bytes.now)) paged.old paged.new result }
 {
     paged.commit(region.start() + at, bytes)
@@ -36,10 +36,10 @@ pub fn fill_in<F: Flash>(
     n: u64,
     byte: u8,
 ) -> Result<(), FlashFault>
-    requires region { LiesOn region (F.facts paged.old.device) }
+    requires region { LiesOn region paged.old.device }
     requires inside { at + n ≤ region.size }
 
-    ensures { HasWrittenIn F.facts region ((n + 4095) / 4096)
+    ensures { HasWrittenIn region ((n + 4095) / 4096)
         (λ x. overwritten x at (replicate n byte)) (SameOutside at n) paged.old paged.new result }
 {
     paged.fill(region.start() + at, n, byte)
@@ -53,10 +53,10 @@ pub fn copy_into<F: Flash, S: Source, W: Watch>(
     source: &mut S,
     watch: &mut W,
 ) -> Result<(), CopyInFault>
-    requires region { LiesOn region (F.facts paged.old.device) }
+    requires region { LiesOn region paged.old.device }
     requires inside { at + length (S.facts source.old).content ≤ region.size }
 
-    ensures after { HasCopied F.facts region at paged.old paged.new (S.facts source.old)
+    ensures after { HasCopied region at paged.old paged.new (S.facts source.old)
         (S.facts source.new) result }
 
     // For an honest source.
@@ -74,11 +74,11 @@ pub fn write_in<F: Flash>(
     at: u64,
     bytes: &[u8],
 ) -> Result<(), FlashFault>
-    requires region { LiesOn region (F.facts paged.old.device) }
+    requires region { LiesOn region paged.old.device }
     requires inside { at + length bytes.now ≤ region.size }
     requires short { length bytes.now ≤ 4096 }
 
-    ensures { HasWrittenIn F.facts region 1 (λ x. overwritten x at bytes.now)
+    ensures { HasWrittenIn region 1 (λ x. overwritten x at bytes.now)
         (SameOutside at (length bytes.now)) paged.old paged.new result }
 {
     let mut source = MemSource::new(bytes);
@@ -94,10 +94,10 @@ pub fn write_empty_entry<F: Flash>(
     region: Region,
     group: CellRange,
 ) -> Result<(), FlashFault>
-    requires region { LiesOn region (F.facts paged.old.device) }
+    requires region { LiesOn region paged.old.device }
     requires group { IsCellRange group region.size }
 
-    ensures { HasWrittenIn F.facts region (region.size / 4096 + 2) (λ x. removed x group)
+    ensures { HasWrittenIn region (region.size / 4096 + 2) (λ x. removed x group)
         (IsOldOrEmptied group (space_end region.size group.end)) paged.old paged.new result }
 {
     let kept = group.end == region.size();

@@ -24,23 +24,23 @@ pub fn remove<F: Flash>(
     region: Region,
     name: &[u8],
 ) -> Result<Freed, EditFault>
-    requires { LiesOn region (F.facts paged.old.device) }
+    requires { LiesOn region paged.old.device }
 
-    ensures after { HasChanged F.facts region (region.size / 16 + region.size / 4096 + 3)
+    ensures after { HasChanged region (region.size / 16 + region.size / 4096 + 3)
         (fault_count by_device result) paged.old paged.new }
     ensures no_source { IsErrOf result EditFault.Source → ⊥ }
 
-    ensures answer { OnHonestIn F.facts paged.old.device region (λ x.
+    ensures answer { OnHonestIn paged.old.device region (λ x.
         IsErrOf result EditFault.Device ⊎ (result ≡ removal_in x name.now)) }
-    ensures removed { OnHonestChange F.facts region paged.old paged.new (λ x y.
+    ensures removed { OnHonestChange region paged.old paged.new (λ x y.
         IfOk result (λ group. y ≡ removed x group)) }
-    ensures image { OnHonestIn F.facts paged.old.device region (λ x. IfOk result (λ group.
-        (F.facts paged.new.device).content
-        ≡ overwritten (F.facts paged.old.device).content region.start (removed x group))) }
-    ensures refused { IsTrue (F.facts paged.old.device).honest
+    ensures image { OnHonestIn paged.old.device region (λ x. IfOk result (λ group.
+        paged.new.device.content
+        ≡ overwritten paged.old.device.content region.start (removed x group))) }
+    ensures refused { IsTrue paged.old.device.honest
         → IfErr result (λ fault. fault ≢ EditFault.Device
-        → (F.facts paged.new.device).content ≡ (F.facts paged.old.device).content) }
-    ensures stopped { OnHonestChange F.facts region paged.old paged.new (λ x y.
+        → paged.new.device.content ≡ paged.old.device.content) }
+    ensures stopped { OnHonestChange region paged.old paged.new (λ x y.
         IsErrOf result EditFault.Device → LeavesWhole x name.now y) }
 {
     let group = find_group(paged, region, name)?;

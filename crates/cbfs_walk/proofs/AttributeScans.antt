@@ -25,25 +25,25 @@ use Rattle.cbfs_walk.proofs.Checks.{content_inside}
 use Rattle.cbfs_walk.proofs.AttributeLists.{goes, goes_end, goes_malformed, goes_none, goes_on, listed_all}
 
 -- a scan up to a position, with its remaining result
-pub record Scanning {F : Type 0} (facts : F → Device) (r : Range) (from end at : ℕ) (old now : Pages F) (Asked : Type 0) : Type 0 where
+pub record Scanning {F : Type 0} (r : Range) (from end at : ℕ) (old now : Pages F) (Asked : Type 0) : Type 0 where
   pub low : from ≤ at
   pub high : at ≤ end
-  pub passed : Passes facts r from at 0 old now
-  pub asked : IsTrue (facts old.device).honest → Asked
+  pub passed : Passes r from at 0 old now
+  pub asked : IsTrue old.device.honest → Asked
 
-pub scanning_start : {F : Type 0} (facts : F → Device) (r : Range) (from end : ℕ) (old : Pages F) (Asked : Type 0) → from ≤ end → (IsTrue (facts old.device).honest → Asked) → Scanning facts r from end from old old Asked
-scanning_start facts r from end old Asked le asked = record { low = le_refl from; high = le; passed = Passes-none facts r from old; asked = asked }
+pub scanning_start : {F : Type 0} (r : Range) (from end : ℕ) (old : Pages F) (Asked : Type 0) → from ≤ end → (IsTrue old.device.honest → Asked) → Scanning r from end from old old Asked
+scanning_start r from end old Asked le asked = record { low = le_refl from; high = le; passed = Passes-none r from old; asked = asked }
 
-module _ {F : Type 0} {facts : F → Device} {r : Range} {from end at : ℕ} {old now : Pages F} {Asked : Type 0} (s : Scanning facts r from end at old now Asked) where
+module _ {F : Type 0} {r : Range} {from end at : ℕ} {old now : Pages F} {Asked : Type 0} (s : Scanning r from end at old now Asked) where
   -- reads leave the content unchanged
-  pub told_before : (P : List ℕ → Type 0) → (IsTrue (facts now.device).honest → P (facts now.device).content) → IsTrue (facts old.device).honest → P (facts old.device).content
+  pub told_before : (P : List ℕ → Type 0) → (IsTrue now.device.honest → P now.device.content) → IsTrue old.device.honest → P old.device.content
   told_before P told k = subst P (s.passed.read.device.unchanged k) (told (honest_still s.passed.read.device.calls.same_honesty k))
 
-  pub lies_still : LiesOn r (facts old.device) → LiesOn r (facts now.device)
+  pub lies_still : LiesOn r old.device → LiesOn r now.device
   lies_still lies = LiesOn-calls s.passed.read.device.calls lies
 
   -- a further read
-  pub scanning_more : (n : ℕ) (new : Pages F) (After : Type 0) → at + n ≤ end → Passes facts r at at 0 now new → (IsTrue (facts old.device).honest → Asked → After) → Scanning facts r from end (at + n) old new After
+  pub scanning_more : (n : ℕ) (new : Pages F) (After : Type 0) → at + n ≤ end → Passes r at at 0 now new → (IsTrue old.device.honest → Asked → After) → Scanning r from end (at + n) old new After
   scanning_more n new After fits step next = record {
     low = omega (arith, s.low);
     high = fits;
@@ -52,7 +52,7 @@ module _ {F : Type 0} {facts : F → Device} {r : Range} {from end at : ℕ} {ol
   }
 
   -- the last read
-  pub scanned : {new : Pages F} {refused : ℕ} → Passes facts r at at refused now new → Passes facts r from end refused old new
+  pub scanned : {new : Pages F} {refused : ℕ} → Passes r at at refused now new → Passes r from end refused old new
   scanned read = Passes-then s.passed read (le_refl from) (le_refl at) s.high
 
 -- the list between two positions
@@ -63,23 +63,23 @@ list_at r image at end = slice_range (bytes_in r image) at end
 abbrev pub AsksRest : {A : Type 0} → (ℕ → List ℕ → A) → Range → List ℕ → ℕ → ℕ → ℕ → Type 0
 AsksRest ask r image from end at = ask at (list_at r image at end) ≡ ask from (list_at r image from end)
 
-module _ {F A : Type 0} (facts : F → Device) (ask : ℕ → List ℕ → A) (r : Range) (from end at : ℕ) (old now : Pages F) (l : declared.Listed)
-    (s : Scanning facts r from end at old now (AsksRest ask r (facts old.device).content from end at))
-    (told : IsTrue (facts now.device).honest → l ≡ listed_in (list_at r (facts now.device).content at end)) where
-  told_there : IsTrue (facts old.device).honest → l ≡ listed_in (list_at r (facts old.device).content at end)
+module _ {F A : Type 0} (ask : ℕ → List ℕ → A) (r : Range) (from end at : ℕ) (old now : Pages F) (l : declared.Listed)
+    (s : Scanning r from end at old now (AsksRest ask r old.device.content from end at))
+    (told : IsTrue now.device.honest → l ≡ listed_in (list_at r now.device.content at end)) where
+  told_there : IsTrue old.device.honest → l ≡ listed_in (list_at r old.device.content at end)
   told_there = told_before s (λ image. l ≡ listed_in (list_at r image at end)) told
 
   -- the attribute gives the result
-  pub asked_here : (v : A) → ((y : List ℕ) → l ≡ listed_in y → v ≡ ask at y) → IsTrue (facts old.device).honest → v ≡ ask from (list_at r (facts old.device).content from end)
-  asked_here v here k = here (list_at r (facts old.device).content at end) (told_there k) ∙ s.asked k
+  pub asked_here : (v : A) → ((y : List ℕ) → l ≡ listed_in y → v ≡ ask at y) → IsTrue old.device.honest → v ≡ ask from (list_at r old.device.content from end)
+  asked_here v here k = here (list_at r old.device.content at end) (told_there k) ∙ s.asked k
 
   -- the attribute is skipped
-  pub asked_more : (h : AttrHead) (n : ℕ) (new : Pages F) → n ≡ h.len → IsAttrIn at end h → Passes facts r at at 0 now new → ((y : List ℕ) → l ≡ listed_in y → ask at y ≡ ask (at + h.len) (drop h.len y))
-      → Scanning facts r from end (at + n) old new (AsksRest ask r (facts old.device).content from end (at + n))
+  pub asked_more : (h : AttrHead) (n : ℕ) (new : Pages F) → n ≡ h.len → IsAttrIn at end h → Passes r at at 0 now new → ((y : List ℕ) → l ≡ listed_in y → ask at y ≡ ask (at + h.len) (drop h.len y))
+      → Scanning r from end (at + n) old new (AsksRest ask r old.device.content from end (at + n))
   asked_more h n new e is read by = scanning_more s n new _ (omega (arith, is.inside, e)) read (λ k before.
-      let list = list_at r (facts old.device).content at end in
-      let there : drop h.len list ≡ list_at r (facts old.device).content (at + n) end =
-      range-after (bytes_in r (facts old.device).content) at end h.len (omega (arith, is.inside)) ∙ ap (λ k. slice_range (bytes_in r (facts old.device).content) (at + k) end) (sym e) in
+      let list = list_at r old.device.content at end in
+      let there : drop h.len list ≡ list_at r old.device.content (at + n) end =
+      range-after (bytes_in r old.device.content) at end h.len (omega (arith, is.inside)) ∙ ap (λ k. slice_range (bytes_in r old.device.content) (at + k) end) (sym e) in
       ap (ask (at + n)) (sym there) ∙ ap (λ k. ask (at + k) (drop h.len list)) e ∙ sym (by list (told_there k)) ∙ before)
 
 -- ---- well-formed attributes

@@ -45,14 +45,14 @@ range-join x a b n le =
 abbrev pub HoldsPart : {H : Type 0} → (H → List ℕ → Type 0) → Range → List ℕ → ℕ → ℕ → H → Type 0
 HoldsPart holds r image from at hasher = holds hasher (slice_range (bytes_in r image) from at)
 
-abbrev pub Taking : {F H : Type 0} → (F → Device) → (H → List ℕ → Type 0) → Range → ℕ → ℕ → ℕ → Pages F → Pages F → H → Type 0
-Taking facts holds r from end at old now hasher = Scanning facts r from end at old now (HoldsPart holds r (facts old.device).content from at hasher)
+abbrev pub Taking : {F H : Type 0} → (H → List ℕ → Type 0) → Range → ℕ → ℕ → ℕ → Pages F → Pages F → H → Type 0
+Taking holds r from end at old now hasher = Scanning r from end at old now (HoldsPart holds r old.device.content from at hasher)
 
-pub taking_more : {F H : Type 0} (facts : F → Device) (holds : H → List ℕ → Type 0) (r : Range) (from end at n : ℕ) (old now new : Pages F) (before hasher : H) (piece : List ℕ) → Taking facts holds r from end at old now before
-    → at + n ≤ end → Passes facts r at at 0 now new → (IsTrue (facts now.device).honest → piece ≡ slice_range (bytes_in r (facts now.device).content) at (at + n)) → ((m : List ℕ) → holds before m → holds hasher (m ++ piece))
-    → Taking facts holds r from end (at + n) old new hasher
-taking_more facts holds r from end at n old now new before hasher piece s fits read shown taken = scanning_more s n new _ fits read (λ k held.
-    let x = bytes_in r (facts old.device).content in
+pub taking_more : {F H : Type 0} (holds : H → List ℕ → Type 0) (r : Range) (from end at n : ℕ) (old now new : Pages F) (before hasher : H) (piece : List ℕ) → Taking holds r from end at old now before
+    → at + n ≤ end → Passes r at at 0 now new → (IsTrue now.device.honest → piece ≡ slice_range (bytes_in r now.device.content) at (at + n)) → ((m : List ℕ) → holds before m → holds hasher (m ++ piece))
+    → Taking holds r from end (at + n) old new hasher
+taking_more holds r from end at n old now new before hasher piece s fits read shown taken = scanning_more s n new _ fits read (λ k held.
+    let x = bytes_in r old.device.content in
     let same = told_before s (λ image. piece ≡ slice_range (bytes_in r image) at (at + n)) shown k in
     rw (← range-join x from at n s.low, ← same) (taken (slice_range x from at) held))
 
@@ -121,8 +121,8 @@ state_found r image c state lies is stands told =
     ∙ ap (state_by (data_of HASH (cell_attributes (cell_in x c)))) (sym content)
 
 -- reads of attributes and digest end before the content
-pub read_to_content : {F : Type 0} {facts : F → Device} {r : Range} {refused : ℕ} {old mid new : Pages F} (c : Cell) (tag : ℕ) (o : Option Placed) (found : Placed) → o ≡ Some found → IfSome o (IsAttrOf c tag)
-    → Passes facts r (attributes_start c) (searched_to c (Ok o)) 0 old mid → Passes facts r (found.0 + 8) (found.0 + 8 + (found.1.len - 8)) refused mid new → Passes facts r (attributes_start c) (content_start c) refused old new
+pub read_to_content : {F : Type 0} {r : Range} {refused : ℕ} {old mid new : Pages F} (c : Cell) (tag : ℕ) (o : Option Placed) (found : Placed) → o ≡ Some found → IfSome o (IsAttrOf c tag)
+    → Passes r (attributes_start c) (searched_to c (Ok o)) 0 old mid → Passes r (found.0 + 8) (found.0 + 8 + (found.1.len - 8)) refused mid new → Passes r (attributes_start c) (content_start c) refused old new
 read_to_content c tag o found is attribute first second =
     let there = (rw is at attribute).attribute in
     Passes-then (rw is at first) second (le_refl _) (omega arith) (omega (arith, there.inside, there.head))

@@ -72,22 +72,22 @@ found_step x name at inside aligned = shaped_step refused (find_cut name) (each_
 -- ---- the loop
 
 -- no earlier cell is the component
-pub record Searching {F : Type 0} (facts : F → Device) (r : Range) (name : List ℕ) (w : Walking) (old now : Pages F) : Type 0 where
+pub record Searching {F : Type 0} (r : Range) (name : List ℕ) (w : Walking) (old now : Pages F) : Type 0 where
   pub region : w.region ≡ r
   pub going : w.ended ≡ None
   pub inside : w.at ≤ r.size
   pub aligned : w.at % 64 ≡ 0
-  pub read : HasRead facts (w.at / 16) 0 old now
-  pub so_far : IsTrue (facts old.device).honest → component_in (bytes_in r (facts old.device).content) name ≡ found_from (bytes_in r (facts old.device).content) name w.at
+  pub read : HasRead (w.at / 16) 0 old now
+  pub so_far : IsTrue old.device.honest → component_in (bytes_in r old.device.content) name ≡ found_from (bytes_in r old.device.content) name w.at
 
-pub searching_start : {F : Type 0} (facts : F → Device) (r : Range) (name : List ℕ) (old : Pages F) → Searching facts r name (walk_of r) old old
-searching_start facts r name old = record {
+pub searching_start : {F : Type 0} (r : Range) (name : List ℕ) (old : Pages F) → Searching r name (walk_of r) old old
+searching_start r name old = record {
   region = refl;
   going = refl;
   inside = omega arith;
   aligned = refl;
-  read = HasRead-within facts 0 (0 / 16) 0 old old (omega arith) (HasRead-none facts old);
-  so_far = λ h. found_whole (bytes_in r (facts old.device).content) name;
+  read = HasRead-within 0 (0 / 16) 0 old old (omega arith) (HasRead-none old);
+  so_far = λ h. found_whole (bytes_in r old.device.content) name;
 }
 
 told_step : (s : Step) (b : StepResult) → (let a : StepResult = Ok s in IsErrOf a faults.Device ⊎ (a ≡ b)) → Ok s ≡ b
@@ -97,66 +97,66 @@ told_step s b (inr e) = e
 cell_is : (at span : ℕ) (h k : Head) (n : ℕ) → h ≡ k → n ≡ span → (let a : Cell = record { at = at; head = h; span = n } in a) ≡ record { at = at; head = k; span = span }
 cell_is at span h k n e f = ap (λ (j : Head). let a : Cell = record { at = at; head = j; span = n } in a) e ∙ ap (λ m. let a : Cell = record { at = at; head = k; span = m } in a) f
 
-module _ {F : Type 0} (facts : F → Device) (r : Range) (name : List ℕ) (w : Walking) (old now : Pages F) (lies : LiesOn r (facts old.device)) (s : Searching facts r name w old now) where
-  answered : (a : StepResult) → IsTrue (facts old.device).honest → a ≡ answer_at (bytes_in w.region (facts now.device).content) w.at
-      → (a ≡ answer_at (bytes_in r (facts old.device).content) w.at) × (component_in (bytes_in r (facts old.device).content) name ≡ found_by (bytes_in r (facts old.device).content) name a)
+module _ {F : Type 0} (r : Range) (name : List ℕ) (w : Walking) (old now : Pages F) (lies : LiesOn r old.device) (s : Searching r name w old now) where
+  answered : (a : StepResult) → IsTrue old.device.honest → a ≡ answer_at (bytes_in w.region now.device.content) w.at
+      → (a ≡ answer_at (bytes_in r old.device.content) w.at) × (component_in (bytes_in r old.device.content) name ≡ found_by (bytes_in r old.device.content) name a)
   answered a h is =
-      let x = bytes_in r (facts old.device).content in
-      let len : length x ≡ r.size = length-region r (facts old.device).content lies.inside in
-      let here : a ≡ answer_at x w.at = is ∙ ap (λ (k : Range). answer_at (bytes_in k (facts now.device).content) w.at) s.region ∙ ap (λ l. answer_at (bytes_in r l) w.at) (s.read.device.unchanged h) in
+      let x = bytes_in r old.device.content in
+      let len : length x ≡ r.size = length-region r old.device.content lies.inside in
+      let here : a ≡ answer_at x w.at = is ∙ ap (λ (k : Range). answer_at (bytes_in k now.device.content) w.at) s.region ∙ ap (λ l. answer_at (bytes_in r l) w.at) (s.read.device.unchanged h) in
       (here, s.so_far h ∙ found_step x name w.at (omega (arith, len, s.inside)) s.aligned ∙ ap (found_by x name) (sym here))
 
   -- a cell, and the result of its test
   module _ (step : Step) (c : Cell) (mid : Pages F) (is_it : Bool) (is : step ≡ steps.Cell c) (gives : GivesCell w.region.size w.at (Ok step))
-      (reading : HasRead facts (reads_at w.region.size w.at (Ok step)) (fault_count by_device (Ok step)) now mid)
-      (answers : IsTrue (facts now.device).honest → w.ended ≡ None → (let a : StepResult = Ok step in IsErrOf a faults.Device ⊎ (a ≡ answer_at (bytes_in w.region (facts now.device).content) w.at)))
-      (test : IsTrue (facts mid.device).honest → StandsIn (bytes_in r (facts mid.device).content) c → is_it ≡ (not (is_free c.head) && bytes_eq (cell_name (cell_in (bytes_in r (facts mid.device).content) c)) name)) where
+      (reading : HasRead (reads_at w.region.size w.at (Ok step)) (fault_count by_device (Ok step)) now mid)
+      (answers : IsTrue now.device.honest → w.ended ≡ None → (let a : StepResult = Ok step in IsErrOf a faults.Device ⊎ (a ≡ answer_at (bytes_in w.region now.device.content) w.at)))
+      (test : IsTrue mid.device.honest → StandsIn (bytes_in r mid.device.content) c → is_it ≡ (not (is_free c.head) && bytes_eq (cell_name (cell_in (bytes_in r mid.device.content) c)) name)) where
     given : IsCellIn w.region.size c × (c.at ≡ w.at)
     given = rw is at gives
 
-    reads : HasRead facts (reads_over c.span) 0 now mid
+    reads : HasRead (reads_over c.span) 0 now mid
     reads = rw is at reading
 
-    answer : IsTrue (facts old.device).honest → (let a : StepResult = Ok (steps.Cell c) in a ≡ answer_at (bytes_in w.region (facts now.device).content) w.at)
+    answer : IsTrue old.device.honest → (let a : StepResult = Ok (steps.Cell c) in a ≡ answer_at (bytes_in w.region now.device.content) w.at)
     answer h = rw is at (told_step _ _ (answers (honest_still s.read.device.calls.same_honesty h) s.going))
 
     cell_of_region : IsCellIn r.size c
     cell_of_region = rw s.region at given.0
 
-    stands : IsTrue (facts old.device).honest → StandsIn (bytes_in r (facts old.device).content) c
-    stands h = ap (answer_at (bytes_in r (facts old.device).content)) given.1 ∙ sym (answered (Ok (steps.Cell c)) h (answer h)).0
+    stands : IsTrue old.device.honest → StandsIn (bytes_in r old.device.content) c
+    stands h = ap (answer_at (bytes_in r old.device.content)) given.1 ∙ sym (answered (Ok (steps.Cell c)) h (answer h)).0
 
-    tested : IsTrue (facts old.device).honest → component_in (bytes_in r (facts old.device).content) name
-        ≡ cond is_it (Ok (Some (component_at c.at (cell_in (bytes_in r (facts old.device).content) c)))) (found_from (bytes_in r (facts old.device).content) name (c.at + c.span))
+    tested : IsTrue old.device.honest → component_in (bytes_in r old.device.content) name
+        ≡ cond is_it (Ok (Some (component_at c.at (cell_in (bytes_in r old.device.content) c)))) (found_from (bytes_in r old.device.content) name (c.at + c.span))
     unfolding found_by each_cell found_from
     tested h =
-        let x = bytes_in r (facts old.device).content in
+        let x = bytes_in r old.device.content in
         let k = honest_still s.read.device.calls.same_honesty h in
-        let same : (facts mid.device).content ≡ (facts old.device).content = reads.device.unchanged k ∙ s.read.device.unchanged h in
+        let same : mid.device.content ≡ old.device.content = reads.device.unchanged k ∙ s.read.device.unchanged h in
         let told = rw same at (test (honest_still reads.device.calls.same_honesty k)) in
         (answered (Ok (steps.Cell c)) h (answer h)).1
         ∙ ap (λ b. cond b (Ok (Some (component_at c.at (cell_in x c)))) (found_from x name (c.at + c.span))) (sym (told (stands h)))
 
-    pub found_first : is_it ≡ true → IsTrue (facts old.device).honest → component_in (bytes_in r (facts old.device).content) name ≡ Ok (Some (component_at c.at (cell_in (bytes_in r (facts old.device).content) c)))
-    found_first e h = tested h ∙ ap (λ b. cond b (Ok (Some (component_at c.at (cell_in (bytes_in r (facts old.device).content) c)))) (found_from (bytes_in r (facts old.device).content) name (c.at + c.span))) e
+    pub found_first : is_it ≡ true → IsTrue old.device.honest → component_in (bytes_in r old.device.content) name ≡ Ok (Some (component_at c.at (cell_in (bytes_in r old.device.content) c)))
+    found_first e h = tested h ∙ ap (λ b. cond b (Ok (Some (component_at c.at (cell_in (bytes_in r old.device.content) c)))) (found_from (bytes_in r old.device.content) name (c.at + c.span))) e
 
-    pub found_answer : is_it ≡ true → IsTrue (facts old.device).honest → Ok (Some c) ≡ found_cell (component_in (bytes_in r (facts old.device).content) name)
+    pub found_answer : is_it ≡ true → IsTrue old.device.honest → Ok (Some c) ≡ found_cell (component_in (bytes_in r old.device.content) name)
     found_answer e h =
-        let x = bytes_in r (facts old.device).content in
-        let len : length x ≡ r.size = length-region r (facts old.device).content lies.inside in
+        let x = bytes_in r old.device.content in
+        let len : length x ≡ r.size = length-region r old.device.content lies.inside in
         let head = cell_head x c (standing x c (stands h)) given.0.positive in
         let span = cell_len x r.size c len cell_of_region in
         sym (ap found_cell (found_first e h) ∙ ap (λ (d : Cell). Ok (Some d)) (cell_is c.at c.span (head_of (cell_in x c)) c.head (length (cell_in x c)) head span))
 
-    pub searching_more : (v : Walking) (new : Pages F) → is_it ≡ false → v ≡ walk_after w (Ok step) → HasRead facts 1 0 mid new → Searching facts r name v old new
+    pub searching_more : (v : Walking) (new : Pages F) → is_it ≡ false → v ≡ walk_after w (Ok step) → HasRead 1 0 mid new → Searching r name v old new
     searching_more v new e next more = rw (rw is at next) (record {
       region = s.region;
       going = s.going;
       inside = omega (arith, cell_of_region.inside, given.1);
       aligned = omega (arith, s.aligned, given.0.whole);
-      read = HasRead-within facts (w.at / 16 + (reads_over c.span + 1)) ((w.at + c.span) / 16) 0 old new (omega (arith, given.0.positive)) (HasRead-then facts (w.at / 16) (reads_over c.span + 1) 0 old now new s.read (HasRead-then facts (reads_over c.span) 1 0 now mid new reads more));
+      read = HasRead-within (w.at / 16 + (reads_over c.span + 1)) ((w.at + c.span) / 16) 0 old new (omega (arith, given.0.positive)) (HasRead-then (w.at / 16) (reads_over c.span + 1) 0 old now new s.read (HasRead-then (reads_over c.span) 1 0 now mid new reads more));
       so_far = λ h.
-          let x = bytes_in r (facts old.device).content in
+          let x = bytes_in r old.device.content in
           tested h
           ∙ ap (λ b. cond b (Ok (Some (component_at c.at (cell_in x c)))) (found_from x name (c.at + c.span))) e
           ∙ ap (λ q. found_from x name (q + c.span)) given.1;
@@ -165,32 +165,32 @@ module _ {F : Type 0} (facts : F → Device) (r : Range) (name : List ℕ) (w : 
   -- ---- an ended walk
 
   module _ (step : Step) (last : IsLast step) where
-    last_found : found_cell (found_by (bytes_in r (facts old.device).content) name (Ok step)) ≡ Ok None
+    last_found : found_cell (found_by (bytes_in r old.device.content) name (Ok step)) ≡ Ok None
     unfolding found_by find_cut components_from
     last_found = elim last [
-      | inl tail ↦ ap (λ (s : Step). found_cell (found_by (bytes_in r (facts old.device).content) name (Ok s))) tail.1
-      | inr end ↦ ap (λ (s : Step). found_cell (found_by (bytes_in r (facts old.device).content) name (Ok s))) end
+      | inl tail ↦ ap (λ (s : Step). found_cell (found_by (bytes_in r old.device.content) name (Ok s))) tail.1
+      | inr end ↦ ap (λ (s : Step). found_cell (found_by (bytes_in r old.device.content) name (Ok s))) end
     ]
 
-    pub last_after : (mid : Pages F) → HasRead facts (reads_at w.region.size w.at (Ok step)) 0 now mid → HasRead facts (r.size / 16 + 2) 0 old mid
+    pub last_after : (mid : Pages F) → HasRead (reads_at w.region.size w.at (Ok step)) 0 now mid → HasRead (r.size / 16 + 2) 0 old mid
     last_after mid reading =
-        HasRead-within facts (w.at / 16 + reads_over (w.region.size - w.at)) (r.size / 16 + 2) 0 old mid (omega (arith, s.inside, ap (λ (k : Range). k.size) s.region))
-        (HasRead-then facts (w.at / 16) (reads_over (w.region.size - w.at)) 0 old now mid s.read (rw (last_reads step w.region.size w.at last) at reading))
+        HasRead-within (w.at / 16 + reads_over (w.region.size - w.at)) (r.size / 16 + 2) 0 old mid (omega (arith, s.inside, ap (λ (k : Range). k.size) s.region))
+        (HasRead-then (w.at / 16) (reads_over (w.region.size - w.at)) 0 old now mid s.read (rw (last_reads step w.region.size w.at last) at reading))
 
-    pub last_answer : (IsTrue (facts now.device).honest → w.ended ≡ None → (let a : StepResult = Ok step in IsErrOf a faults.Device ⊎ (a ≡ answer_at (bytes_in w.region (facts now.device).content) w.at)))
-        → IsTrue (facts old.device).honest → Ok None ≡ found_cell (component_in (bytes_in r (facts old.device).content) name)
+    pub last_answer : (IsTrue now.device.honest → w.ended ≡ None → (let a : StepResult = Ok step in IsErrOf a faults.Device ⊎ (a ≡ answer_at (bytes_in w.region now.device.content) w.at)))
+        → IsTrue old.device.honest → Ok None ≡ found_cell (component_in (bytes_in r old.device.content) name)
     last_answer answer h = sym (ap found_cell (answered (Ok step) h (told_step _ _ (answer (honest_still s.read.device.calls.same_honesty h) s.going))).1 ∙ last_found)
 
-  refusal : (fault : WalkFault) → found_cell (found_by (bytes_in r (facts old.device).content) name (Err fault)) ≡ Err fault
+  refusal : (fault : WalkFault) → found_cell (found_by (bytes_in r old.device.content) name (Err fault)) ≡ Err fault
   unfolding found_by find_cut components_from refused
   refusal (faults.Damaged at kind) = refl
   refusal _ = refl
 
-  pub searching_err : (fault : WalkFault) → (answer : IsTrue (facts now.device).honest → w.ended ≡ None → (let a : StepResult = Err fault in IsErrOf a faults.Device ⊎ (a ≡ answer_at (bytes_in w.region (facts now.device).content) w.at)))
-      → IsTrue (facts old.device).honest → (let a : Result (Option Cell) WalkFault = Err fault in IsErrOf a faults.Device ⊎ (a ≡ found_cell (component_in (bytes_in r (facts old.device).content) name)))
+  pub searching_err : (fault : WalkFault) → (answer : IsTrue now.device.honest → w.ended ≡ None → (let a : StepResult = Err fault in IsErrOf a faults.Device ⊎ (a ≡ answer_at (bytes_in w.region now.device.content) w.at)))
+      → IsTrue old.device.honest → (let a : Result (Option Cell) WalkFault = Err fault in IsErrOf a faults.Device ⊎ (a ≡ found_cell (component_in (bytes_in r old.device.content) name)))
   searching_err fault answer h = go (answer (honest_still s.read.device.calls.same_honesty h) s.going)
     where
-      go : (let a : StepResult = Err fault in IsErrOf a faults.Device ⊎ (a ≡ answer_at (bytes_in w.region (facts now.device).content) w.at))
-          → (let a : Result (Option Cell) WalkFault = Err fault in IsErrOf a faults.Device ⊎ (a ≡ found_cell (component_in (bytes_in r (facts old.device).content) name)))
+      go : (let a : StepResult = Err fault in IsErrOf a faults.Device ⊎ (a ≡ answer_at (bytes_in w.region now.device.content) w.at))
+          → (let a : Result (Option Cell) WalkFault = Err fault in IsErrOf a faults.Device ⊎ (a ≡ found_cell (component_in (bytes_in r old.device.content) name)))
       go (inl device) = let is : fault ≡ faults.Device = cc in inl (ap (λ (f : WalkFault). Err f) is)
       go (inr is) = inr (sym (ap found_cell (answered (Err fault) h is).1 ∙ refusal fault))

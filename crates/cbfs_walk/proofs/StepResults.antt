@@ -97,14 +97,14 @@ answer_cell x at size h e a len good inside head checks told = go (told (front_s
     go (inl device) = inl device
     go (inr is) = inr (is ∙ answer_entry x at size (present h (drop at x) (Ok e)) len good inside there (and_right (eqb at 0) (is_absent (present h (drop at x) (Ok e))) (present_some h (drop at x) e)))
 
-pub cell_reads : {F : Type 0} (facts : F → Device) (r : Range) (c : Cell) (old mid new : Pages F) (a : StepResult) → PassesChecks r.size c → IfOk a (λ step. step ≡ steps.Cell c)
-    → Passes facts r c.at c.at 0 old mid → Passes facts r c.at (content_start c) (fault_count by_device a) mid new → HasRead facts (reads_at r.size c.at a) (fault_count by_device a) old new
-cell_reads facts r c old mid new (Ok step) is told first second =
+pub cell_reads : {F : Type 0} (r : Range) (c : Cell) (old mid new : Pages F) (a : StepResult) → PassesChecks r.size c → IfOk a (λ step. step ≡ steps.Cell c)
+    → Passes r c.at c.at 0 old mid → Passes r c.at (content_start c) (fault_count by_device a) mid new → HasRead (reads_at r.size c.at a) (fault_count by_device a) old new
+cell_reads r c old mid new (Ok step) is told first second =
     let k = checks_give (r.size - c.at) c.head c.span is in
-    rw told (HasRead-within facts _ (reads_over c.span) 0 old new (omega (arith, k.fits)) (Passes-then first second (le_refl c.at) (le_refl c.at) (le_refl (content_start c))).read)
-cell_reads facts r c old mid new (Err fault) is told first second =
+    rw told (HasRead-within _ (reads_over c.span) 0 old new (omega (arith, k.fits)) (Passes-then first second (le_refl c.at) (le_refl c.at) (le_refl (content_start c))).read)
+cell_reads r c old mid new (Err fault) is told first second =
     let k = checks_give (r.size - c.at) c.head c.span is in
-    HasRead-within facts _ (reads_over (r.size - c.at)) (by_device fault) old new (omega (arith, k.inside)) (Passes-then first second (le_refl c.at) (le_refl c.at) (le_refl (content_start c))).read
+    HasRead-within _ (reads_over (r.size - c.at)) (by_device fault) old new (omega (arith, k.inside)) (Passes-then first second (le_refl c.at) (le_refl c.at) (le_refl (content_start c))).read
 
 pub cell_gives : (size : ℕ) (c : Cell) (a : StepResult) → PassesChecks size c → false ≡ has_bad_size size → c.at % 64 ≡ 0 → c.at ≤ size → IfOk a (λ step. step ≡ steps.Cell c) → GivesCell size c.at a
 cell_gives size c (Err fault) is good aligned inside told = tt

@@ -21,22 +21,22 @@ abbrev pub reads_over : ℕ → ℕ
 reads_over n = 1 + n / 3840
 
 -- ordered reads between two positions of a region, with the number of faults
-pub record Passes {F : Type 0} (facts : F → Device) (region : Range) (at end refused : ℕ)
+pub record Passes {F : Type 0} (region : Range) (at end refused : ℕ)
     (old new : Pages F) : Type 0 where
-  pub spends : SpendsTo facts (region.start + at) (region.start + end) refused old new
-  pub scans : refused ≡ 0 → ScansTo facts (region.start + at) (region.start + end) old new
-  pub read : HasRead facts (reads_over (end - at)) refused old new
+  pub spends : SpendsTo (region.start + at) (region.start + end) refused old new
+  pub scans : refused ≡ 0 → ScansTo (region.start + at) (region.start + end) old new
+  pub read : HasRead (reads_over (end - at)) refused old new
 
 -- such reads by a call that fails if a read fails
-abbrev pub HasPassed : {F T E : Type 0} → (F → Device) → Range → ℕ → ℕ → Pages F → Pages F
+abbrev pub HasPassed : {F T E : Type 0} → Range → ℕ → ℕ → Pages F → Pages F
     → Result T E → Type 0
-HasPassed facts region at end old new result = Passes facts region at end (refusals result) old new
+HasPassed region at end old new result = Passes region at end (refusals result) old new
 
 -- on an honest device, success returns a function of the region's bytes
-abbrev pub ReadsAs : {F T E : Type 0} → (F → Device) → Pages F → Range → Result T E
+abbrev pub ReadsAs : {F T E : Type 0} → Pages F → Range → Result T E
     → (List ℕ → T) → Type 0
-ReadsAs facts old region result answer =
-    OnHonestIn facts old.device region (λ x. IfOk result (λ read. read ≡ answer x))
+ReadsAs old region result answer =
+    OnHonestIn old.device region (λ x. IfOk result (λ read. read ≡ answer x))
 
 abbrev pub StepResult : Type 0
 StepResult = Result Step WalkFault
@@ -76,10 +76,10 @@ abbrev pub StandsIn : List ℕ → Cell → Type 0
 StandsIn x c = answer_at x c.at ≡ Ok (steps.Cell c)
 
 -- on an honest device, success returns a function of the cell's bytes
-abbrev pub ReadsCellAs : {F T E : Type 0} → (F → Device) → Pages F → Range → Cell → Result T E
+abbrev pub ReadsCellAs : {F T E : Type 0} → Pages F → Range → Cell → Result T E
     → (List ℕ → T) → Type 0
-ReadsCellAs facts old region c result answer =
-    OnHonestIn facts old.device region
+ReadsCellAs old region c result answer =
+    OnHonestIn old.device region
     (λ x. StandsIn x c → IfOk result (λ read. read ≡ answer (cell_in x c)))
 
 abbrev pub by_device : WalkFault → ℕ

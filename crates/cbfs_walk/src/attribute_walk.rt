@@ -55,11 +55,11 @@ impl AttrWalk {
         paged: &mut Paged<F>,
         region: Region,
     ) -> Result<Option<AttrHead>, FlashFault>
-        requires region { LiesOn region (F.facts paged.old.device) }
+        requires region { LiesOn region paged.old.device }
         requires inside { self.old.cell.at + self.old.cell.head.offset ≤ region.size }
 
-        ensures after { HasAnswered F.facts (attr_reads self.old) paged.old paged.new result }
-        ensures passes { HasPassed F.facts region (place_in_region self.old)
+        ensures after { HasAnswered (attr_reads self.old) paged.old paged.new result }
+        ensures passes { HasPassed region (place_in_region self.old)
             (place_in_region self.old) paged.old paged.new result }
         ensures attribute { IfOk result (λ found. IfSome found (λ head.
             IsAttrIn self.old.at self.old.cell.head.offset head)) }
@@ -67,10 +67,10 @@ impl AttrWalk {
         ensures ended { self.old.at ≡ self.old.cell.head.offset → result ≡ Ok None }
         ensures no_call { self.old.at ≡ self.old.cell.head.offset → paged.new ≡ paged.old }
 
-        ensures head { OnHonestIn F.facts paged.old.device region (λ x. (all : List Attribute)
+        ensures head { OnHonestIn paged.old.device region (λ x. (all : List Attribute)
             → attributes_left x self.old ≡ Some all
             → IfOk result (λ found. found ≡ first_head all)) }
-        ensures rest { OnHonestIn F.facts paged.old.device region (λ x. (all : List Attribute)
+        ensures rest { OnHonestIn paged.old.device region (λ x. (all : List Attribute)
             → attributes_left x self.old ≡ Some all
             → IfOk result (λ _. attributes_left x self.new ≡ Some (after_first all))) }
     {
@@ -95,15 +95,15 @@ pub fn packing<F: Flash>(
     region: Region,
     cell: &Cell,
 ) -> Result<u32, FlashFault>
-    requires region { LiesOn region (F.facts paged.old.device) }
+    requires region { LiesOn region paged.old.device }
     requires component { IsComponentIn region.size cell.now }
 
-    ensures after { HasAnswered F.facts (reads_over cell.now.head.offset) paged.old
+    ensures after { HasAnswered (reads_over cell.now.head.offset) paged.old
         paged.new result }
 
-    ensures value { ReadsAs F.facts paged.old region result
+    ensures value { ReadsAs paged.old region result
         (λ x. value_in x (first_attribute x cell.now COMPRESSION)) }
-    ensures packing { ReadsCellAs F.facts paged.old region cell.now result
+    ensures packing { ReadsCellAs paged.old region cell.now result
         (λ x. packing (cell_attributes x)) }
 {
     content_fits(cell, region);
@@ -121,13 +121,13 @@ pub fn first_attribute<F: Flash>(
     cell: &Cell,
     tag: u32,
 ) -> Result<Option<(u64, AttrHead)>, FlashFault>
-    requires region { LiesOn region (F.facts paged.old.device) }
+    requires region { LiesOn region paged.old.device }
     requires component { IsComponentIn region.size cell.now }
 
-    ensures passes { HasPassed F.facts region (attributes_start cell.now)
+    ensures passes { HasPassed region (attributes_start cell.now)
         (searched_to cell.now result) paged.old paged.new result }
     ensures attribute { IfOk result (λ found. IfSome found (IsAttrOf cell.now tag)) }
-    ensures first { ReadsAs F.facts paged.old region result (λ x. first_attribute x cell.now tag) }
+    ensures first { ReadsAs paged.old region result (λ x. first_attribute x cell.now tag) }
 {
     content_fits(cell, region);
     let end = cell.at + u64::from(cell.head.offset);
@@ -152,12 +152,12 @@ pub fn are_well_formed<F: Flash>(
     from: u64,
     end: u64,
 ) -> Result<bool, FlashFault>
-    requires region { LiesOn region (F.facts paged.old.device) }
+    requires region { LiesOn region paged.old.device }
     requires order { from ≤ end }
     requires inside { end ≤ region.size }
 
-    ensures passes { HasPassed F.facts region from end paged.old paged.new result }
-    ensures formed { ReadsAs F.facts paged.old region result
+    ensures passes { HasPassed region from end paged.old paged.new result }
+    ensures formed { ReadsAs paged.old region result
         (λ x. is_some (attributes (slice_range x from end))) }
 {
     let mut at = from;
@@ -183,16 +183,16 @@ fn listed_at<F: Flash>(
     at: u64,
     end: u64,
 ) -> Result<Listed, FlashFault>
-    requires region { LiesOn region (F.facts paged.old.device) }
+    requires region { LiesOn region paged.old.device }
     requires order { at ≤ end }
     requires inside { end ≤ region.size }
 
-    ensures after { HasAnswered F.facts (min 1 ((end - at) / 8)) paged.old paged.new result }
-    ensures passes { HasPassed F.facts region at at paged.old paged.new result }
+    ensures after { HasAnswered (min 1 ((end - at) / 8)) paged.old paged.new result }
+    ensures passes { HasPassed region at at paged.old paged.new result }
     ensures no_call { at ≡ end → paged.new ≡ paged.old }
     ensures none { at ≡ end → result ≡ Ok Listed.End }
     ensures attribute { IfOk result (λ listed. IsListedAttribute at end listed) }
-    ensures listed { ReadsAs F.facts paged.old region result
+    ensures listed { ReadsAs paged.old region result
         (λ x. listed_in (slice_range x at end)) }
 {
     if end - at < 8 {
@@ -211,11 +211,11 @@ fn listed_at<F: Flash>(
 }
 
 pub fn value_at<F: Flash>(paged: &mut Paged<F>, region: Region, at: u64) -> Result<u32, FlashFault>
-    requires region { LiesOn region (F.facts paged.old.device) }
+    requires region { LiesOn region paged.old.device }
     requires inside { at + 4 ≤ region.size }
 
-    ensures passes { HasPassed F.facts region at at paged.old paged.new result }
-    ensures value { ReadsAs F.facts paged.old region result (λ x. be32 at x) }
+    ensures passes { HasPassed region at at paged.old paged.new result }
+    ensures value { ReadsAs paged.old region result (λ x. be32 at x) }
 {
     let mut bytes = [0; 4];
     read_in(paged, region, at, &mut bytes)?;

@@ -38,15 +38,15 @@ pub fn check_hash<F: Flash>(
     region: Region,
     cell: &Cell,
 ) -> Result<HashState, FlashFault>
-    requires region { LiesOn region (F.facts paged.old.device) }
+    requires region { LiesOn region paged.old.device }
     requires component { IsComponentIn region.size cell.now }
 
-    ensures after { HasAnswered F.facts (reads_over cell.now.span) paged.old paged.new result }
+    ensures after { HasAnswered (reads_over cell.now.span) paged.old paged.new result }
     ensures unread { IfOk result (λ state. IsUncompared state
-        → HasRead F.facts (reads_over cell.now.head.offset) 0 paged.old paged.new) }
+        → HasRead (reads_over cell.now.head.offset) 0 paged.old paged.new) }
 
-    ensures value { ReadsAs F.facts paged.old region result (λ x. hash_state_in x cell.now) }
-    ensures state { ReadsCellAs F.facts paged.old region cell.now result
+    ensures value { ReadsAs paged.old region result (λ x. hash_state_in x cell.now) }
+    ensures state { ReadsCellAs paged.old region cell.now result
         (λ x. hash_state (cell_attributes x) (cell_content x)) }
 {
     content_fits(cell, region);
@@ -69,12 +69,12 @@ fn stored_digest<F: Flash>(
     at: u64,
     n: u32,
 ) -> Result<Option<Digest>, FlashFault>
-    requires region { LiesOn region (F.facts paged.old.device) }
+    requires region { LiesOn region paged.old.device }
     requires inside { at + n ≤ region.size }
     requires least { 4 ≤ n }
 
-    ensures passes { HasPassed F.facts region at (at + n) paged.old paged.new result }
-    ensures stored { ReadsAs F.facts paged.old region result
+    ensures passes { HasPassed region at (at + n) paged.old paged.new result }
+    ensures stored { ReadsAs paged.old region result
         (λ x. stored_digest (slice_range x at (at + n))) }
 {
     let number = value_at(paged, region, at)?;
@@ -96,12 +96,12 @@ fn content_digest<F: Flash>(
     cell: &Cell,
     stored: &Digest,
 ) -> Result<Digest, FlashFault>
-    requires region { LiesOn region (F.facts paged.old.device) }
+    requires region { LiesOn region paged.old.device }
     requires cell { PassesChecks region.size cell.now }
 
-    ensures passes { HasPassed F.facts region (content_start cell.now) (content_end cell.now)
+    ensures passes { HasPassed region (content_start cell.now) (content_end cell.now)
         paged.old paged.new result }
-    ensures digest { ReadsAs F.facts paged.old region result
+    ensures digest { ReadsAs paged.old region result
         (λ x. digest_like stored.now (content_at x cell.now)) }
 {
     match stored {
@@ -125,12 +125,12 @@ fn hash_content<F: Flash, D: sha2::Digest>(
     region: Region,
     cell: &Cell,
 ) -> Result<D::Output, FlashFault>
-    requires region { LiesOn region (F.facts paged.old.device) }
+    requires region { LiesOn region paged.old.device }
     requires cell { PassesChecks region.size cell.now }
 
-    ensures passes { HasPassed F.facts region (content_start cell.now) (content_end cell.now)
+    ensures passes { HasPassed region (content_start cell.now) (content_end cell.now)
         paged.old paged.new result }
-    ensures digest { OnHonestIn F.facts paged.old.device region (λ x.
+    ensures digest { OnHonestIn paged.old.device region (λ x.
         IfOk result (D.digest_of (content_at x cell.now))) }
 {
     content_fits(cell, region);

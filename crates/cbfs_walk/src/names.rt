@@ -25,15 +25,15 @@ pub fn name<F: Flash>(
     cell: &Cell,
     out: &mut [u8; 256],
 ) -> Result<usize, FlashFault>
-    requires region { LiesOn region (F.facts paged.old.device) }
+    requires region { LiesOn region paged.old.device }
     requires component { IsComponentIn region.size cell.now }
 
-    ensures after { HasAnswered F.facts 1 paged.old paged.new result }
+    ensures after { HasAnswered 1 paged.old paged.new result }
     ensures short { IfOk result (λ n. n ≤ 255) }
 
-    ensures name { OnHonestIn F.facts paged.old.device region (λ x. StandsIn x cell.now
+    ensures name { OnHonestIn paged.old.device region (λ x. StandsIn x cell.now
         → IfOk result (λ n. take n out.new ≡ cell_name (cell_in x cell.now))) }
-    ensures len { ReadsCellAs F.facts paged.old region cell.now result (λ x. length (cell_name x)) }
+    ensures len { ReadsCellAs paged.old region cell.now result (λ x. length (cell_name x)) }
 {
     content_fits(cell, region);
     let n = name_room(&cell.head).min(LONGEST);
@@ -49,12 +49,12 @@ pub fn name_is<F: Flash>(
     cell: &Cell,
     name: &[u8],
 ) -> Result<bool, FlashFault>
-    requires region { LiesOn region (F.facts paged.old.device) }
+    requires region { LiesOn region paged.old.device }
     requires component { IsComponentIn region.size cell.now }
 
-    ensures after { HasAnswered F.facts 1 paged.old paged.new result }
+    ensures after { HasAnswered 1 paged.old paged.new result }
 
-    ensures named { ReadsCellAs F.facts paged.old region cell.now result
+    ensures named { ReadsCellAs paged.old region cell.now result
         (λ x. bytes_eq (cell_name x) name.now) }
 {
     content_fits(cell, region);
@@ -73,12 +73,12 @@ pub fn has_name_end<F: Flash>(
     at: u64,
     head: &Head,
 ) -> Result<bool, FlashFault>
-    requires region { LiesOn region (F.facts paged.old.device) }
+    requires region { LiesOn region paged.old.device }
     requires inside { at + name_end head.now ≤ region.size }
     requires order { 24 ≤ name_end head.now }
 
-    ensures passes { HasPassed F.facts region (at + 24) (at + 24) paged.old paged.new result }
-    ensures ends { ReadsAs F.facts paged.old region result
+    ensures passes { HasPassed region (at + 24) (at + 24) paged.old paged.new result }
+    ensures ends { ReadsAs paged.old region result
         (λ x. is_terminated (name_field head.now (drop at x))) }
 {
     let n = name_room(head).min(256);

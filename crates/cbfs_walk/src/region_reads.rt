@@ -18,12 +18,12 @@ pub fn read_in<F: Flash>(
     at: u64,
     out: &mut [u8],
 ) -> Result<(), FlashFault>
-    requires region { LiesOn region (F.facts paged.old.device) }
+    requires region { LiesOn region paged.old.device }
     requires inside { at + length out.old ≤ region.size }
     requires short { length out.old ≤ 256 }
 
-    ensures passes { HasPassed F.facts region at at paged.old paged.new result }
-    ensures read { OnHonestIn F.facts paged.old.device region (λ x.
+    ensures passes { HasPassed region at at paged.old paged.new result }
+    ensures read { OnHonestIn paged.old.device region (λ x.
         OnOk result (out.new ≡ slice_range x at (at + length out.old))) }
 {
     paged.read_small(region.start() + at, out)
@@ -37,14 +37,14 @@ pub fn piece_in<F: Flash>(
     at: u64,
     n: usize,
 ) -> Result<&[u8], FlashFault>
-    requires region { LiesOn region (F.facts paged.old.device) }
+    requires region { LiesOn region paged.old.device }
     requires inside { at + n ≤ region.size }
     requires short { n ≤ 256 }
 
     ensures* passes { sem 𝓛 (Rests (the_row F.row F.Flash) paged.entry (λ new.
-        HasPassed F.facts region at at paged.old new result)) }
+        HasPassed region at at paged.old new result)) }
     ensures size { IfOk result (λ bytes. length bytes.now ≡ n) }
-    ensures read { OnHonestIn F.facts paged.old.device region (λ x.
+    ensures read { OnHonestIn paged.old.device region (λ x.
         IfOk result (λ bytes. bytes.now ≡ slice_range x at (at + n))) }
 {
     paged.piece(region.start() + at, n)

@@ -23,18 +23,18 @@ pub fn find<F: Flash>(
     region: Region,
     name: &[u8],
 ) -> Result<Option<Cell>, WalkFault>
-    requires { LiesOn region (F.facts paged.old.device) }
+    requires { LiesOn region paged.old.device }
 
-    ensures after { HasRead F.facts (find_reads region.size result) (fault_count by_device result)
+    ensures after { HasRead (find_reads region.size result) (fault_count by_device result)
         paged.old paged.new }
     ensures cell { IfOk result (λ found. IfSome found (IsCellIn region.size)) }
     ensures component { IfOk result (λ found. IfSome found (λ cell. is_free cell.head ≡ false)) }
 
-    ensures answer { OnHonestIn F.facts paged.old.device region (λ x.
+    ensures answer { OnHonestIn paged.old.device region (λ x.
         IsErrOf result WalkFault.Device ⊎ (result ≡ found_cell (component_in x name.now))) }
-    ensures stands { OnHonestIn F.facts paged.old.device region (λ x.
+    ensures stands { OnHonestIn paged.old.device region (λ x.
         IfOk result (λ found. IfSome found (StandsIn x))) }
-    ensures first { OnHonestIn F.facts paged.old.device region
+    ensures first { OnHonestIn paged.old.device region
         (λ x. IfOk result (λ found. IfSome found (λ cell.
         component_in x name.now ≡ Ok (Some (component_at cell.at (cell_in x cell)))))) }
 {
@@ -58,14 +58,14 @@ pub fn is_component<F: Flash>(
     cell: &Cell,
     name: &[u8],
 ) -> Result<bool, FlashFault>
-    requires region { LiesOn region (F.facts paged.old.device) }
+    requires region { LiesOn region paged.old.device }
     requires cell { PassesChecks region.size cell.now }
 
-    ensures after { HasAnswered F.facts 1 paged.old paged.new result }
+    ensures after { HasAnswered 1 paged.old paged.new result }
     ensures component { IfOk result (λ is. IsTrue is → is_free cell.now.head ≡ false) }
     ensures no_call { IsTrue (is_free cell.now.head) → paged.new ≡ paged.old }
 
-    ensures named { ReadsCellAs F.facts paged.old region cell.now result
+    ensures named { ReadsCellAs paged.old region cell.now result
         (λ x. not (is_free cell.now.head) && bytes_eq (cell_name x) name.now) }
 {
     if cell.head.is_free() {

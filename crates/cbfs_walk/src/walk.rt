@@ -101,16 +101,16 @@ impl Walk {
     /// after any other end, each call returns the same result. A call makes one device call, and
     /// another for each 3840 bytes of the cell, or of the remaining region without a cell.
     pub fn next<F: Flash>(&mut self, paged: &mut Paged<F>) -> Result<Step, WalkFault>
-        requires { LiesOn self.old.region (F.facts paged.old.device) }
+        requires { LiesOn self.old.region paged.old.device }
 
-        ensures after { HasRead F.facts (reads_at self.old.region.size self.old.at result)
+        ensures after { HasRead (reads_at self.old.region.size self.old.at result)
             (fault_count by_device result) paged.old paged.new }
         ensures cell { GivesCell self.old.region.size self.old.at result }
         ensures moved { self.new ≡ walk_after self.old result }
         ensures ended { IfSome self.old.ended (λ answer. result ≡ answer) }
         ensures no_call { IsSome self.old.ended → paged.new ≡ paged.old }
 
-        ensures answer { OnHonestIn F.facts paged.old.device self.old.region
+        ensures answer { OnHonestIn paged.old.device self.old.region
             (λ x. self.old.ended ≡ None
             → IsErrOf result WalkFault.Device ⊎ (result ≡ answer_at x self.old.at)) }
     {
@@ -137,14 +137,14 @@ fn has_bad_size(size: u64) -> bool
 }
 
 fn answer_at<F: Flash>(paged: &mut Paged<F>, region: Region, at: u64) -> Result<Step, WalkFault>
-    requires region { LiesOn region (F.facts paged.old.device) }
+    requires region { LiesOn region paged.old.device }
     requires inside { at ≤ region.size }
     requires aligned { at % 64 ≡ 0 }
 
-    ensures after { HasRead F.facts (reads_at region.size at result)
+    ensures after { HasRead (reads_at region.size at result)
         (fault_count by_device result) paged.old paged.new }
     ensures cell { GivesCell region.size at result }
-    ensures answer { OnHonestIn F.facts paged.old.device region (λ x.
+    ensures answer { OnHonestIn paged.old.device region (λ x.
         IsErrOf result WalkFault.Device ⊎ (result ≡ answer_at x at)) }
 {
     if has_bad_size(region.size()) {
@@ -173,13 +173,13 @@ fn answer_at<F: Flash>(paged: &mut Paged<F>, region: Region, at: u64) -> Result<
 }
 
 fn cell_at<F: Flash>(paged: &mut Paged<F>, region: Region, cell: &Cell) -> Result<Step, WalkFault>
-    requires region { LiesOn region (F.facts paged.old.device) }
+    requires region { LiesOn region paged.old.device }
     requires cell { PassesChecks region.size cell.now }
 
-    ensures passes { Passes F.facts region cell.now.at (content_start cell.now)
+    ensures passes { Passes region cell.now.at (content_start cell.now)
         (fault_count by_device result) paged.old paged.new }
     ensures cell { IfOk result (λ step. step ≡ Step.Cell cell.now) }
-    ensures answer { OnHonestIn F.facts paged.old.device region
+    ensures answer { OnHonestIn paged.old.device region
         (λ x. cell.now.head ≡ head_of (drop cell.now.at x)
         → IsErrOf result WalkFault.Device ⊎ (result ≡ answer_of (drop cell.now.at x) cell.now)) }
 {
@@ -197,11 +197,11 @@ fn front_at<F: Flash>(
     region: Region,
     at: u64,
 ) -> Result<Option<Head>, FlashFault>
-    requires region { LiesOn region (F.facts paged.old.device) }
+    requires region { LiesOn region paged.old.device }
     requires inside { at ≤ region.size }
 
-    ensures passes { HasPassed F.facts region at at paged.old paged.new result }
-    ensures head { ReadsAs F.facts paged.old region result (λ x. front (drop at x)) }
+    ensures passes { HasPassed region at at paged.old paged.new result }
+    ensures head { ReadsAs paged.old region result (λ x. front (drop at x)) }
 {
     if region.size() - at < 24 {
         return Ok(None);
@@ -218,13 +218,13 @@ fn damage_in<F: Flash>(
     at: u64,
     head: &Head,
 ) -> Result<Option<DamageKind>, FlashFault>
-    requires region { LiesOn region (F.facts paged.old.device) }
+    requires region { LiesOn region paged.old.device }
     requires inside { at + head.now.offset ≤ region.size }
     requires room { 24 ≤ name_end head.now }
     requires placed { name_end head.now ≤ head.now.offset }
 
-    ensures passes { HasPassed F.facts region at (at + head.now.offset) paged.old paged.new result }
-    ensures damage { OnHonestIn F.facts paged.old.device region (λ x. IfOk result (λ damage.
+    ensures passes { HasPassed region at (at + head.now.offset) paged.old paged.new result }
+    ensures damage { OnHonestIn paged.old.device region (λ x. IfOk result (λ damage.
         (span : ℕ) → entry_or damage span ≡ component head.now (drop at x) span)) }
 {
     if !has_name_end(paged, region, at, head)? {

@@ -61,7 +61,7 @@ pub struct Images<F: Flash, G: Flash> {
 impl<F: Flash, G: Flash> Images<F, G> {
     /// Returns the lengths of the images. Sums of offsets don't overflow.
     pub fn lengths(&self) -> Lengths
-        ensures lengths { result ≡ lengths F.facts G.facts self.now }
+        ensures lengths { result ≡ lengths self.now }
         ensures old { result.old < 2 ^ 32 }
         ensures new { result.new < 2 ^ 32 }
     {
@@ -73,12 +73,12 @@ impl<F: Flash, G: Flash> Images<F, G> {
 
     /// Returns whether the blocks with this number differ; they may begin at the ends.
     pub fn is_different(&mut self, regions: RegionPair, number: u64) -> Result<bool, ChangeFault>
-        requires regions { LieOn F.facts G.facts self.old regions }
+        requires regions { LieOn self.old regions }
         requires old_begins { 4096 * number ≤ regions.old.size }
         requires new_begins { 4096 * number ≤ regions.new.size }
 
-        ensures after { HasCompared F.facts G.facts 1 self.old self.new result }
-        ensures different { OnBothIn F.facts G.facts self.old regions (λ x y.
+        ensures after { HasCompared 1 self.old self.new result }
+        ensures different { OnBothIn self.old regions (λ x y.
             IfOk result (λ different. different ≡ differs x y number)) }
     {
         let start = number * PIECE as u64;

@@ -20,9 +20,9 @@ use std::alloc::Global;
 use std::hash::RandomState;
 
 fn old_image<F: Flash>(alloc: Global, old: &mut Paged<F>) -> Result<OldImage, CheckFault>
-    ensures after { HasRead F.facts (length (F.facts old.old.device).content * 4 / 7 + 8)
+    ensures after { HasRead (length old.old.device.content * 4 / 7 + 8)
         (fault_count by_device result) old.old old.new }
-    ensures image { OnHonest F.facts old.old.device (λ x. IfOk result (λ image.
+    ensures image { OnHonest old.old.device (λ x. IfOk result (λ image.
         IsOldImage x image)) }
 {
     let map = image_map(alloc, old)?;
@@ -39,16 +39,16 @@ fn compare<F: Flash, G: Flash>(
     checked: &CheckedImage,
 ) -> Result<Comparison, ChangeFault>
     requires total { sum_sizes (region_areas checked.now.findings.items)
-        ≤ 8 * (lengths F.facts G.facts images.old).new }
+        ≤ 8 * (lengths images.old).new }
     requires regions { area_len * length (region_areas checked.now.findings.items)
-        ≤ (lengths F.facts G.facts images.old).new }
+        ≤ (lengths images.old).new }
     requires areas { area_len * length checked.now.areas.items
-        ≤ (lengths F.facts G.facts images.old).new }
+        ≤ (lengths images.old).new }
 
-    ensures after { HasReadFor F.facts G.facts ((lengths F.facts G.facts images.old).old / 24
-        + (lengths F.facts G.facts images.old).new / 2 + 4)
-        ((lengths F.facts G.facts images.old).new + 4) images.old images.new result }
-    ensures changes { OnBoth F.facts G.facts images.old (λ x y.
+    ensures after { HasReadFor ((lengths images.old).old / 24
+        + (lengths images.old).new / 2 + 4)
+        ((lengths images.old).new + 4) images.old images.new result }
+    ensures changes { OnBoth images.old (λ x y.
         old_map ≡ found_in x → checked.now.found ≡ found_in y → IfOk result (λ changes.
         IsComparison x y old_areas.now checked.now.areas.items checked.now.findings.items
         changes)) }
@@ -79,12 +79,12 @@ pub fn inspect_change<F: Flash, G: Flash>(
     request: Request<'_>,
 ) -> Result<Inspection, ChangeFault>
     // On any devices.
-    ensures after { HasReadFor F.facts G.facts ((lengths F.facts G.facts images.old).old
-        + (lengths F.facts G.facts images.old).new / 2 + 64)
-        (3 * (lengths F.facts G.facts images.old).new + 72) images.old images.new result }
+    ensures after { HasReadFor ((lengths images.old).old
+        + (lengths images.old).new / 2 + 64)
+        (3 * (lengths images.old).new + 72) images.old images.new result }
 
     // On honest devices.
-    ensures inspection { OnBoth F.facts G.facts images.old (λ x y. IfOk result (λ inspection.
+    ensures inspection { OnBoth images.old (λ x y. IfOk result (λ inspection.
         IsInspectedChange request.entry x y inspection)) }
 {
     let old = old_image(alloc, &mut images.old_image).map_err(ChangeFault::of_old)?;

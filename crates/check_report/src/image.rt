@@ -23,12 +23,12 @@ pub fn inspect_image<F: Flash>(
     request: Request<'_>,
 ) -> Result<Inspection, ChangeFault>
     // On any device.
-    ensures after { HasRead F.facts (2 * length (F.facts paged.old.device).content + 64)
+    ensures after { HasRead (2 * length paged.old.device.content + 64)
         (fault_count by_new result) paged.old paged.new }
     ensures side { fault_count by_old result ≡ 0 }
 
     // On an honest device.
-    ensures inspection { OnHonest F.facts paged.old.device (λ image. IfOk result (λ inspection.
+    ensures inspection { OnHonest paged.old.device (λ image. IfOk result (λ inspection.
         IsInspected request.entry image inspection)) }
 {
     let expected = need_areas(alloc, request.needs)?;

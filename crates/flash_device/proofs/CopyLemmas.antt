@@ -17,10 +17,10 @@ pub Calls-piece : (done n refused : ℕ) (old mid new : Device) → done < n →
 Calls-piece done n refused old mid new more whole so_far call =
     Calls-at_most ((done + 4095) / 4096 + 1) ((n + 4095) / 4096) refused old new (omega (arith, so_far.no_more, call.no_more)) (Calls-then ((done + 4095) / 4096) 1 refused old mid new so_far call)
 
-pub HasRead-piece : {F : Type 0} (facts : F → Device) (done n refused : ℕ) (old mid new : Pages F) → done < n → done % 4096 ≡ 0 → HasRead facts ((done + 4095) / 4096) 0 old mid → HasRead facts 1 refused mid new
-    → HasRead facts ((n + 4095) / 4096) refused old new
-HasRead-piece facts done n refused old mid new more whole so_far piece =
-    HasRead-within facts ((done + 4095) / 4096 + 1) ((n + 4095) / 4096) refused old new (omega (arith, more, whole)) (HasRead-then facts ((done + 4095) / 4096) 1 refused old mid new so_far piece)
+pub HasRead-piece : {F : Type 0} (done n refused : ℕ) (old mid new : Pages F) → done < n → done % 4096 ≡ 0 → HasRead ((done + 4095) / 4096) 0 old mid → HasRead 1 refused mid new
+    → HasRead ((n + 4095) / 4096) refused old new
+HasRead-piece done n refused old mid new more whole so_far piece =
+    HasRead-within ((done + 4095) / 4096 + 1) ((n + 4095) / 4096) refused old new (omega (arith, more, whole)) (HasRead-then ((done + 4095) / 4096) 1 refused old mid new so_far piece)
 
 pub slice_range-join : (xs : List ℕ) (at m k : ℕ) → slice_range xs at (at + m) ++ slice_range xs (at + m) (at + m + k) ≡ slice_range xs at (at + (m + k))
 slice_range-join xs at m k =

@@ -14,13 +14,12 @@ use Rattle.flash_device.specs.declared.paged.CopyInFault.TheVariants as inputs
 use Rattle.std.specs.Result.{result_map_both}
 
 -- P holds for an honest device's content
-abbrev pub OnHonest : {F : Type 0} → (F → Device) → F → (List ℕ → Type 0) → Type 0
-OnHonest facts device P = IsTrue (facts device).honest → P (facts device).content
+abbrev pub OnHonest : Device → (List ℕ → Type 0) → Type 0
+OnHonest device P = IsTrue device.honest → P device.content
 
 -- P holds for a region on an honest device
-abbrev pub OnHonestIn : {F : Type 0} → (F → Device) → F → Range → (List ℕ → Type 0) → Type 0
-OnHonestIn facts device region P =
-    IsTrue (facts device).honest → P (bytes_in region (facts device).content)
+abbrev pub OnHonestIn : Device → Range → (List ℕ → Type 0) → Type 0
+OnHonestIn device region P = IsTrue device.honest → P (bytes_in region device.content)
 
 -- empty, device bytes from an offset on, or the last pulled piece
 pub data Held : Type 0 where
@@ -28,8 +27,10 @@ pub data Held : Type 0 where
   Window : ℕ → List ℕ → Held
   Piece : List ℕ → Held
 
+-- a buffered device: the device itself, its facts, and the buffer
 pub record Pages (F : Type 0) : Type 0 where
-  pub device : F
+  pub flash : F
+  pub device : Device
   pub held : Held
 
 abbrev pub held_in : List ℕ → Buffered → Held
@@ -62,37 +63,37 @@ without_piece (Piece bytes) = Nothing
 without_piece held = held
 
 -- at most n reads, with the given faults
-pub record HasRead {F : Type 0} (facts : F → Device) (n refused : ℕ)
+pub record HasRead {F : Type 0} (n refused : ℕ)
     (old new : Pages F) : Type 0 where
-  pub device : Reads n refused (facts old.device) (facts new.device)
-  pub window : IsTrueTo (facts old.device) old.held → IsTrueTo (facts new.device) new.held
+  pub device : Reads n refused old.device new.device
+  pub window : IsTrueTo old.device old.held → IsTrueTo new.device new.held
 
 -- at most n reads, failed exactly if a read fails
-pub record HasAnswered {F T E : Type 0} (facts : F → Device) (n : ℕ) (old new : Pages F)
+pub record HasAnswered {F T E : Type 0} (n : ℕ) (old new : Pages F)
     (result : Result T E) : Type 0 where
-  pub read : HasRead facts n (refusals result) old new
+  pub read : HasRead n (refusals result) old new
 
 -- a read of n bytes: no call inside the window; otherwise a window from `at` on, or an empty buffer
 -- after a fault
-pub record HasSeen {F T E : Type 0} (facts : F → Device) (at n : ℕ) (old new : Pages F)
+pub record HasSeen {F T E : Type 0} (at n : ℕ) (old new : Pages F)
     (result : Result T E) : Type 0 where
-  pub read : HasRead facts 1 (refusals result) old new
+  pub read : HasRead 1 (refusals result) old new
   pub dropped : OnErr result (new.held ≡ Nothing)
   pub free : Covers old.held at n → (new ≡ old) × IsOk result
   pub held : OnOk result (Covers new.held at n)
   pub ahead : (Covers old.held at n → ⊥)
-      → OnOk result (Covers new.held at (min (length (facts old.device).content - at) 4096))
+      → OnOk result (Covers new.held at (min (length old.device.content - at) 4096))
 
 -- writes to a region, at most n calls: an honest device is unchanged outside
-pub record HasChanged {F : Type 0} (facts : F → Device) (region : Range) (n refused : ℕ)
+pub record HasChanged {F : Type 0} (region : Range) (n refused : ℕ)
     (old new : Pages F) : Type 0 where
-  pub calls : Calls n refused (facts old.device) (facts new.device)
-  pub outside : IsTrue (facts old.device).honest
-      → SameOutside region.start region.size (facts old.device).content (facts new.device).content
+  pub calls : Calls n refused old.device new.device
+  pub outside : IsTrue old.device.honest
+      → SameOutside region.start region.size old.device.content new.device.content
 
 pub record HasPulled {F E : Type 0} (old new : Pages F)
     (result : Result (Bor (List ℕ)) E) : Type 0 where
-  pub same_device : new.device ≡ old.device
+  pub kept : new ≡ record old { held = new.held }
   pub held : IfOk result (λ bytes. new.held ≡ Piece bytes.now)
   pub dropped : OnErr result (new.held ≡ Nothing)
 
@@ -140,17 +141,17 @@ pub record HasCopiedIn {T : Type 0} (at n : ℕ) (old new source source_now : De
   pub outside : IsTrue old.honest → SameOutside at n old.content new.content
 
 -- A copy of n bytes into a sink. `copied` and `part` are for honest devices.
-pub record HasCopiedOut {F W T : Type 0} (facts : F → Device) (contents : W → Option (List ℕ))
+pub record HasCopiedOut {F W T : Type 0} (contents : W → Option (List ℕ))
     (failures : W → ℕ) (most at n : ℕ) (old new : Pages F) (out out_now : W)
     (result : Result T CopyFault) : Type 0 where
-  pub read : HasRead facts most (fault_count by_device result) old new
+  pub read : HasRead most (fault_count by_device result) old new
   pub free : Covers old.held at n → new ≡ old
   pub no_piece : without_piece new.held ≡ new.held
   pub dropped : IsErrOf result causes.Device → new.held ≡ Nothing
   pub faults : failures out ≤ failures out_now
   pub output : IsErrOf result causes.Output → failures out < failures out_now
   pub no_source : IsErrOf result causes.Source → ⊥
-  pub copied : OnHonest facts old.device (λ image.
+  pub copied : OnHonest old.device (λ image.
       OnOk result (Appends (contents out) (contents out_now) (slice_range image at (at + n))))
-  pub part : OnHonest facts old.device (λ image.
+  pub part : OnHonest old.device (λ image.
       OnErr result (AppendsPart (contents out) (contents out_now) (slice_range image at (at + n))))

@@ -113,7 +113,11 @@ impl<F: Flash> Model for Paged<F> {
 
     ghost Value = { Pages F };
 
-    ghost view = { λ p. record { device = p.device; held = held_in p.buffer p.held } };
+    ghost view = { λ p. record {
+      flash = p.device;
+      device = F.facts p.device;
+      held = held_in p.buffer p.held;
+    } };
 
     ghost invariant = { λ p. FitsBuffer p.held
         × IsTrueTo (F.facts p.device) (held_in p.buffer p.held) };
@@ -135,7 +139,7 @@ impl<F: Flash> Paged<F> {
 
     /// Makes an empty buffer.
     pub fn new(device: F) -> Paged<F>
-        ensures { result ≡ record { device = device; held = Nothing } }
+        ensures { result ≡ record { flash = device; device = F.facts device; held = Nothing } }
     {
         Paged {
             device,
@@ -146,7 +150,7 @@ impl<F: Flash> Paged<F> {
 
     /// Returns the length in bytes.
     pub fn len(&self) -> u64
-        ensures length { result ≡ length (F.facts self.now.device).content }
+        ensures length { result ≡ length self.now.device.content }
         ensures below { result < 2 ^ 32 }
     {
         self.device.len()
@@ -154,14 +158,16 @@ impl<F: Flash> Paged<F> {
 
     /// Returns the device.
     pub fn flash(&self) -> &F
-        ensures { result.now ≡ self.now.device }
+        ensures flash { result.now ≡ self.now.flash }
+        ensures facts { F.facts result.now ≡ self.now.device }
     {
         &self.device
     }
 
     /// Returns the device. No write is pending.
     pub fn into_flash(self) -> F
-        ensures { result ≡ self.device }
+        ensures flash { result ≡ self.flash }
+        ensures facts { F.facts result ≡ self.device }
     {
         let Paged { device, .. } = self;
         device
@@ -177,13 +183,13 @@ impl<F: Flash> Paged<F> {
 
     /// Reads up to 4096 bytes.
     pub fn read_small(&mut self, at: u64, out: &mut [u8]) -> Result<(), FlashFault>
-        requires inside { at + length out.old ≤ length (F.facts self.old.device).content }
+        requires inside { at + length out.old ≤ length self.old.device.content }
         requires short { length out.old ≤ 4096 }
 
-        ensures after { HasSeen F.facts at (length out.old) self.old self.new result }
-        ensures read { IsTrue (F.facts self.old.device).honest
+        ensures after { HasSeen at (length out.old) self.old self.new result }
+        ensures read { IsTrue self.old.device.honest
             → OnOk result
-            (out.new ≡ slice_range (F.facts self.old.device).content at (at + length out.old)) }
+            (out.new ≡ slice_range self.old.device.content at (at + length out.old)) }
     {
         let n = out.len();
         self.fetch(at, n)?;
@@ -193,15 +199,15 @@ impl<F: Flash> Paged<F> {
 
     /// Returns n bytes at an offset.
     pub fn piece(&mut self, at: u64, n: usize) -> Result<&[u8], FlashFault>
-        requires inside { at + n ≤ length (F.facts self.old.device).content }
+        requires inside { at + n ≤ length self.old.device.content }
         requires short { n ≤ 4096 }
 
         ensures* after { sem 𝓛 (Rests (the_row F.row F.Flash) self.entry (λ new.
-            HasSeen F.facts at n self.old new result)) }
+            HasSeen at n self.old new result)) }
         ensures size { IfOk result (λ bytes. length bytes.now ≡ n) }
-        ensures read { IsTrue (F.facts self.old.device).honest
+        ensures read { IsTrue self.old.device.honest
             → IfOk result
-            (λ bytes. bytes.now ≡ slice_range (F.facts self.old.device).content at (at + n)) }
+            (λ bytes. bytes.now ≡ slice_range self.old.device.content at (at + n)) }
     {
         self.fetch(at, n)?;
         let window = &*self;
@@ -220,10 +226,10 @@ impl<F: Flash> Paged<F> {
     }
 
     fn fetch(&mut self, at: u64, n: usize) -> Result<(), FlashFault>
-        requires inside { at + n ≤ length (F.facts self.old.device).content }
+        requires inside { at + n ≤ length self.old.device.content }
         requires short { n ≤ 4096 }
 
-        ensures { HasSeen F.facts at n self.old self.new result }
+        ensures { HasSeen at n self.old self.new result }
     {
         if self.covers(at, n) {
             return Ok(());
@@ -238,7 +244,7 @@ impl<F: Flash> Paged<F> {
     fn part(&self, at: u64, n: usize) -> &[u8]
         requires { Covers self.now.held at n }
         ensures size { length result.now ≡ n }
-        ensures read { OnHonest F.facts self.now.device
+        ensures read { OnHonest self.now.device
             (λ image. result.now ≡ slice_range image at (at + n)) }
     {
         match self.held {
@@ -269,7 +275,7 @@ impl<F: Flash> Paged<F> {
         ensures read { IsTrue (S.facts source.old).honest
             → IfOk result
             (λ bytes. bytes.now ≡ slice_range (S.facts source.old).content from (from + n)) }
-        ensures unchanged { OnHonest S.facts source.old
+        ensures unchanged { OnHonest (S.facts source.old)
             (λ content. (S.facts source.new).content ≡ content) }
     {
         self.held = Buffered::Nothing;
@@ -281,10 +287,10 @@ impl<F: Flash> Paged<F> {
     /// Writes the piece. After a fault, the range is unspecified.
     pub fn push(&mut self, at: u64) -> Result<(), FlashFault>
         requires { HasPiece self.old.held
-            (λ bytes. at + length bytes ≤ length (F.facts self.old.device).content) }
+            (λ bytes. at + length bytes ≤ length self.old.device.content) }
 
         ensures after { HasPiece self.old.held (λ bytes.
-            OneWrite at bytes (F.facts self.old.device) (F.facts self.new.device) result) }
+            OneWrite at bytes self.old.device self.new.device result) }
         ensures same_piece { self.new.held ≡ self.old.held }
     {
         let size = match self.held {
@@ -296,10 +302,10 @@ impl<F: Flash> Paged<F> {
 
     /// Writes a cell's first bytes atomically.
     pub fn commit(&mut self, at: u64, bytes: &[u8; COMMIT_LENGTH]) -> Result<(), FlashFault>
-        requires { at + length bytes.now ≤ length (F.facts self.old.device).content }
+        requires { at + length bytes.now ≤ length self.old.device.content }
 
-        ensures after { OneCommit at bytes.now (F.facts self.old.device)
-            (F.facts self.new.device) result }
+        ensures after { OneCommit at bytes.now self.old.device
+            self.new.device result }
         ensures dropped { self.new.held ≡ Nothing }
     {
         self.held = Buffered::Nothing;
@@ -308,10 +314,10 @@ impl<F: Flash> Paged<F> {
 
     /// Writes a byte n times. After a fault, up to 4096 bytes are unspecified.
     pub fn fill(&mut self, at: u64, n: u64, byte: u8) -> Result<(), FlashFault>
-        requires { at + n ≤ length (F.facts self.old.device).content }
+        requires { at + n ≤ length self.old.device.content }
 
-        ensures after { HasFilled at n byte (F.facts self.old.device)
-            (F.facts self.new.device) result }
+        ensures after { HasFilled at n byte self.old.device
+            self.new.device result }
         ensures dropped { self.new.held ≡ Nothing }
     {
         self.held = Buffered::Nothing;
@@ -321,10 +327,10 @@ impl<F: Flash> Paged<F> {
 
     /// Writes a source's first n bytes. After a device fault, up to 4096 bytes are unspecified.
     pub fn copy_in<S: Source>(&mut self, at: u64, n: u64, source: &mut S) -> Result<(), CopyFault>
-        requires inside { at + n ≤ length (F.facts self.old.device).content }
+        requires inside { at + n ≤ length self.old.device.content }
         requires in_source { n ≤ length (S.facts source.old).content }
 
-        ensures after { HasCopiedIn at n (F.facts self.old.device) (F.facts self.new.device)
+        ensures after { HasCopiedIn at n self.old.device self.new.device
             (S.facts source.old) (S.facts source.new) result }
         ensures dropped { self.new.held ≡ Nothing }
     {
@@ -340,10 +346,10 @@ impl<F: Flash> Paged<F> {
         source: &mut S,
         watch: &mut W,
     ) -> Result<(), CopyInFault>
-        requires inside { at + n ≤ length (F.facts self.old.device).content }
+        requires inside { at + n ≤ length self.old.device.content }
         requires in_source { n ≤ length (S.facts source.old).content }
 
-        ensures after { HasCopiedIn at n (F.facts self.old.device) (F.facts self.new.device)
+        ensures after { HasCopiedIn at n self.old.device self.new.device
             (S.facts source.old) (S.facts source.new) (as_copy result) }
         ensures dropped { self.new.held ≡ Nothing }
         // If the source is honest, on any device.
@@ -357,11 +363,11 @@ impl<F: Flash> Paged<F> {
 
     /// Writes n bytes into a sink. After a fault, the sink has a proper prefix.
     pub fn copy_out<W: Sink>(&mut self, at: u64, n: u64, out: &mut W) -> Result<(), CopyFault>
-        requires { at + n ≤ length (F.facts self.old.device).content }
+        requires { at + n ≤ length self.old.device.content }
 
-        ensures after { HasCopiedOut F.facts W.contents W.faults ((n + 4095) / 4096) at n
+        ensures after { HasCopiedOut W.contents W.faults ((n + 4095) / 4096) at n
             self.old self.new out.old out.new result }
-        ensures pieces { OnHonest F.facts self.old.device
+        ensures pieces { OnHonest self.old.device
             (λ image. IsErrOf result CopyFault.Device
             → AppendsPieces (W.contents out.old) (W.contents out.new)
             (slice_range image at (at + n))) }
@@ -378,11 +384,11 @@ impl<F: Flash> Paged<F> {
     }
 
     fn copy_piece<W: Sink>(&mut self, at: u64, n: usize, out: &mut W) -> Result<(), CopyFault>
-        requires inside { at + n ≤ length (F.facts self.old.device).content }
+        requires inside { at + n ≤ length self.old.device.content }
         requires short { n ≤ 4096 }
         requires some { 0 < n }
 
-        ensures after { HasCopiedOut F.facts W.contents W.faults 1 at n
+        ensures after { HasCopiedOut W.contents W.faults 1 at n
             self.old self.new out.old out.new result }
         ensures none { IsErrOf result CopyFault.Device
             → Keeps (W.contents out.old) (W.contents out.new) }

@@ -134,41 +134,41 @@ no_tables_behind image from q before occurs no_table k above below table =
     (cases_lt k q)
 
 -- no map begins between two offsets, after at most two successful calls for each six bytes
-pub record SearchedTo {F : Type 0} (facts : F → Device) (from place : ℕ) (old new : Pages F) : Type 0 where
+pub record SearchedTo {F : Type 0} (from place : ℕ) (old new : Pages F) : Type 0 where
   pub above : from ≤ place
-  pub within : place ≤ length (facts old.device).content
-  pub read : HasRead facts (place / 3) 0 old new
-  pub none : IsTrue (facts old.device).honest → Nowhere (IsTableAt (facts old.device).content) from place
+  pub within : place ≤ length old.device.content
+  pub read : HasRead (place / 3) 0 old new
+  pub none : IsTrue old.device.honest → Nowhere (IsTableAt old.device.content) from place
 
 -- after a part without a signature
-pub SearchedTo-part : {F : Type 0} (facts : F → Device) (old mid new : Pages F) (from place size : ℕ) → place + size ≤ length (facts old.device).content → 56 ≤ size
-    → SearchedTo facts from place old mid → HasRead facts 1 0 mid new → (IsTrue (facts mid.device).honest → IsFirst (HasSignatureAt (facts mid.device).content) place (place + size - 7) None)
-    → SearchedTo facts from (place + (size - 7)) old new
-SearchedTo-part facts old mid new from place size within long so_far call none = record {
+pub SearchedTo-part : {F : Type 0} (old mid new : Pages F) (from place size : ℕ) → place + size ≤ length old.device.content → 56 ≤ size
+    → SearchedTo from place old mid → HasRead 1 0 mid new → (IsTrue mid.device.honest → IsFirst (HasSignatureAt mid.device.content) place (place + size - 7) None)
+    → SearchedTo from (place + (size - 7)) old new
+SearchedTo-part old mid new from place size within long so_far call none = record {
   above = omega (arith, so_far.above);
   within = omega (arith, within, long);
-  read = HasRead-within facts (place / 3 + 1) ((place + (size - 7)) / 3) 0 old new (omega (arith, long)) (HasRead-then facts (place / 3) 1 0 old mid new so_far.read call);
+  read = HasRead-within (place / 3 + 1) ((place + (size - 7)) / 3) 0 old new (omega (arith, long)) (HasRead-then (place / 3) 1 0 old mid new so_far.read call);
   none = λ h.
       let here = rw (so_far.read.device.unchanged h) at (none (honest_still so_far.read.device.calls.same_honesty h)) in
       let end : place + (size - 7) ≡ place + size - 7 = omega (arith, long) in
-      rw end (no_tables (facts old.device).content from place (place + size - 7) (so_far.none h) here);
+      rw end (no_tables old.device.content from place (place + size - 7) (so_far.none h) here);
 }
 
 -- after a signature without a map
-pub SearchedTo-signature : {F : Type 0} (facts : F → Device) (old mid new last : Pages F) (from place q e : ℕ) → q + 8 ≤ length (facts old.device).content → place ≤ q
-    → SearchedTo facts from place old mid → HasRead facts 1 0 mid new → HasRead facts 1 0 new last
-    → (IsTrue (facts mid.device).honest → IsFirst (HasSignatureAt (facts mid.device).content) place e (Some q)) → (IsTrue (facts new.device).honest → ¬ IsTableAt (facts new.device).content q)
-    → SearchedTo facts from (q + 6) old last
-SearchedTo-signature facts old mid new last from place q e within above so_far call probe first no_table =
-    let read : HasRead facts (place / 3 + 1) 0 old new = HasRead-then facts (place / 3) 1 0 old mid new so_far.read call in
+pub SearchedTo-signature : {F : Type 0} (old mid new last : Pages F) (from place q e : ℕ) → q + 8 ≤ length old.device.content → place ≤ q
+    → SearchedTo from place old mid → HasRead 1 0 mid new → HasRead 1 0 new last
+    → (IsTrue mid.device.honest → IsFirst (HasSignatureAt mid.device.content) place e (Some q)) → (IsTrue new.device.honest → ¬ IsTableAt new.device.content q)
+    → SearchedTo from (q + 6) old last
+SearchedTo-signature old mid new last from place q e within above so_far call probe first no_table =
+    let read : HasRead (place / 3 + 1) 0 old new = HasRead-then (place / 3) 1 0 old mid new so_far.read call in
     record {
       above = omega (arith, so_far.above, above);
       within = omega (arith, within);
-      read = HasRead-within facts (place / 3 + 1 + 1) ((q + 6) / 3) 0 old last (omega (arith, above)) (HasRead-then facts (place / 3 + 1) 1 0 old new last read probe);
+      read = HasRead-within (place / 3 + 1 + 1) ((q + 6) / 3) 0 old last (omega (arith, above)) (HasRead-then (place / 3 + 1) 1 0 old new last read probe);
       none = λ h.
           let found = rw (so_far.read.device.unchanged h) at (first (honest_still so_far.read.device.calls.same_honesty h)) in
           let none_here = rw (read.device.unchanged h) at (no_table (honest_still read.device.calls.same_honesty h)) in
-          no_tables_behind (facts old.device).content from q (no_tables (facts old.device).content from place q (so_far.none h) found.0.before) found.1 none_here;
+          no_tables_behind old.device.content from q (no_tables old.device.content from place q (so_far.none h) found.0.before) found.1 none_here;
     }
 
 -- no map between two offsets: the search continues at the second
@@ -229,12 +229,12 @@ unfolding is_valid_head
 valid_fits h left e = leb-true _ _ (and_parts _ _ (and_parts _ _ e).1).1
 
 -- the search ends at a signature's map
-pub SearchedTo-table : {F : Type 0} (facts : F → Device) (old mid new : Pages F) (from place q e : ℕ) (h : FmapHead) → SearchedTo facts from place old mid → HasRead facts 1 0 mid new
-    → (IsTrue (facts mid.device).honest → IsFirst (HasSignatureAt (facts mid.device).content) place e (Some q)) → (IsTrue (facts new.device).honest → Some h ≡ map_head (drop q (facts new.device).content))
-    → IsTrue (facts old.device).honest → Some (record { at = q; head = h }) ≡ found_from from (facts old.device).content
-SearchedTo-table facts old mid new from place q e h so_far call first table honest =
-    let read : HasRead facts (place / 3 + 1) 0 old new = HasRead-then facts (place / 3) 1 0 old mid new so_far.read call in
-    let image : List ℕ = (facts old.device).content in
+pub SearchedTo-table : {F : Type 0} (old mid new : Pages F) (from place q e : ℕ) (h : FmapHead) → SearchedTo from place old mid → HasRead 1 0 mid new
+    → (IsTrue mid.device.honest → IsFirst (HasSignatureAt mid.device.content) place e (Some q)) → (IsTrue new.device.honest → Some h ≡ map_head (drop q new.device.content))
+    → IsTrue old.device.honest → Some (record { at = q; head = h }) ≡ found_from from old.device.content
+SearchedTo-table old mid new from place q e h so_far call first table honest =
+    let read : HasRead (place / 3 + 1) 0 old new = HasRead-then (place / 3) 1 0 old mid new so_far.read call in
+    let image : List ℕ = old.device.content in
     let found = rw (so_far.read.device.unchanged honest) at (first (honest_still so_far.read.device.calls.same_honesty honest)) in
     let here = head_some (drop q image) h (rw (read.device.unchanged honest) at (table (honest_still read.device.calls.same_honesty honest))) in
     found_some image from q h (omega (arith, so_far.above, found.0.low)) (no_tables image from place q (so_far.none honest) found.0.before) here.0 here.1

@@ -30,16 +30,16 @@ pub struct ImageMap {
 
 /// Returns the image's map and areas, or `Device` exactly if a read failed.
 pub fn image_map<F: Flash>(alloc: Global, paged: &mut Paged<F>) -> Result<ImageMap, CheckFault>
-    ensures after { HasRead F.facts (length (F.facts paged.old.device).content / 2
-        + length (F.facts paged.old.device).content / area_len + 8) (fault_count by_device result)
+    ensures after { HasRead (length paged.old.device.content / 2
+        + length paged.old.device.content / area_len + 8) (fault_count by_device result)
         paged.old paged.new }
     ensures inside { IfOk result (λ map. IfSome map.found (λ found.
-        found.at + map_len found.head ≤ length (F.facts paged.old.device).content)) }
+        found.at + map_len found.head ≤ length paged.old.device.content)) }
     ensures fits { IfOk result (λ map.
-        area_len * length map.areas.items ≤ length (F.facts paged.old.device).content) }
-    ensures found { OnHonest F.facts paged.old.device (λ image.
+        area_len * length map.areas.items ≤ length paged.old.device.content) }
+    ensures found { OnHonest paged.old.device (λ image.
         IfOk result (λ map. map.found ≡ found_in image)) }
-    ensures areas { OnHonest F.facts paged.old.device (λ image.
+    ensures areas { OnHonest paged.old.device (λ image.
         IfOk result (λ map. map.areas.items ≡ image_areas image)) }
 {
     let Some(found) = find_fmap(paged)? else {
@@ -57,12 +57,12 @@ fn map_areas<F: Flash>(
     paged: &mut Paged<F>,
     map: &FoundMap,
 ) -> Result<Vec<NumberedArea>, CheckFault>
-    requires { map.now.at + map_len map.now.head ≤ length (F.facts paged.old.device).content }
+    requires { map.now.at + map_len map.now.head ≤ length paged.old.device.content }
 
-    ensures after { HasRead F.facts map.now.head.nareas (fault_count by_device result)
+    ensures after { HasRead map.now.head.nareas (fault_count by_device result)
         paged.old paged.new }
     ensures count { IfOk result (λ areas. length areas.items ≡ map.now.head.nareas) }
-    ensures areas { OnHonest F.facts paged.old.device (λ image.
+    ensures areas { OnHonest paged.old.device (λ image.
         IfOk result (λ areas. areas.items ≡ map_areas image map.now)) }
 {
     let mut areas = Vec::new(alloc);

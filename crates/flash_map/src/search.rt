@@ -56,11 +56,11 @@ impl From<FlashFault> for StoreFault {
 
 /// Returns the lowest valid flash map.
 pub fn find_fmap<F: Flash>(paged: &mut Paged<F>) -> Result<Option<FoundMap>, FlashFault>
-    ensures after { HasAnswered F.facts (length (F.facts paged.old.device).content / 2 + 8)
+    ensures after { HasAnswered (length paged.old.device.content / 2 + 8)
         paged.old paged.new result }
     ensures fits { IfOk result (λ found. IfSome found (λ map.
-        map.at + map_len map.head ≤ length (F.facts paged.old.device).content)) }
-    ensures found { OnHonest F.facts paged.old.device
+        map.at + map_len map.head ≤ length paged.old.device.content)) }
+    ensures found { OnHonest paged.old.device
         (λ image. IfOk result (λ found. found ≡ found_in image)) }
 {
     find_fmap_from(paged, 0)
@@ -71,13 +71,13 @@ pub fn find_fmap_from<F: Flash>(
     paged: &mut Paged<F>,
     from: u64,
 ) -> Result<Option<FoundMap>, FlashFault>
-    requires { from ≤ length (F.facts paged.old.device).content }
+    requires { from ≤ length paged.old.device.content }
 
-    ensures after { HasAnswered F.facts (length (F.facts paged.old.device).content / 2 + 8)
+    ensures after { HasAnswered (length paged.old.device.content / 2 + 8)
         paged.old paged.new result }
     ensures fits { IfOk result (λ found. IfSome found (λ map.
-        map.at + map_len map.head ≤ length (F.facts paged.old.device).content)) }
-    ensures found { OnHonest F.facts paged.old.device
+        map.at + map_len map.head ≤ length paged.old.device.content)) }
+    ensures found { OnHonest paged.old.device
         (λ image. IfOk result (λ found. found ≡ found_from from image)) }
 {
     let len = paged.len();
@@ -103,12 +103,12 @@ fn signature_in<F: Flash>(
     at: u64,
     n: usize,
 ) -> Result<Option<u64>, FlashFault>
-    requires inside { at + n ≤ length (F.facts paged.old.device).content }
+    requires inside { at + n ≤ length paged.old.device.content }
     requires short { n ≤ 4096 }
 
-    ensures after { HasAnswered F.facts 1 paged.old paged.new result }
+    ensures after { HasAnswered 1 paged.old paged.new result }
     ensures within { IfOk result (λ place. IfSome place (λ q. (at ≤ q) × (q + 8 ≤ at + n))) }
-    ensures first { OnHonest F.facts paged.old.device
+    ensures first { OnHonest paged.old.device
         (λ image. IfOk result (IsFirst (HasSignatureAt image) at (at + n - 7))) }
 {
     let _len = paged.len();
@@ -124,10 +124,10 @@ fn map_head_at<F: Flash>(
     place: u64,
     len: u64,
 ) -> Result<Option<FmapHead>, FlashFault>
-    requires { len ≡ length (F.facts paged.old.device).content }
+    requires { len ≡ length paged.old.device.content }
 
-    ensures after { HasAnswered F.facts 1 paged.old paged.new result }
-    ensures head { OnHonest F.facts paged.old.device
+    ensures after { HasAnswered 1 paged.old paged.new result }
+    ensures head { OnHonest paged.old.device
         (λ image. IfOk result (λ found. found ≡ map_head (drop place image))) }
     ensures fits { IfOk result (λ found. IfSome found (λ head. place + map_len head ≤ len)) }
 {
@@ -154,11 +154,11 @@ fn head_in(bytes: &[u8; FmapHead::LENGTH], left: u64) -> Option<FmapHead>
 /// Reads an area by its index from 0.
 pub fn area<F: Flash>(paged: &mut Paged<F>, map: &FoundMap, i: u16) -> Result<Area, FlashFault>
     requires inside { map.now.at + map_len map.now.head
-        ≤ length (F.facts paged.old.device).content }
+        ≤ length paged.old.device.content }
     requires number { i < map.now.head.nareas }
 
-    ensures after { HasAnswered F.facts 1 paged.old paged.new result }
-    ensures area { OnHonest F.facts paged.old.device (λ image.
+    ensures after { HasAnswered 1 paged.old paged.new result }
+    ensures area { OnHonest paged.old.device (λ image.
         IfOk result
         (λ area. area ≡ area_of (drop (map.now.at + fmap_head_len + area_len * i) image))) }
 {
@@ -175,10 +175,10 @@ fn area_named<F: Flash>(
     name: &[u8],
 ) -> Result<Option<Area>, FlashFault>
     requires inside { map.now.at + map_len map.now.head
-        ≤ length (F.facts paged.old.device).content }
+        ≤ length paged.old.device.content }
 
-    ensures after { HasAnswered F.facts map.now.head.nareas paged.old paged.new result }
-    ensures first { OnHonest F.facts paged.old.device
+    ensures after { HasAnswered map.now.head.nareas paged.old paged.new result }
+    ensures first { OnHonest paged.old.device
         (λ image. IfOk result (λ area. area ≡ find (is_area name.now)
         (areas_from map.now.head.nareas (drop (map.now.at + fmap_head_len) image)))) }
 {
@@ -210,11 +210,11 @@ pub fn region_of_area(area: Option<Area>, image_len: u64) -> Result<Region, Stor
 /// outside the image (6); a device fault (1) at any read.
 #[tactic(auto, unfolding(crate::specs::Regions::region_of))]
 pub fn region<F: Flash>(paged: &mut Paged<F>, name: &[u8]) -> Result<Region, StoreFault>
-    ensures after { HasRead F.facts (length (F.facts paged.old.device).content / 2
-        + length (F.facts paged.old.device).content / area_len + 8) (fault_count by_device result)
+    ensures after { HasRead (length paged.old.device.content / 2
+        + length paged.old.device.content / area_len + 8) (fault_count by_device result)
         paged.old paged.new }
-    ensures inside { IfOk result (λ region. LiesOn region (F.facts paged.old.device)) }
-    ensures answer { OnHonest F.facts paged.old.device (λ image.
+    ensures inside { IfOk result (λ region. LiesOn region paged.old.device) }
+    ensures answer { OnHonest paged.old.device (λ image.
         IsErrOf result StoreFault.Device ⊎ (result ≡ region_of image name.now)) }
 {
     let Some(map) = find_fmap(paged)? else {
@@ -229,7 +229,7 @@ pub fn map_in_source<S: Source>(source: &mut S) -> Result<Option<FmapHead>, Sour
     ensures calls { Reads 1 (refusals result) (S.facts source.old) (S.facts source.new) }
     ensures fits { IfOk result
         (λ found. IfSome found (λ head. map_len head ≤ length (S.facts source.old).content)) }
-    ensures head { OnHonest S.facts source.old
+    ensures head { OnHonest (S.facts source.old)
         (λ content. IfOk result (λ found. found ≡ map_head content)) }
 {
     let len = source.len();
@@ -251,7 +251,7 @@ pub fn area_in_source<S: Source>(
     requires number { i < head.now.nareas }
 
     ensures calls { Reads 1 (refusals result) (S.facts source.old) (S.facts source.new) }
-    ensures area { OnHonest S.facts source.old (λ content.
+    ensures area { OnHonest (S.facts source.old) (λ content.
         IfOk result (λ area. area ≡ area_of (drop (fmap_head_len + area_len * i) content))) }
 {
     let mut bytes = [0; Area::LENGTH];

@@ -17,13 +17,13 @@ use flash_device::{Flash, Paged, Source};
 use flash_map::Region;
 
 fn format_place<F: Flash>(paged: &mut Paged<F>, place: Region) -> Result<(), Refusal>
-    requires { IsPlace (length (F.facts paged.old.device).content) place }
+    requires { IsPlace (length paged.old.device.content) place }
 
-    ensures calls { Calls (length (F.facts paged.old.device).content / 4096 + 2) (refusals result)
-        (F.facts paged.old.device) (F.facts paged.new.device) }
+    ensures calls { Calls (length paged.old.device.content / 4096 + 2) (refusals result)
+        paged.old.device paged.new.device }
     ensures is { OnErr result (result ≡ Err Refusal.Device) }
-    ensures formatted { OnHonest F.facts paged.old.device (λ image.
-        OnOk result ((F.facts paged.new.device).content ≡ with_edit place formatted image)) }
+    ensures formatted { OnHonest paged.old.device (λ image.
+        OnOk result (paged.new.device.content ≡ with_edit place formatted image)) }
 {
     let _len = paged.len();
     match format(paged, place) {
@@ -34,14 +34,14 @@ fn format_place<F: Flash>(paged: &mut Paged<F>, place: Region) -> Result<(), Ref
 
 /// Formats each region as an empty entry, in order.
 fn format_all<F: Flash>(paged: &mut Paged<F>, mut places: &[Region]) -> Result<(), Refusal>
-    requires { All (IsPlace (length (F.facts paged.old.device).content)) places.now }
+    requires { All (IsPlace (length paged.old.device.content)) places.now }
 
     ensures calls { Calls
-        (length places.entry.now * (length (F.facts paged.old.device).content / 4096 + 2))
-        (refusals result) (F.facts paged.old.device) (F.facts paged.new.device) }
+        (length places.entry.now * (length paged.old.device.content / 4096 + 2))
+        (refusals result) paged.old.device paged.new.device }
     ensures is { OnErr result (result ≡ Err Refusal.Device) }
-    ensures formatted { OnHonest F.facts paged.old.device (λ image.
-        OnOk result ((F.facts paged.new.device).content
+    ensures formatted { OnHonest paged.old.device (λ image.
+        OnOk result (paged.new.device.content
         ≡ fold (λ x place. with_edit place formatted x) image places.entry.now)) }
 {
     while let [place, rest @ ..] = places {
@@ -59,7 +59,7 @@ pub fn create<F: Flash, S: Source>(
     source: &mut S,
 ) -> Result<(), Refusal>
     requires { length names.now ≤ MOST_REGIONS }
-    ensures { HasApplied F.facts (2 * length (F.facts paged.old.device).content + 64)
+    ensures { HasApplied (2 * length paged.old.device.content + 64)
         (creates (map (λ name. name.now) names.now)) paged.old paged.new (S.facts source.old)
         (S.facts source.new) result }
 {

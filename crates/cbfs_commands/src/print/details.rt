@@ -91,9 +91,9 @@ fn print_attributes<F: Flash, W: Sink>(
     row: &mut Row,
     out: &mut W,
 ) -> Result<(), Refusal>
-    requires { IsComponentOf F.facts region cell.now paged.old.device }
+    requires { IsComponentOf region cell.now paged.old.device }
 
-    ensures { HasOutput F.facts W.contents W.faults (cell.now.head.offset / 8)
+    ensures { HasOutput W.contents W.faults (cell.now.head.offset / 8)
         paged.old paged.new out.old out.new result (λ image. shows (flat_map attribute_line
         (map head_of_attribute (cell_attributes (cell_bytes region cell.now image))))) }
 {
@@ -112,9 +112,9 @@ fn print_hash<F: Flash, W: Sink>(
     row: &mut Row,
     out: &mut W,
 ) -> Result<(), Refusal>
-    requires { IsComponentOf F.facts region cell.now paged.old.device }
+    requires { IsComponentOf region cell.now paged.old.device }
 
-    ensures { HasOutput F.facts W.contents W.faults (1 + cell.now.span / 3840)
+    ensures { HasOutput W.contents W.faults (1 + cell.now.span / 3840)
         paged.old paged.new out.old out.new result (λ image.
         shows (hash_text (cell_bytes region cell.now image))) }
 {
@@ -131,9 +131,9 @@ pub fn print_details<F: Flash, W: Sink>(
     row: &mut Row,
     out: &mut W,
 ) -> Result<(), Refusal>
-    requires { IsComponentOf F.facts region cell.now paged.old.device }
+    requires { IsComponentOf region cell.now paged.old.device }
 
-    ensures { HasOutput F.facts W.contents W.faults
+    ensures { HasOutput W.contents W.faults
         (cell.now.head.offset / 8 + (1 + cell.now.span / 3840))
         paged.old paged.new out.old out.new result (λ image.
         shows (details (cell_bytes region cell.now image))) }

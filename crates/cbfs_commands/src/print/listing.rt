@@ -22,10 +22,10 @@ fn set_cell_row<F: Flash>(
     cell: &Cell,
     buffer: &mut Row,
 ) -> Result<(), FlashFault>
-    requires { IsCellOf F.facts region cell.now paged.old.device }
+    requires { IsCellOf region cell.now paged.old.device }
 
-    ensures after { HasAnswered F.facts (2 + cell.now.span / 3840) paged.old paged.new result }
-    ensures row { OnHonest F.facts paged.old.device (λ image.
+    ensures after { HasAnswered (2 + cell.now.span / 3840) paged.old paged.new result }
+    ensures row { OnHonest paged.old.device (λ image.
         OnOk result (buffer.new.items ≡ cell_row cell.now.at (cell_bytes region cell.now image))) }
 {
     cells_stand_in_their_image();
@@ -47,9 +47,9 @@ fn print_row<F: Flash, W: Sink>(
     buffer: &mut Row,
     out: &mut W,
 ) -> Result<(), Refusal>
-    requires { IsCellOf F.facts region cell.now paged.old.device }
+    requires { IsCellOf region cell.now paged.old.device }
 
-    ensures { HasOutput F.facts W.contents W.faults (2 + cell.now.span / 3840)
+    ensures { HasOutput W.contents W.faults (2 + cell.now.span / 3840)
         paged.old paged.new out.old out.new result (λ image.
         shows (cell_row cell.now.at (cell_bytes region cell.now image))) }
 {
@@ -66,9 +66,9 @@ fn print_cell<F: Flash, W: Sink>(
     buffer: &mut Row,
     out: &mut W,
 ) -> Result<(), Refusal>
-    requires { IsCellOf F.facts region cell.now paged.old.device }
+    requires { IsCellOf region cell.now paged.old.device }
 
-    ensures { HasOutput F.facts W.contents W.faults
+    ensures { HasOutput W.contents W.faults
         (2 + cell.now.span / 3840 + (if verbose then details_reads cell.now.span else 0))
         paged.old paged.new out.old out.new result
         (λ image. shows (shown_cell verbose cell.now.at (cell_bytes region cell.now image))) }
@@ -87,9 +87,9 @@ fn print_region<F: Flash, W: Sink>(
     verbose: bool,
     out: &mut W,
 ) -> Result<(), Refusal>
-    requires { LiesOn region (F.facts paged.old.device) }
+    requires { LiesOn region paged.old.device }
 
-    ensures { HasOutput F.facts W.contents W.faults
+    ensures { HasOutput W.contents W.faults
         ((if verbose then region.size / 4 else region.size / 16) + 2)
         paged.old paged.new out.old out.new result (λ image.
         print_region (bytes_in region image) verbose) }
@@ -109,8 +109,8 @@ pub fn print<F: Flash, W: Sink>(
     verbose: bool,
     out: &mut W,
 ) -> Result<(), Refusal>
-    ensures { HasOutput F.facts W.contents W.faults
-        (2 * length (F.facts paged.old.device).content + 64)
+    ensures { HasOutput W.contents W.faults
+        (2 * length paged.old.device.content + 64)
         paged.old paged.new out.old out.new result (λ image.
         printed_in image name.now (λ x. print_region x verbose)) }
 {

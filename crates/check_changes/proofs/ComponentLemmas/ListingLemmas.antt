@@ -69,46 +69,46 @@ listed_end x (Err fault) none = refl
 -- ---- the loop
 
 -- the listing has reached the walk's offset
-pub record ListedSoFar {F : Type 0} (facts : F → Device) (r : Range) (w : Walking) (all : Vec Listed Global) (old now : Pages F) : Type 0 where
-  pub reached : Reached facts r w (w.at / 24) old now
+pub record ListedSoFar {F : Type 0} (r : Range) (w : Walking) (all : Vec Listed Global) (old now : Pages F) : Type 0 where
+  pub reached : Reached r w (w.at / 24) old now
   pub cells : All (IsListedIn r.size) all.items
   pub room : spans all.items ≤ w.at
-  pub so_far : IsTrue (facts old.device).honest → all.items ++ listed_from (bytes_in r (facts old.device).content) w.at ≡ listed_in (bytes_in r (facts old.device).content)
+  pub so_far : IsTrue old.device.honest → all.items ++ listed_from (bytes_in r old.device.content) w.at ≡ listed_in (bytes_in r old.device.content)
 
-pub listing_start : {F : Type 0} (facts : F → Device) (r : Range) (all : Vec Listed Global) (old : Pages F) → all.items ≡ [] → ListedSoFar facts r (walk_of r) all old old
-listing_start facts r all old none = record {
-  reached = reached_start facts r (0 / 24) old;
+pub listing_start : {F : Type 0} (r : Range) (all : Vec Listed Global) (old : Pages F) → all.items ≡ [] → ListedSoFar r (walk_of r) all old old
+listing_start r all old none = record {
+  reached = reached_start r (0 / 24) old;
   cells = rw none (All-nil (IsListedIn r.size));
   room = rw none (omega arith);
-  so_far = λ h. rw none (sym (listed_whole (bytes_in r (facts old.device).content)));
+  so_far = λ h. rw none (sym (listed_whole (bytes_in r old.device.content)));
 }
 
-module _ {F : Type 0} (facts : F → Device) (r : Range) (w : Walking) (all : Vec Listed Global) (old now : Pages F) (lies : LiesOn r (facts old.device)) (i : ListedSoFar facts r w all old now) where
+module _ {F : Type 0} (r : Range) (w : Walking) (all : Vec Listed Global) (old now : Pages F) (lies : LiesOn r old.device) (i : ListedSoFar r w all old now) where
   abbrev x : List ℕ
-  x = bytes_in r (facts old.device).content
+  x = bytes_in r old.device.content
 
-  answered : (a : StepResult) → (IsErrOf a walk.Device → ⊥) → Answers facts w now a → IsTrue (facts old.device).honest → (a ≡ answer_at x w.at) × (all.items ++ listed_by x a ≡ listed_in x)
+  answered : (a : StepResult) → (IsErrOf a walk.Device → ⊥) → Answers w now a → IsTrue old.device.honest → (a ≡ answer_at x w.at) × (all.items ++ listed_by x a ≡ listed_in x)
   answered a other answer h =
-      let here = reached_answer facts i.reached a lies answer other h in
+      let here = reached_answer i.reached a lies answer other h in
       let step : listed_by x a ≡ listed_from x w.at = ap (λ (b : StepResult). listed_by x b) here.0 ∙ sym (listed_step x w.at here.1 i.reached.aligned) in
       (here.0, ap (λ (l : List Listed). all.items ++ l) step ∙ i.so_far h)
 
   -- a cell is listed
   pub listing_more : (c : Cell) (v : Walking) (next : Vec Listed Global) (mid new : Pages F) (n : ℕ) → IsCellIn w.region.size c × (c.at ≡ w.at)
-      → HasRead facts n 0 now mid → n ≡ reads_over c.span → HasRead facts 1 0 mid new
-      → Answers facts w now (Ok (steps.Cell c))
+      → HasRead n 0 now mid → n ≡ reads_over c.span → HasRead 1 0 mid new
+      → Answers w now (Ok (steps.Cell c))
       → v ≡ record w { at = w.at + c.span; steps = w.steps + 1 }
       → (All (IsListedIn r.size) all.items → All (IsListedIn r.size) next.items) → spans next.items ≤ spans all.items + c.span
-      → OnHonestIn facts mid.device r (λ x. StandsIn x c → next.items ≡ all.items ++ cell_listed (cell_in x c) c)
-      → ListedSoFar facts r v next old new
+      → OnHonestIn mid.device r (λ x. StandsIn x c → next.items ≡ all.items ++ cell_listed (cell_in x c) c)
+      → ListedSoFar r v next old new
   unfolding listed_by listed_from rest_cell
   listing_more c v next mid new n given reads few more answer moved cells room listed = rw moved (record {
-    reached = reached_more facts i.reached c (n + 1) ((w.at + c.span) / 24) new given (HasRead-then facts n 1 0 now mid new reads more) (omega (arith, few, given.0.positive, given.0.whole, i.reached.aligned));
+    reached = reached_more i.reached c (n + 1) ((w.at + c.span) / 24) new given (HasRead-then n 1 0 now mid new reads more) (omega (arith, few, given.0.positive, given.0.whole, i.reached.aligned));
     cells = cells i.cells;
     room = omega (arith, room, i.room);
     so_far = λ h.
         let k = honest_still i.reached.read.device.calls.same_honesty h in
-        let same : (facts mid.device).content ≡ (facts old.device).content = reads.device.unchanged k ∙ i.reached.read.device.unchanged h in
+        let same : mid.device.content ≡ old.device.content = reads.device.unchanged k ∙ i.reached.read.device.unchanged h in
         let told = answered (Ok (steps.Cell c)) (λ e. absurd cc) answer h in
         let stands : StandsIn x c = ap (λ p. answer_at x p) given.1 ∙ sym told.0 in
         let here : next.items ≡ all.items ++ cell_listed (cell_in x c) c = (rw same at (listed (honest_still reads.device.calls.same_honesty k))) stands in
@@ -119,7 +119,7 @@ module _ {F : Type 0} (facts : F → Device) (r : Range) (w : Walking) (all : Ve
   })
 
   -- the walk ended
-  pub listing_lists : (a : StepResult) → IsNoCell a → (IsErrOf a walk.Device → ⊥) → Answers facts w now a → Lists facts r old all
+  pub listing_lists : (a : StepResult) → IsNoCell a → (IsErrOf a walk.Device → ⊥) → Answers w now a → Lists r old all
   listing_lists a none other answer = (
     i.cells,
     omega (arith, i.room, i.reached.inside),

@@ -45,12 +45,12 @@ fn push_content_changes<F: Flash, G: Flash>(
     pairs: &[AreaPair],
     pair: &AreaPair,
 ) -> Result<(), ChangeFault>
-    ensures after { HasCompared F.facts G.facts (blocks_of (left.old - left.new))
+    ensures after { HasCompared (blocks_of (left.old - left.new))
         images.old images.new result }
     ensures left { left.new ≡ left_after left.old
-        (same_size_regions (lengths F.facts G.facts images.old) pair.now) }
+        (same_size_regions (lengths images.old) pair.now) }
     ensures fewer { left.new ≤ left.old }
-    ensures changes { OnBoth F.facts G.facts images.old (λ x y. OnOk result (changes.new.items
+    ensures changes { OnBoth images.old (λ x y. OnOk result (changes.new.items
         ≡ changes.old.items ++ map (area_change pair.now.new) (content_differences x y pairs.now
         pair.now (compared left.old (same_size_regions (lengths_of x y) pair.now))))) }
 {
@@ -70,10 +70,10 @@ fn push_changes<F: Flash, G: Flash>(
     images: &mut Images<F, G>,
     pairs: &[AreaPair],
 ) -> Result<(), ChangeFault>
-    ensures after { HasCompared F.facts G.facts
-        (8 * (lengths F.facts G.facts images.old).new / 4096 + length pairs.now)
+    ensures after { HasCompared
+        (8 * (lengths images.old).new / 4096 + length pairs.now)
         images.old images.new result }
-    ensures changes { OnBoth F.facts G.facts images.old (λ x y. OnOk result (changes.new.items
+    ensures changes { OnBoth images.old (λ x y. OnOk result (changes.new.items
         ≡ changes.old.items ++ area_changes_in x y pairs.now (8 * length y) pairs.now)) }
 {
     let mut left = MOST_TIMES * images.lengths().new;
@@ -85,9 +85,9 @@ fn push_changes<F: Flash, G: Flash>(
 }
 
 fn different_blocks<F: Flash, G: Flash>(images: &mut Images<F, G>) -> Result<u32, ChangeFault>
-    ensures after { HasCompared F.facts G.facts
-        (blocks_of (lengths F.facts G.facts images.old).new) images.old images.new result }
-    ensures blocks { OnBoth F.facts G.facts images.old (λ x y.
+    ensures after { HasCompared
+        (blocks_of (lengths images.old).new) images.old images.new result }
+    ensures blocks { OnBoth images.old (λ x y.
         IfOk result (λ blocks. blocks ≡ different_blocks x y)) }
 {
     let lens = images.lengths();
@@ -121,14 +121,14 @@ pub fn image_changes<'a, F: Flash, G: Flash>(
     areas: Areas<'a>,
 ) -> Result<ImageChanges, ChangeFault>
     // On any devices.
-    ensures after { HasCompared F.facts G.facts
-        (9 * (lengths F.facts G.facts images.old).new / 4096 + length areas.entry.new.now + 1)
+    ensures after { HasCompared
+        (9 * (lengths images.old).new / 4096 + length areas.entry.new.now + 1)
         images.old images.new result }
 
     // On honest devices.
-    ensures blocks { OnBoth F.facts G.facts images.old (λ x y.
+    ensures blocks { OnBoth images.old (λ x y.
         IfOk result (λ changes. changes.blocks ≡ different_blocks x y)) }
-    ensures areas { OnBoth F.facts G.facts images.old (λ x y. IfOk result (λ changes.
+    ensures areas { OnBoth images.old (λ x y. IfOk result (λ changes.
         changes.areas.items ≡ area_changes x areas.entry.old.now y areas.entry.new.now)) }
 {
     let blocks = different_blocks(images)?;

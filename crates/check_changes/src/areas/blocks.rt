@@ -30,15 +30,15 @@ pub fn different_in<F: Flash, G: Flash>(
     pairs: &[AreaPair],
     len: u64,
 ) -> Result<Differing, ChangeFault>
-    requires regions { LieOn F.facts G.facts images.old regions.now }
+    requires regions { LieOn images.old regions.now }
     requires old_begin { len ≤ blocks_of regions.now.old.size }
     requires new_begin { len ≤ blocks_of regions.now.new.size }
 
-    ensures after { HasCompared F.facts G.facts len images.old images.new result }
+    ensures after { HasCompared len images.old images.new result }
     ensures few { IfOk result (λ n. n.blocks ≤ len) }
-    ensures blocks { OnBoth F.facts G.facts images.old (λ x y.
+    ensures blocks { OnBoth images.old (λ x y.
         IfOk result (λ n. n.blocks ≡ count_below (is_difference x y regions.now) len)) }
-    ensures own { OnBoth F.facts G.facts images.old (λ x y.
+    ensures own { OnBoth images.old (λ x y.
         IfOk result (λ n. n.own ≡ count_below (is_own_difference x y pairs.now regions.now) len)) }
 {
     let lens = images.lengths();

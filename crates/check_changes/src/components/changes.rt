@@ -64,12 +64,12 @@ fn push_changes_of<'a, F: Flash, G: Flash>(
     lists: &Listings<'a>,
     listed: &'a Listed,
 ) -> Result<(), ChangeFault>
-    requires regions { LieOn F.facts G.facts images.old (listed_regions lists.now) }
+    requires regions { LieOn images.old (listed_regions lists.now) }
     requires listed { IsListedIn lists.now.new.region.size listed.now }
 
-    ensures after { HasCompared F.facts G.facts (2 + listed.now.cell.span / 4096)
+    ensures after { HasCompared (2 + listed.now.cell.span / 4096)
         images.old images.new result }
-    ensures changes { OnBothIn F.facts G.facts images.old (listed_regions lists.now)
+    ensures changes { OnBothIn images.old (listed_regions lists.now)
         (λ x y. OnOk result (changes.new.items ≡ changes.old.items
         ++ new_changes x y lists.now.old.all.now lists.now.new.all.now listed.now)) }
 {
@@ -93,11 +93,11 @@ fn push_changes<'a, F: Flash, G: Flash>(
     images: &mut Images<F, G>,
     lists: &Listings<'a>,
 ) -> Result<(), ChangeFault>
-    requires regions { LieOn F.facts G.facts images.old (listed_regions lists.now) }
+    requires regions { LieOn images.old (listed_regions lists.now) }
 
-    ensures after { HasCompared F.facts G.facts (spans lists.now.new.all.now / 24)
+    ensures after { HasCompared (spans lists.now.new.all.now / 24)
         images.old images.new result }
-    ensures changes { OnBothIn F.facts G.facts images.old (listed_regions lists.now)
+    ensures changes { OnBothIn images.old (listed_regions lists.now)
         (λ x y. OnOk result (changes.new.items ≡ changes.old.items ++ flat_map
         (new_changes x y lists.now.old.all.now lists.now.new.all.now) lists.now.new.all.now)) }
 {
@@ -146,12 +146,12 @@ fn list_changes<'a, F: Flash, G: Flash>(
     old: &'a [Listed],
     new: &'a [Listed],
 ) -> Result<Vec<ComponentChange>, ChangeFault>
-    requires regions { LieOn F.facts G.facts images.old regions }
+    requires regions { LieOn images.old regions }
     requires old { All (IsListedIn regions.old.size) old.now }
     requires new { All (IsListedIn regions.new.size) new.now }
 
-    ensures after { HasCompared F.facts G.facts (spans new.now / 24) images.old images.new result }
-    ensures changes { OnBothIn F.facts G.facts images.old regions (λ x y. IfOk result
+    ensures after { HasCompared (spans new.now / 24) images.old images.new result }
+    ensures changes { OnBothIn images.old regions (λ x y. IfOk result
         (λ changes. changes.items ≡ changes_between x y old.now new.now)) }
 {
     let lists = Listings {
@@ -172,14 +172,14 @@ pub fn component_changes<F: Flash, G: Flash>(
     images: &mut Images<F, G>,
     regions: RegionPair,
 ) -> Result<Vec<ComponentChange>, ChangeFault>
-    requires { LieOn F.facts G.facts images.old regions }
+    requires { LieOn images.old regions }
 
     // On any devices.
-    ensures after { HasReadFor F.facts G.facts ((regions.old.size + regions.new.size) / 24 + 2)
+    ensures after { HasReadFor ((regions.old.size + regions.new.size) / 24 + 2)
         (regions.new.size / 12 + 2) images.old images.new result }
 
     // On honest devices.
-    ensures changes { OnBothIn F.facts G.facts images.old regions (λ x y.
+    ensures changes { OnBothIn images.old regions (λ x y.
         IfOk result (λ changes. changes.items ≡ component_changes x y)) }
 {
     let old = components(alloc, &mut images.old_image, regions.old).map_err(ChangeFault::of_old)?;

@@ -24,13 +24,13 @@ pub fn difference<F: Flash, G: Flash>(
     old: &Listed,
     new: &Listed,
 ) -> Result<Option<ComponentDifference>, ChangeFault>
-    requires regions { LieOn F.facts G.facts images.old regions }
+    requires regions { LieOn images.old regions }
     requires old { IsListedIn regions.old.size old.now }
     requires new { IsListedIn regions.new.size new.now }
 
-    ensures after { HasCompared F.facts G.facts (2 + new.now.cell.span / 4096)
+    ensures after { HasCompared (2 + new.now.cell.span / 4096)
         images.old images.new result }
-    ensures difference { OnBothIn F.facts G.facts images.old regions (λ x y.
+    ensures difference { OnBothIn images.old regions (λ x y.
         IfOk result (λ what. what ≡ difference x y old.now.cell new.now.cell)) }
 {
     let (old, new) = (&old.cell, &new.cell);
@@ -80,15 +80,15 @@ fn same_range<F: Flash, G: Flash>(
     old: Range<u64>,
     new: Range<u64>,
 ) -> Result<bool, ChangeFault>
-    requires regions { LieOn F.facts G.facts images.old regions }
+    requires regions { LieOn images.old regions }
     requires old { old.end ≤ regions.old.size }
     requires new { new.end ≤ regions.new.size }
     requires old_order { old.start ≤ old.end }
     requires new_order { new.start ≤ new.end }
 
-    ensures after { HasCompared F.facts G.facts (1 + (new.end - new.start) / 4096)
+    ensures after { HasCompared (1 + (new.end - new.start) / 4096)
         images.old images.new result }
-    ensures same { OnBothIn F.facts G.facts images.old regions (λ x y.
+    ensures same { OnBothIn images.old regions (λ x y.
         IfOk result (λ same. same ≡ bytes_eq (slice_range x old.start old.end)
         (slice_range y new.start new.end))) }
 {
@@ -110,12 +110,12 @@ fn same_bytes<F: Flash, G: Flash>(
     images: &mut Images<F, G>,
     regions: RegionPair,
 ) -> Result<bool, ChangeFault>
-    requires regions { LieOn F.facts G.facts images.old regions }
+    requires regions { LieOn images.old regions }
     requires same_size { regions.old.size ≡ regions.new.size }
 
-    ensures after { HasCompared F.facts G.facts (1 + regions.new.size / 4096)
+    ensures after { HasCompared (1 + regions.new.size / 4096)
         images.old images.new result }
-    ensures same { OnBothIn F.facts G.facts images.old regions (λ x y.
+    ensures same { OnBothIn images.old regions (λ x y.
         IfOk result (λ same. same ≡ bytes_eq x y)) }
 {
     for number in 0..blocks_of(regions.new.size()) {

@@ -36,14 +36,14 @@ fn list_cell<F: Flash>(
     cell: &Cell,
     all: &mut Vec<Listed>,
 ) -> Result<(), CheckFault>
-    requires region { LiesOn region (F.facts paged.old.device) }
+    requires region { LiesOn region paged.old.device }
     requires cell { IsCellIn region.size cell.now }
 
-    ensures after { HasRead F.facts 1 (fault_count by_device result) paged.old paged.new }
+    ensures after { HasRead 1 (fault_count by_device result) paged.old paged.new }
     ensures cells { OnOk result (All (IsListedIn region.size) all.old.items
         → All (IsListedIn region.size) all.new.items) }
     ensures room { OnOk result (spans all.new.items ≤ spans all.old.items + cell.now.span) }
-    ensures listed { OnHonestIn F.facts paged.old.device region (λ x. StandsIn x cell.now →
+    ensures listed { OnHonestIn paged.old.device region (λ x. StandsIn x cell.now →
         OnOk result (all.new.items ≡ all.old.items ++ cell_listed (cell_in x cell.now) cell.now)) }
 {
     cells_stand_in_their_image();
@@ -62,11 +62,11 @@ pub fn components<F: Flash>(
     paged: &mut Paged<F>,
     region: Region,
 ) -> Result<Vec<Listed>, CheckFault>
-    requires { LiesOn region (F.facts paged.old.device) }
+    requires { LiesOn region paged.old.device }
 
-    ensures after { HasRead F.facts (region.size / 24 + 2)
+    ensures after { HasRead (region.size / 24 + 2)
         (fault_count by_device result) paged.old paged.new }
-    ensures lists { IfOk result (Lists F.facts region paged.old) }
+    ensures lists { IfOk result (Lists region paged.old) }
 {
     let mut all = Vec::new(alloc);
     let mut walk = Walk::new(region);

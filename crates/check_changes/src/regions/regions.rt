@@ -28,11 +28,11 @@ fn push_changes<'a, F: Flash, G: Flash>(
     finding: &'a ImageFinding,
 ) -> Result<(), ChangeFault>
     ensures fewer { left.new ≤ left.old }
-    ensures after { HasReadFor F.facts G.facts
+    ensures after { HasReadFor
         ((left.old - left.new + sum_sizes (region_area finding.now)) / 24
         + 2 * length (region_area finding.now)) (sum_sizes (region_area finding.now) / 12
         + 2 * length (region_area finding.now)) images.old images.new result }
-    ensures changes { OnBoth F.facts G.facts images.old (λ x y. OnOk result
+    ensures changes { OnBoth images.old (λ x y. OnOk result
         ((rest : List NumberedArea)
         → changes.new.items ++ region_changes_in left.new x y olds.now.all.now rest
         ≡ changes.old.items ++ region_changes_in left.old x y olds.now.all.now
@@ -69,18 +69,18 @@ pub fn region_changes<'a, F: Flash, G: Flash>(
     findings: &'a [ImageFinding],
 ) -> Result<Vec<RegionChange>, ChangeFault>
     requires total { sum_sizes (region_areas findings.now)
-        ≤ 8 * (lengths F.facts G.facts images.old).new }
+        ≤ 8 * (lengths images.old).new }
 
     // On any devices.
-    ensures after { HasReadFor F.facts G.facts
-        (((lengths F.facts G.facts images.old).old
-        + 8 * (lengths F.facts G.facts images.old).new) / 24
+    ensures after { HasReadFor
+        (((lengths images.old).old
+        + 8 * (lengths images.old).new) / 24
         + 2 * length (region_areas findings.now))
-        (8 * (lengths F.facts G.facts images.old).new / 12
+        (8 * (lengths images.old).new / 12
         + 2 * length (region_areas findings.now)) images.old images.new result }
 
     // On honest devices.
-    ensures changes { OnBoth F.facts G.facts images.old (λ x y.
+    ensures changes { OnBoth images.old (λ x y.
         IfOk result (λ changes. changes.items ≡ region_changes x old_areas.now y findings.now)) }
 {
     let olds = NamedAreas::of(alloc, old_areas)?;

@@ -43,11 +43,11 @@ piece_is x at k end n inside is =
     last le = take_all 4096 (take (end - (at + k)) l) (omega (arith, le, length-take (end - (at + k)) l)) ∙ ap (λ m. take m l) {x = end - (at + k)} {y = n} (omega (arith, is, le))
 
 -- of a piece that was read, or else of the later bytes
-pub filled_next : {F : Type 0} (facts : F → Device) (r : Range) (at k n m : ℕ) (old now : Pages F) (bytes : List ℕ) → LiesOn r (facts old.device) → HasRead facts m 0 old now
-    → at + k < r.size - 4 → n ≡ min (r.size - at - 4 - k) 4096 → (IsTrue (facts now.device).honest → bytes ≡ slice_range (facts now.device).content (r.start + (at + k)) (r.start + (at + k) + n)) → IsTrue (facts old.device).honest
-    → (let l = tail_bytes at (bytes_in r (facts old.device).content) in position_from is_filled (at + k) (drop k l) ≡ option_or (position_from is_filled (at + k) bytes) (position_from is_filled (at + (k + 4096)) (drop (k + 4096) l)))
-filled_next facts r at k n m old now bytes lies read inside is shown h =
-    let image = (facts old.device).content in
+pub filled_next : {F : Type 0} (r : Range) (at k n m : ℕ) (old now : Pages F) (bytes : List ℕ) → LiesOn r old.device → HasRead m 0 old now
+    → at + k < r.size - 4 → n ≡ min (r.size - at - 4 - k) 4096 → (IsTrue now.device.honest → bytes ≡ slice_range now.device.content (r.start + (at + k)) (r.start + (at + k) + n)) → IsTrue old.device.honest
+    → (let l = tail_bytes at (bytes_in r old.device.content) in position_from is_filled (at + k) (drop k l) ≡ option_or (position_from is_filled (at + k) bytes) (position_from is_filled (at + (k + 4096)) (drop (k + 4096) l)))
+filled_next r at k n m old now bytes lies read inside is shown h =
+    let image = old.device.content in
     let x = bytes_in r image in
     let l = drop k (tail_bytes at x) in
     let len : length x ≡ r.size = length-bytes_in r image lies.inside in

@@ -83,18 +83,18 @@ tail_place x place at is = grind (arith, common_steps, is)
 -- ---- the loop
 
 -- the check has reached the walk's offset
-pub record Checking {F : Type 0} (facts : F → Device) (r : Range) (w : Walking) (found : List RegionFinding) (count : Count) (old now : Pages F) : Type 0 where
-  pub reached : Reached facts r w (w.at / 16) old now
+pub record Checking {F : Type 0} (r : Range) (w : Walking) (found : List RegionFinding) (count : Count) (old now : Pages F) : Type 0 where
+  pub reached : Reached r w (w.at / 16) old now
   pub before : (count.components ≤ w.at) × (count.free ≤ w.at)
-  pub so_far : OnHonestIn facts old.device r (λ x. walk_findings x ≡ found ++ findings_from x count w.at)
+  pub so_far : OnHonestIn old.device r (λ x. walk_findings x ≡ found ++ findings_from x count w.at)
 
-pub checking_start : {F : Type 0} (facts : F → Device) (r : Range) (old : Pages F) → LiesOn r (facts old.device) → Checking facts r (walk_of r) [] (nothing r.size) old old
-checking_start facts r old lies = record {
-  reached = reached_start facts r (0 / 16) old;
+pub checking_start : {F : Type 0} (r : Range) (old : Pages F) → LiesOn r old.device → Checking r (walk_of r) [] (nothing r.size) old old
+checking_start r old lies = record {
+  reached = reached_start r (0 / 16) old;
   before = (omega arith, omega arith);
   so_far = λ h.
-      let x = bytes_in r (facts old.device).content in
-      whole_findings x ∙ ap (λ n. findings_from x (nothing n) 0) (length-bytes_in r (facts old.device).content lies.inside);
+      let x = bytes_in r old.device.content in
+      whole_findings x ∙ ap (λ n. findings_from x (nothing n) 0) (length-bytes_in r old.device.content lies.inside);
 }
 
 counted : (free : Bool) (n : Count) (at place len : ℕ) → (n.components ≤ at) × (n.free ≤ at) → place ≡ at → 64 ≤ len
@@ -102,31 +102,31 @@ counted : (free : Bool) (n : Count) (at place len : ℕ) → (n.components ≤ a
 counted true n at place len had is some = (omega (arith, had.0), omega (arith, had.1))
 counted false n at place len had is some = (omega (arith, had.0, some), omega (arith, had.1))
 
-module _ {F : Type 0} (facts : F → Device) (r : Range) (w : Walking) (found : List RegionFinding) (count : Count) (old now : Pages F) (lies : LiesOn r (facts old.device)) (i : Checking facts r w found count old now) where
+module _ {F : Type 0} (r : Range) (w : Walking) (found : List RegionFinding) (count : Count) (old now : Pages F) (lies : LiesOn r old.device) (i : Checking r w found count old now) where
   abbrev x : List ℕ
-  x = bytes_in r (facts old.device).content
+  x = bytes_in r old.device.content
 
-  answered : (a : StepResult) → Answers facts w now a → (IsErrOf a walk.Device → ⊥) → IsTrue (facts old.device).honest → (a ≡ answer_at x w.at) × (walk_findings x ≡ found ++ findings_by x count a)
+  answered : (a : StepResult) → Answers w now a → (IsErrOf a walk.Device → ⊥) → IsTrue old.device.honest → (a ≡ answer_at x w.at) × (walk_findings x ≡ found ++ findings_by x count a)
   answered a answer other h =
-      let here = reached_answer facts i.reached a lies answer other h in
+      let here = reached_answer i.reached a lies answer other h in
       let step = by_step x count w.at here.1 i.reached.aligned ∙ ap (λ (b : StepResult). findings_by x count b) (sym here.0) in
       (here.0, i.so_far h ∙ ap (λ (l : List RegionFinding). found ++ l) step)
 
   -- another cell
   pub checking_more : (c : Cell) (v : Walking) (next : List RegionFinding) (more : Count) (mid new : Pages F) (n m : ℕ) → IsCellIn w.region.size c × (c.at ≡ w.at)
-      → HasRead facts n 0 now mid → n ≡ reads_over c.span → HasRead facts m 0 mid new → m ≡ 3 + 2 * (c.span / 3840)
-      → Answers facts w now (Ok (steps.Cell c))
+      → HasRead n 0 now mid → n ≡ reads_over c.span → HasRead m 0 mid new → m ≡ 3 + 2 * (c.span / 3840)
+      → Answers w now (Ok (steps.Cell c))
       → v ≡ record w { at = w.at + c.span; steps = w.steps + 1 }
       → more ≡ count_after count (is_free c.head) c.at c.span
-      → OnHonestIn facts mid.device r (λ y. StandsIn y c → next ≡ found ++ cell_findings c.at (cell_in y c))
-      → Checking facts r v next more old new
+      → OnHonestIn mid.device r (λ y. StandsIn y c → next ≡ found ++ cell_findings c.at (cell_in y c))
+      → Checking r v next more old new
   unfolding findings_by cell_step findings_from
   checking_more c v next more mid new n m given reads few over fewer answer moved is_more gains = rw moved (record {
-    reached = reached_more facts i.reached c (n + m) ((w.at + c.span) / 16) new given (HasRead-then facts n m 0 now mid new reads over) (omega (arith, few, fewer, given.0.positive, given.0.whole, i.reached.aligned));
+    reached = reached_more i.reached c (n + m) ((w.at + c.span) / 16) new given (HasRead-then n m 0 now mid new reads over) (omega (arith, few, fewer, given.0.positive, given.0.whole, i.reached.aligned));
     before = rw is_more (counted (is_free c.head) count w.at c.at c.span i.before given.1 given.0.positive);
     so_far = λ h.
         let k = honest_still i.reached.read.device.calls.same_honesty h in
-        let same : (facts mid.device).content ≡ (facts old.device).content = reads.device.unchanged k ∙ i.reached.read.device.unchanged h in
+        let same : mid.device.content ≡ old.device.content = reads.device.unchanged k ∙ i.reached.read.device.unchanged h in
         let known = answered (Ok (steps.Cell c)) answer (λ e. cc) h in
         let stands : StandsIn x c = ap (λ p. answer_at x p) given.1 ∙ sym known.0 in
         let cells = cell_findings c.at (cell_in x c) in
@@ -137,7 +137,7 @@ module _ {F : Type 0} (facts : F → Device) (r : Range) (w : Walking) (found : 
   -- ---- the walk ended
 
   -- the last findings follow
-  stopped : (a : StepResult) (more all : List RegionFinding) → Answers facts w now a → (IsErrOf a walk.Device → ⊥) → all ≡ found ++ more → findings_by x count a ≡ more → IsTrue (facts old.device).honest → all ≡ walk_findings x
+  stopped : (a : StepResult) (more all : List RegionFinding) → Answers w now a → (IsErrOf a walk.Device → ⊥) → all ≡ found ++ more → findings_by x count a ≡ more → IsTrue old.device.honest → all ≡ walk_findings x
   stopped a more all answer other is_all is h =
       is_all ∙ sym ((answered a answer other h).1 ∙ ap (λ (l : List RegionFinding). found ++ l) is)
 
@@ -145,35 +145,35 @@ module _ {F : Type 0} (facts : F → Device) (r : Range) (w : Walking) (found : 
   with_counts : (more next all : List RegionFinding) (end : ℕ) → next ≡ found ++ more → all ≡ next ++ count_findings count end [] → all ≡ found ++ (more ++ count_findings count end [])
   with_counts more next all end pushed is_all = is_all ∙ ap (λ (l : List RegionFinding). l ++ count_findings count end []) pushed ∙ append_assoc found more (count_findings count end [])
 
-  pub checking_end : (end : ℕ) (next all : List RegionFinding) → Answers facts w now (Ok steps.End) → end ≡ r.size → next ≡ found ++ findings.Complete ∷ [] → all ≡ next ++ count_findings count end []
-      → IsTrue (facts old.device).honest → all ≡ walk_findings x
+  pub checking_end : (end : ℕ) (next all : List RegionFinding) → Answers w now (Ok steps.End) → end ≡ r.size → next ≡ found ++ findings.Complete ∷ [] → all ≡ next ++ count_findings count end []
+      → IsTrue old.device.honest → all ≡ walk_findings x
   unfolding findings_by cut_findings cells_findings last
   checking_end end next all answer place pushed is_all =
-      let same : end ≡ length x = place ∙ sym (length-bytes_in r (facts old.device).content lies.inside) in
+      let same : end ≡ length x = place ∙ sym (length-bytes_in r old.device.content lies.inside) in
       stopped (Ok steps.End) (findings.Complete ∷ count_findings count end []) all answer (λ e. cc) (with_counts (findings.Complete ∷ []) next all end pushed is_all)
       (ap (λ p. findings.Complete ∷ count_findings count p []) (sym same))
 
-  pub checking_tail : (at here n : ℕ) (mid : Pages F) (next all : List RegionFinding) → Answers facts w now (Ok (steps.Tail at)) → here ≡ w.at → HasRead facts n 0 now mid
-      → OnHonestIn facts mid.device r (λ y. next ≡ found ++ tail_findings here y) → all ≡ next ++ count_findings count here [] → IsTrue (facts old.device).honest → all ≡ walk_findings x
+  pub checking_tail : (at here n : ℕ) (mid : Pages F) (next all : List RegionFinding) → Answers w now (Ok (steps.Tail at)) → here ≡ w.at → HasRead n 0 now mid
+      → OnHonestIn mid.device r (λ y. next ≡ found ++ tail_findings here y) → all ≡ next ++ count_findings count here [] → IsTrue old.device.honest → all ≡ walk_findings x
   unfolding findings_by cut_findings cells_findings last
   checking_tail at here n mid next all answer place reads pushed is_all h =
       let k = honest_still i.reached.read.device.calls.same_honesty h in
-      let content : (facts mid.device).content ≡ (facts old.device).content = reads.device.unchanged k ∙ i.reached.read.device.unchanged h in
+      let content : mid.device.content ≡ old.device.content = reads.device.unchanged k ∙ i.reached.read.device.unchanged h in
       let same : at ≡ here = tail_place x w.at at (answered (Ok (steps.Tail at)) answer (λ e. cc) h).0 ∙ sym place in
       stopped (Ok (steps.Tail at)) (tail_findings here x ++ count_findings count here []) all answer (λ e. cc)
       (with_counts (tail_findings here x) next all here (rw content at (pushed (honest_still reads.device.calls.same_honesty k))) is_all)
       (ap (λ p. tail_findings p x ++ count_findings count p []) same) h
 
-  pub checking_damage : (at : ℕ) (kind : DamageKind) (next all : List RegionFinding) → Answers facts w now (Err (walk.Damaged at kind)) → next ≡ found ++ findings.Damaged at kind ∷ [] → all ≡ next ++ count_findings count at []
-      → IsTrue (facts old.device).honest → all ≡ walk_findings x
+  pub checking_damage : (at : ℕ) (kind : DamageKind) (next all : List RegionFinding) → Answers w now (Err (walk.Damaged at kind)) → next ≡ found ++ findings.Damaged at kind ∷ [] → all ≡ next ++ count_findings count at []
+      → IsTrue old.device.honest → all ≡ walk_findings x
   unfolding findings_by cut_findings cells_findings last
   checking_damage at kind next all answer pushed is_all =
       stopped (Err (walk.Damaged at kind)) (findings.Damaged at kind ∷ count_findings count at []) all answer (λ e. cc) (with_counts (findings.Damaged at kind ∷ []) next all at pushed is_all) refl
 
-  pub checking_size : (all : List RegionFinding) → Answers facts w now (Err walk.RegionShape) → all ≡ found ++ findings.BadSize ∷ [] → IsTrue (facts old.device).honest → all ≡ walk_findings x
+  pub checking_size : (all : List RegionFinding) → Answers w now (Err walk.RegionShape) → all ≡ found ++ findings.BadSize ∷ [] → IsTrue old.device.honest → all ≡ walk_findings x
   unfolding findings_by fault_findings
   checking_size all answer pushed = stopped (Err walk.RegionShape) (findings.BadSize ∷ []) all answer (λ e. cc) pushed refl
 
-  pub checking_absent : (all : List RegionFinding) → Answers facts w now (Err walk.NotCbfs) → all ≡ found ++ findings.NotCbfs ∷ [] → IsTrue (facts old.device).honest → all ≡ walk_findings x
+  pub checking_absent : (all : List RegionFinding) → Answers w now (Err walk.NotCbfs) → all ≡ found ++ findings.NotCbfs ∷ [] → IsTrue old.device.honest → all ≡ walk_findings x
   unfolding findings_by fault_findings
   checking_absent all answer pushed = stopped (Err walk.NotCbfs) (findings.NotCbfs ∷ []) all answer (λ e. cc) pushed refl

@@ -23,9 +23,9 @@ pub fn cbfs_areas<F: Flash>(
     paged: &mut Paged<F>,
     areas: &[NumberedArea],
 ) -> Result<Vec<NumberedArea>, CheckFault>
-    ensures after { HasRead F.facts (length areas.now) (fault_count by_device result)
+    ensures after { HasRead (length areas.now) (fault_count by_device result)
         paged.old paged.new }
-    ensures areas { OnHonest F.facts paged.old.device (λ image.
+    ensures areas { OnHonest paged.old.device (λ image.
         IfOk result (λ found. found.items ≡ cbfs_areas image areas.now)) }
 {
     let none = NameSet::new(alloc);
@@ -39,12 +39,12 @@ pub fn wanted_areas<F: Flash>(
     expected: &NameSet,
     areas: &[NumberedArea],
 ) -> Result<Vec<NumberedArea>, CheckFault>
-    ensures after { HasRead F.facts (length areas.now) (fault_count by_device result)
+    ensures after { HasRead (length areas.now) (fault_count by_device result)
         paged.old paged.new }
     ensures inside { IfOk result (λ wanted.
-        All (λ a. area_end a.area ≤ length (F.facts paged.old.device).content) wanted.items) }
+        All (λ a. area_end a.area ≤ length paged.old.device.content) wanted.items) }
     ensures count { IfOk result (λ wanted. length wanted.items ≤ length areas.now) }
-    ensures areas { OnHonest F.facts paged.old.device (λ image.
+    ensures areas { OnHonest paged.old.device (λ image.
         (names : List (List ℕ)) → HasNames expected.now names →
         IfOk result (λ wanted. wanted.items ≡ wanted_areas image names areas.now)) }
 {
@@ -63,10 +63,10 @@ fn is_wanted<F: Flash>(
     starts: &Starts,
     area: &NumberedArea,
 ) -> Result<bool, FlashFault>
-    ensures after { HasAnswered F.facts 1 paged.old paged.new result }
+    ensures after { HasAnswered 1 paged.old paged.new result }
     ensures inside { IfOk result (λ wanted. IsTrue wanted →
-        area_end area.now.area ≤ length (F.facts paged.old.device).content) }
-    ensures wanted { OnHonest F.facts paged.old.device (λ image.
+        area_end area.now.area ≤ length paged.old.device.content) }
+    ensures wanted { OnHonest paged.old.device (λ image.
         (names : List (List ℕ)) (areas : List NumberedArea) →
         HasNames expected.now names → HasStarts starts.now areas →
         IfOk result (λ wanted. wanted ≡ is_wanted image names areas area.now)) }

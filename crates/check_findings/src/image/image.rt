@@ -37,14 +37,14 @@ fn area_finding<F: Flash>(
     area: NumberedArea,
     left: &mut u64,
 ) -> Result<ImageFinding, CheckFault>
-    requires { area_end area.area ≤ length (F.facts paged.old.device).content }
+    requires { area_end area.area ≤ length paged.old.device.content }
 
-    ensures after { HasRead F.facts ((left.old - left.new) / 16 + 2) (fault_count by_device result)
+    ensures after { HasRead ((left.old - left.new) / 16 + 2) (fault_count by_device result)
         paged.old paged.new }
     ensures left { left.new ≡ left_after left.old area }
     ensures area { IfOk result (λ finding. region_area finding
         ≡ (if nat_le area.area.size left.old then area ∷ [] else [])) }
-    ensures found { OnHonest F.facts paged.old.device (λ image.
+    ensures found { OnHonest paged.old.device (λ image.
         (names : List (List ℕ)) → HasNames expected.now names → IfOk result (λ finding.
         finding ≡ of.area_finding image names left.old area)) }
 {
@@ -68,13 +68,13 @@ fn areas_findings<F: Flash>(
     expected: &NameSet,
     areas: &[NumberedArea],
 ) -> Result<Vec<ImageFinding>, CheckFault>
-    requires { All (λ a. area_end a.area ≤ length (F.facts paged.old.device).content) areas.now }
+    requires { All (λ a. area_end a.area ≤ length paged.old.device.content) areas.now }
 
-    ensures after { HasRead F.facts (length (F.facts paged.old.device).content / 2
+    ensures after { HasRead (length paged.old.device.content / 2
         + 2 * length areas.now) (fault_count by_device result) paged.old paged.new }
-    ensures checked { IfOk result (λ all. AreChecked (length (F.facts paged.old.device).content)
+    ensures checked { IfOk result (λ all. AreChecked (length paged.old.device.content)
         (length areas.now) 0 (region_areas all.items)) }
-    ensures found { OnHonest F.facts paged.old.device (λ image.
+    ensures found { OnHonest paged.old.device (λ image.
         (names : List (List ℕ)) → HasNames expected.now names → IfOk result (λ findings.
         findings.items ≡ of.areas_findings image names (2 * length image) areas.now)) }
 {
@@ -119,24 +119,24 @@ pub fn check_image<F: Flash>(
     expected: &[&[u8]],
 ) -> Result<CheckedImage, CheckFault>
     // On any device.
-    ensures after { HasRead F.facts (2 * length (F.facts paged.old.device).content + 64)
+    ensures after { HasRead (2 * length paged.old.device.content + 64)
         (fault_count by_device result) paged.old paged.new }
     ensures total { IfOk result (λ checked. sum_sizes (region_areas checked.findings.items)
-        ≤ 2 * length (F.facts paged.old.device).content) }
+        ≤ 2 * length paged.old.device.content) }
     ensures inside { IfOk result (λ checked. All (λ a. area_end a.area
-        ≤ length (F.facts paged.old.device).content) (region_areas checked.findings.items)) }
+        ≤ length paged.old.device.content) (region_areas checked.findings.items)) }
     ensures count { IfOk result (λ checked.
-        area_len * length checked.areas.items ≤ length (F.facts paged.old.device).content) }
+        area_len * length checked.areas.items ≤ length paged.old.device.content) }
     ensures fits { IfOk result (λ checked. area_len * length (region_areas checked.findings.items)
-        ≤ length (F.facts paged.old.device).content) }
+        ≤ length paged.old.device.content) }
 
     // On an honest device.
-    ensures findings { OnHonest F.facts paged.old.device (λ image. IfOk result (λ checked.
+    ensures findings { OnHonest paged.old.device (λ image. IfOk result (λ checked.
         checked.findings.items ≡ image_findings image
         (map (λ n. n.now) names.now) (map (λ n. n.now) expected.now))) }
-    ensures found { OnHonest F.facts paged.old.device (λ image. IfOk result (λ checked.
+    ensures found { OnHonest paged.old.device (λ image. IfOk result (λ checked.
         checked.found ≡ found_in image)) }
-    ensures areas { OnHonest F.facts paged.old.device (λ image. IfOk result (λ checked.
+    ensures areas { OnHonest paged.old.device (λ image. IfOk result (λ checked.
         checked.areas.items ≡ image_areas image)) }
 {
     let map = check_map(alloc, paged)?;

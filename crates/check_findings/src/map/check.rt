@@ -27,16 +27,16 @@ pub struct CheckedMap {
 /// Returns the findings of the image's map in the order of `MapFinding`, or `Device` exactly if a
 /// read failed.
 pub fn check_map<F: Flash>(alloc: Global, paged: &mut Paged<F>) -> Result<CheckedMap, CheckFault>
-    ensures after { HasRead F.facts (length (F.facts paged.old.device).content
-        + length (F.facts paged.old.device).content / area_len + 16) (fault_count by_device result)
+    ensures after { HasRead (length paged.old.device.content
+        + length paged.old.device.content / area_len + 16) (fault_count by_device result)
         paged.old paged.new }
     ensures fits { IfOk result (λ map.
-        area_len * length map.areas.items ≤ length (F.facts paged.old.device).content) }
-    ensures found { OnHonest F.facts paged.old.device (λ image.
+        area_len * length map.areas.items ≤ length paged.old.device.content) }
+    ensures found { OnHonest paged.old.device (λ image.
         IfOk result (λ map. map.found ≡ found_in image)) }
-    ensures answer { OnHonest F.facts paged.old.device (λ image.
+    ensures answer { OnHonest paged.old.device (λ image.
         IfOk result (λ map. map.findings.items ≡ map_findings image)) }
-    ensures areas { OnHonest F.facts paged.old.device (λ image.
+    ensures areas { OnHonest paged.old.device (λ image.
         IfOk result (λ map. map.areas.items ≡ image_areas image)) }
 {
     let len = paged.len();

@@ -29,12 +29,12 @@ fn push_cell<F: Flash>(
     cell: &Cell,
     findings: &mut Vec<RegionFinding>,
 ) -> Result<(), CheckFault>
-    requires region { LiesOn region (F.facts paged.old.device) }
+    requires region { LiesOn region paged.old.device }
     requires cell { IsCellIn region.size cell.now }
 
-    ensures after { HasRead F.facts (3 + 2 * (cell.now.span / 3840)) (fault_count by_device result)
+    ensures after { HasRead (3 + 2 * (cell.now.span / 3840)) (fault_count by_device result)
         paged.old paged.new }
-    ensures found { OnHonestIn F.facts paged.old.device region (λ x. StandsIn x cell.now →
+    ensures found { OnHonestIn paged.old.device region (λ x. StandsIn x cell.now →
         OnOk result (findings.new.items
         ≡ findings.old.items ++ cell_findings cell.now.at (cell_in x cell.now))) }
 {
@@ -68,11 +68,11 @@ fn walk_region<F: Flash>(
     paged: &mut Paged<F>,
     region: Region,
 ) -> Result<Vec<RegionFinding>, CheckFault>
-    requires { LiesOn region (F.facts paged.old.device) }
+    requires { LiesOn region paged.old.device }
 
-    ensures after { HasRead F.facts (region.size / 16 + 2) (fault_count by_device result)
+    ensures after { HasRead (region.size / 16 + 2) (fault_count by_device result)
         paged.old paged.new }
-    ensures findings { OnHonestIn F.facts paged.old.device region (λ x.
+    ensures findings { OnHonestIn paged.old.device region (λ x.
         IfOk result (λ findings. findings.items ≡ walk_findings x)) }
 {
     let mut findings = Vec::new(alloc);
@@ -120,14 +120,14 @@ pub fn check_region<F: Flash>(
     paged: &mut Paged<F>,
     region: Region,
 ) -> Result<Vec<RegionFinding>, CheckFault>
-    requires { LiesOn region (F.facts paged.old.device) }
+    requires { LiesOn region paged.old.device }
 
     // On any device.
-    ensures after { HasRead F.facts (region.size / 16 + 2) (fault_count by_device result)
+    ensures after { HasRead (region.size / 16 + 2) (fault_count by_device result)
         paged.old paged.new }
 
     // On an honest device.
-    ensures findings { OnHonestIn F.facts paged.old.device region (λ x.
+    ensures findings { OnHonestIn paged.old.device region (λ x.
         IfOk result (λ findings. findings.items ≡ region_findings x)) }
 {
     let mut findings = walk_region(alloc, paged, region)?;

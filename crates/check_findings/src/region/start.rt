@@ -17,14 +17,14 @@ pub fn has_entry_at<F: Flash>(
     region: Region,
     at: u64,
 ) -> Result<bool, FlashFault>
-    requires region { LiesOn region (F.facts paged.old.device) }
+    requires region { LiesOn region paged.old.device }
     requires inside { at ≤ region.size }
 
     // On any device.
-    ensures after { HasAnswered F.facts 1 paged.old paged.new result }
+    ensures after { HasAnswered 1 paged.old paged.new result }
 
     // On an honest device.
-    ensures has { OnHonestIn F.facts paged.old.device region (λ x.
+    ensures has { OnHonestIn paged.old.device region (λ x.
         IfOk result (λ has. has ≡ begins_with_entry (drop at x))) }
 {
     if region.size() - at < HEAD {

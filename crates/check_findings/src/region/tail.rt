@@ -34,12 +34,12 @@ fn find_filled<F: Flash>(
     region: Region,
     at: u64,
 ) -> Result<Option<u64>, FlashFault>
-    requires region { LiesOn region (F.facts paged.old.device) }
+    requires region { LiesOn region paged.old.device }
     requires inside { at ≤ region.size }
 
-    ensures after { HasAnswered F.facts ((region.size - at + 4095) / 4096)
+    ensures after { HasAnswered ((region.size - at + 4095) / 4096)
         paged.old paged.new result }
-    ensures found { OnHonestIn F.facts paged.old.device region (λ x.
+    ensures found { OnHonestIn paged.old.device region (λ x.
         IfOk result (λ found. found ≡ position_from is_filled at (tail_bytes at x))) }
 {
     let len = (region.size() - at).saturating_sub(4);
@@ -61,12 +61,12 @@ fn push_entries<F: Flash>(
     at: u64,
     findings: &mut Vec<RegionFinding>,
 ) -> Result<(), CheckFault>
-    requires region { LiesOn region (F.facts paged.old.device) }
+    requires region { LiesOn region paged.old.device }
     requires inside { at ≤ region.size }
 
-    ensures after { HasRead F.facts ((region.size - at) / 64) (fault_count by_device result)
+    ensures after { HasRead ((region.size - at) / 64) (fault_count by_device result)
         paged.old paged.new }
-    ensures found { OnHonestIn F.facts paged.old.device region (λ x.
+    ensures found { OnHonestIn paged.old.device region (λ x.
         OnOk result (findings.new.items
         ≡ findings.old.items ++ entries_findings ((length x - at) / 64) at x)) }
 {
@@ -86,12 +86,12 @@ pub fn push_tail<F: Flash>(
     at: u64,
     findings: &mut Vec<RegionFinding>,
 ) -> Result<(), CheckFault>
-    requires region { LiesOn region (F.facts paged.old.device) }
+    requires region { LiesOn region paged.old.device }
     requires inside { at ≤ region.size }
 
-    ensures after { HasRead F.facts ((region.size - at + 4095) / 4096 + (region.size - at) / 64)
+    ensures after { HasRead ((region.size - at + 4095) / 4096 + (region.size - at) / 64)
         (fault_count by_device result) paged.old paged.new }
-    ensures found { OnHonestIn F.facts paged.old.device region (λ x.
+    ensures found { OnHonestIn paged.old.device region (λ x.
         OnOk result (findings.new.items ≡ findings.old.items ++ tail_findings at x)) }
 {
     findings.push(RegionFinding::Tail { at })?;

@@ -127,13 +127,13 @@ pub fn holds(rt: &(impl Abort + AllocGlobal), device: MemFlash, held: Held) {
 }
 
 pub fn part_of<F: Flash>(rt: &impl Abort, paged: &Paged<F>, start: u64, size: u64) -> Region
-    ensures { LiesOn result (F.facts paged.now.device) }
+    ensures { LiesOn result paged.now.device }
 {
     Region::within(start, size, paged.len()).expect(rt, "a region")
 }
 
 pub fn region_of<F: Flash>(rt: &impl Abort, paged: &Paged<F>) -> Region
-    ensures { LiesOn result (F.facts paged.now.device) }
+    ensures { LiesOn result paged.now.device }
 {
     part_of(rt, paged, START as u64, SIZE as u64)
 }

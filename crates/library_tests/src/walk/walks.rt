@@ -31,15 +31,15 @@ pub const RAW: u32 = 0x50;
 pub const NULL: u32 = 0xffff_ffff;
 
 pub fn whole<F: Flash>(rt: &impl Abort, paged: &Paged<F>) -> Region
-    ensures { LiesOn result (F.facts paged.now.device) }
+    ensures { LiesOn result paged.now.device }
 {
     Region::within(0, paged.len(), paged.len()).expect(rt, "a region")
 }
 
 pub fn answers<F: Flash>(rt: &impl Abort, walk: &mut Walk, paged: &mut Paged<F>, want: &[Answer])
-    requires { LiesOn walk.old.region (F.facts paged.old.device) }
+    requires { LiesOn walk.old.region paged.old.device }
     ensures region { walk.new.region ≡ walk.old.region }
-    ensures lies { LiesOn walk.new.region (F.facts paged.new.device) }
+    ensures lies { LiesOn walk.new.region paged.new.device }
 {
     for one in want {
         equal(rt, &walk.next(paged), one);
@@ -47,8 +47,8 @@ pub fn answers<F: Flash>(rt: &impl Abort, walk: &mut Walk, paged: &mut Paged<F>,
 }
 
 fn pass<F: Flash>(walk: &mut Walk, paged: &mut Paged<F>, calls: u32)
-    requires { LiesOn walk.old.region (F.facts paged.old.device) }
-    ensures { LiesOn walk.new.region (F.facts paged.new.device) }
+    requires { LiesOn walk.old.region paged.old.device }
+    ensures { LiesOn walk.new.region paged.new.device }
 {
     for _call in 0..calls {
         let _answer = walk.next(paged);

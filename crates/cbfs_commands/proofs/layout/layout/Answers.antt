@@ -18,6 +18,6 @@ returns g c =
     let map = c.in-Some.map in
     let put = c.in_ok-put_row.ensures in
     let row = printout-row c.in_ok-map.ensures.after.read put.faults put.output put.only (rw c.set_map_row.ensures at put.printout) in
-    let listed = so_far-more (so_far-none 0 layout layout _ _ (λ image. refl)) (length (g.F.Flash.facts c.args.paged.now.device).content / 2 + 8) (λ image. shows (rows_of image map.head.nareas (map.at + 56))) row
+    let listed = so_far-more (so_far-none 0 layout layout _ _ (λ image. refl)) (length c.args.paged.now.device.content / 2 + 8) (λ image. shows (rows_of image map.head.nareas (map.at + 56))) row
     (λ h. layout-is _ map (rw c.in-Some.is at (c.in_ok-map.ensures.found h))) (omega arith) in
     so_far-ends listed _ c.list_areas.ensures (λ h. refl) (omega (arith, rw c.in-Some.is at c.in_ok-map.ensures.fits))

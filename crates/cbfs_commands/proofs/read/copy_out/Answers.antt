@@ -11,18 +11,18 @@ use Rattle.cbfs_commands.specs.Printouts.{CommandResult, HasOutput, shows}
 use Rattle.cbfs_commands.proofs.OutputParts.{handed}
 use Rattle.cbfs_commands.proofs.read.copy_out.Goals as goal
 
-module _ {F W : Type 0} {facts : F → Device} {contents : W → Option (List ℕ)} {faults : W → ℕ} {k at n : ℕ} {old new : Pages F} {a b : W} {answer : CommandResult} where
+module _ {F W : Type 0} {contents : W → Option (List ℕ)} {faults : W → ℕ} {k at n : ℕ} {old new : Pages F} {a b : W} {answer : CommandResult} where
   -- an interrupted copy writes a prefix
-  stopped : (fault : CopyFault) → HasCopiedOut {T = Unit {0}} facts contents faults k at n old new a b (Err fault) → IsErrAnd answer (λ r. r ≡ copy_refusal fault)
-      → HasOutput facts contents faults k old new a b answer (λ image. shows (slice_range image at (at + n)))
-  stopped copy.Device copied is = subst (λ (r : CommandResult). HasOutput facts contents faults k old new a b r (λ image. shows (slice_range image at (at + n)))) (handed answer refusals.Device is) (record {
+  stopped : (fault : CopyFault) → HasCopiedOut {T = Unit {0}} contents faults k at n old new a b (Err fault) → IsErrAnd answer (λ r. r ≡ copy_refusal fault)
+      → HasOutput contents faults k old new a b answer (λ image. shows (slice_range image at (at + n)))
+  stopped copy.Device copied is = subst (λ (r : CommandResult). HasOutput contents faults k old new a b r (λ image. shows (slice_range image at (at + n)))) (handed answer refusals.Device is) (record {
     read = copied.read;
     sink = copied.faults;
     output = λ failed. absurd cc;
     no_source = λ failed. absurd cc;
     printout = λ h. let part = copied.part h in inr (inr (refl, (part.0, omega (arith, part.1), part.2)));
   })
-  stopped copy.Output copied is = subst (λ (r : CommandResult). HasOutput facts contents faults k old new a b r (λ image. shows (slice_range image at (at + n)))) (handed answer refusals.Output is) (record {
+  stopped copy.Output copied is = subst (λ (r : CommandResult). HasOutput contents faults k old new a b r (λ image. shows (slice_range image at (at + n)))) (handed answer refusals.Output is) (record {
     read = copied.read;
     sink = copied.faults;
     output = λ failed. copied.output refl;

@@ -12,7 +12,7 @@ use Rattle.cbfs_edit.proofs.addition.add.Goals as goal
 pub returns-in-Some-clause-answer : goal.returns-in-Some-clause-answer
 returns-in-Some-clause-answer g c honest =
     let new = new_component c.args.name.now c.args.kind c.args.hash (g.S.Source.facts c.args.source.now).content in
-    inr (inr (ap placed_of (own-is (bytes_in c.args.region (g.F.Flash.facts c.args.paged.now.device).content) new c.args.spot (Some c.in-Some.fault) (sym c.in-Some.is ∙ c.argument_fault.ensures))))
+    inr (inr (ap placed_of (own-is (bytes_in c.args.region c.args.paged.now.device.content) new c.args.spot (Some c.in-Some.fault) (sym c.in-Some.is ∙ c.argument_fault.ensures))))
 
 pub returns-in_err-place-clause-answer : goal.returns-in_err-place-clause-answer
 returns-in_err-place-clause-answer g c honest =
@@ -28,12 +28,12 @@ pub returns : goal.returns
 returns g c =
     let new = new_component c.args.name.now c.args.kind c.args.hash (g.S.Source.facts c.args.source.now).content in
     let passed = no_fault c.argument_fault.result c.in_default.not-Some ∙ c.argument_fault.ensures in
-    let still = λ (h : IsTrue (g.F.Flash.facts c.args.paged.now.device).honest). honest_still c.find_place.ensures.after.device.calls.same_honesty h in
+    let still = λ (h : IsTrue c.args.paged.now.device.honest). honest_still c.find_place.ensures.after.device.calls.same_honesty h in
     let same = c.find_place.ensures.after.device.unchanged in
-    let is = λ (h : IsTrue (g.F.Flash.facts c.args.paged.now.device).honest). place_found (bytes_in c.args.region (g.F.Flash.facts c.args.paged.now.device).content) new c.args.spot _ _ c.in_default.not-Some c.argument_fault.ensures (c.wanted_of-wanted.ensures new.content c.len.ensures.length) c.in_ok-place.place (c.in_ok-place.ensures.answer h) in
-    let done = λ (h : IsTrue (g.F.Flash.facts c.args.paged.now.device).honest) (s : IsTrue (g.S.Source.facts c.args.source.now).honest). written c.args.region new c.args.spot c.in_ok-place.place _ _ _ (same h) (is h) (c.in_ok-insert.ensures.added (still h) s) in
+    let is = λ (h : IsTrue c.args.paged.now.device.honest). place_found (bytes_in c.args.region c.args.paged.now.device.content) new c.args.spot _ _ c.in_default.not-Some c.argument_fault.ensures (c.wanted_of-wanted.ensures new.content c.len.ensures.length) c.in_ok-place.place (c.in_ok-place.ensures.answer h) in
+    let done = λ (h : IsTrue c.args.paged.now.device.honest) (s : IsTrue (g.S.Source.facts c.args.source.now).honest). written c.args.region new c.args.spot c.in_ok-place.place _ _ _ (same h) (is h) (c.in_ok-insert.ensures.added (still h) s) in
     record {
-      after = sought_written g.F.Flash.facts c.args.region _ c.args.paged.now c.find_place.new.paged c.insert.new.paged c.in_ok-place.ensures.after c.in_ok-insert.ensures.after;
+      after = sought_written c.args.region _ c.args.paged.now c.find_place.new.paged c.insert.new.paged c.in_ok-place.ensures.after c.in_ok-insert.ensures.after;
       source = content_read _ _ (g.S.Source.facts c.args.source.now) (g.S.Source.facts c.insert.new.source) c.in_ok-insert.ensures.source;
       words = rw (← passed) tt;
       answer = λ honest. inr (inr (sym (ap placed_of (is honest))));
@@ -48,11 +48,11 @@ pub returns-in_err-insert : goal.returns-in_err-insert
 returns-in_err-insert g c =
     let new = new_component c.args.name.now c.args.kind c.args.hash (g.S.Source.facts c.args.source.now).content in
     let passed = no_fault c.argument_fault.result c.in_default.not-Some ∙ c.argument_fault.ensures in
-    let is = λ (h : IsTrue (g.F.Flash.facts c.args.paged.now.device).honest). place_found (bytes_in c.args.region (g.F.Flash.facts c.args.paged.now.device).content) new c.args.spot _ _ c.in_default.not-Some c.argument_fault.ensures (c.wanted_of-wanted.ensures new.content c.len.ensures.length) c.in_ok-place.place (c.in_ok-place.ensures.answer h) in
+    let is = λ (h : IsTrue c.args.paged.now.device.honest). place_found (bytes_in c.args.region c.args.paged.now.device.content) new c.args.spot _ _ c.in_default.not-Some c.argument_fault.ensures (c.wanted_of-wanted.ensures new.content c.len.ensures.length) c.in_ok-place.place (c.in_ok-place.ensures.answer h) in
     let fault = c.in_err-insert.field-0.0 in
     let refused = err_from_is_err_and c.from_residual-in_err-insert.result c.from_residual-in_err-insert.ensures.1 in
     rw (refused.1, refused.2) (record {
-      after = sought_written g.F.Flash.facts c.args.region _ c.args.paged.now c.find_place.new.paged c.insert.new.paged c.in_ok-place.ensures.after c.in_err-insert.ensures.after;
+      after = sought_written c.args.region _ c.args.paged.now c.find_place.new.paged c.insert.new.paged c.in_ok-place.ensures.after c.in_err-insert.ensures.after;
       source = content_read _ _ (g.S.Source.facts c.args.source.now) (g.S.Source.facts c.insert.new.source) c.in_err-insert.ensures.source;
       words = rw (← passed) tt;
       answer = λ honest. copy_cause fault;

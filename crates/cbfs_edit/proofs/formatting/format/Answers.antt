@@ -6,13 +6,13 @@ use Rattle.cbfs_edit.proofs.formatting.format.Goals as goal
 
 pub returns-clause-formatted : goal.returns-clause-formatted
 returns-clause-formatted g c honest =
-    let content = (g.F.Flash.facts c.args.paged.now.device).content in
+    let content = c.args.paged.now.device.content in
     format_done (bytes_in c.args.region content) _ c.size-end.result
     (omega (arith, length-bytes_in c.args.region content c.requires.inside, c.size-end.ensures)) (omega arith) (c.in_ok-write_empty_entry.ensures.written honest)
 
 pub returns-in_err-write_empty_entry-clause-stopped : goal.returns-in_err-write_empty_entry-clause-stopped
 returns-in_err-write_empty_entry-clause-stopped g c honest = λ is.
-    let content = (g.F.Flash.facts c.args.paged.now.device).content in
+    let content = c.args.paged.now.device.content in
     format_stopped (bytes_in c.args.region content) _ c.size-end.result c.args.region.size
     (omega (arith, length-bytes_in c.args.region content c.requires.inside, c.size-end.ensures)) (omega (arith, c.size-end.ensures)) (omega arith) (omega arith)
     (omega (arith, c.requires.inside, c.requires.below, c.size-end.ensures))

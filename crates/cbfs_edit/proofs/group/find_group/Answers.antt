@@ -5,7 +5,7 @@ use Rattle.cbfs_edit.proofs.Searches.{surveying_start, surveying_more, faultless
 use Rattle.cbfs_edit.proofs.group.find_group.Goals as goal
 
 pub loop-cell-init : goal.loop-cell-init
-loop-cell-init g c = rw c.new-walk.ensures (surveying_start _ c.args.region (group_by c.args.name.now) _ IsBefore _ _ (omega arith, refl) (group_searched _ c.args.name.now))
+loop-cell-init g c = rw c.new-walk.ensures (surveying_start c.args.region (group_by c.args.name.now) _ IsBefore _ _ (omega arith, refl) (group_searched _ c.args.name.now))
 
 pub loop-cell-preserved : goal.loop-cell-preserved
 loop-cell-preserved g c =
@@ -14,7 +14,7 @@ loop-cell-preserved g c =
     let reads = rw is at c.in_ok-cell.ensures.after in
     let answer = rw is at c.in_ok-cell.ensures.answer in
     let moved = rw is at c.in_ok-cell.ensures.moved in
-    surveying_more g.F.Flash.facts c.args.region (group_by c.args.name.now) _ IsBefore c.loop-cell.walk c.loop-cell.search _ _ c.requires c.loop-cell.invariant c.in-Cell.cell _ c.in_ok-search-in-Cell.search _ _ _
+    surveying_more c.args.region (group_by c.args.name.now) _ IsBefore c.loop-cell.walk c.loop-cell.search _ _ c.requires c.loop-cell.invariant c.in-Cell.cell _ c.in_ok-search-in-Cell.search _ _ _
     given reads refl c.in_ok-search-in-Cell.ensures.after.read answer moved c.in_ok-search-in-Cell.ensures.before c.in_ok-search-in-Cell.ensures.passed
 
 pub returns-in-Tail : goal.returns-in-Tail

@@ -10,7 +10,7 @@ pub returns : goal.returns
 returns g c =
     let metadata = c.args.metadata.now in
     let held = c.held_back-skip.ensures in
-    let x : List ℕ = bytes_in c.args.region (g.F.Flash.facts c.args.paged.now.device).content in
+    let x : List ℕ = bytes_in c.args.region c.args.paged.now.device.content in
     record {
       after = search rules;
       written = λ honest.

@@ -10,8 +10,8 @@ use Rattle.cbfs_edit.proofs.place.find_place.Goals as goal
 pub loop-cell-init : goal.loop-cell-init
 loop-cell-init g c =
     let r = c.args.region in
-    let x = bytes_in r (g.F.Flash.facts c.args.paged.now.device).content in
-    rw c.new-walk.ensures (surveying_start g.F.Flash.facts r (λ s at cells. place_by c.args.name.now c.args.wanted r.size s cells) (placing_in x c.args.name.now c.args.wanted) (IsSurvey c.args.wanted r.size) nothing_passed c.args.paged.now
+    let x = bytes_in r c.args.paged.now.device.content in
+    rw c.new-walk.ensures (surveying_start r (λ s at cells. place_by c.args.name.now c.args.wanted r.size s cells) (placing_in x c.args.name.now c.args.wanted) (IsSurvey c.args.wanted r.size) nothing_passed c.args.paged.now
     (record { asked = c.requires.wanted; small = omega (arith, c.requires.region.inside, c.requires.region.below); here = refl; order = omega arith; inside = omega arith; start_aligned = refl; end_aligned = refl; place = tt })
     (place_searched x c.args.name.now c.args.wanted r.size (length-bytes_in r _ c.requires.region.inside)))
 
@@ -22,7 +22,7 @@ loop-cell-preserved g c =
     let reads = rw is at c.in_ok-cell.ensures.after in
     let answer = rw is at c.in_ok-cell.ensures.answer in
     let moved = rw is at c.in_ok-cell.ensures.moved in
-    surveying_more g.F.Flash.facts c.args.region (λ s at cells. place_by c.args.name.now c.args.wanted c.args.region.size s cells) _ (IsSurvey c.args.wanted c.args.region.size) c.loop-cell.walk c.loop-cell.survey _ _ c.requires.region c.loop-cell.invariant c.in-Cell.cell _ c.in_ok-survey-in-Cell.survey _ _ _
+    surveying_more c.args.region (λ s at cells. place_by c.args.name.now c.args.wanted c.args.region.size s cells) _ (IsSurvey c.args.wanted c.args.region.size) c.loop-cell.walk c.loop-cell.survey _ _ c.requires.region c.loop-cell.invariant c.in-Cell.cell _ c.in_ok-survey-in-Cell.survey _ _ _
     given reads refl c.in_ok-survey-in-Cell.ensures.after.read answer moved c.in_ok-survey-in-Cell.ensures.before c.in_ok-survey-in-Cell.ensures.passed
 
 pub returns-in-Tail : goal.returns-in-Tail

@@ -28,7 +28,7 @@ copied_ok P (Err fault) done = done
 pub returns-clause-after : goal.returns-clause-after
 returns-clause-after g c =
     let r = c.args.region in
-    let old : List ℕ = (g.F.Flash.facts c.args.paged.now.device).content in
+    let old : List ℕ = c.args.paged.now.device.content in
     let content : List ℕ = (g.S.Source.facts c.args.source.now).content in
     let at = c.start.result + c.args.at in
     let copied = c.copy_in_watched.ensures.after in

@@ -6,7 +6,7 @@ use Rattle.cbfs_edit.proofs.region_writes.fill_in.Goals as goal
 pub returns : goal.returns
 returns g c =
     let r = c.args.region in
-    let old = (g.F.Flash.facts c.args.paged.now.device).content in
+    let old = c.args.paged.now.device.content in
     let at = c.start.result + c.args.at in
     let filled = c.fill.ensures.after in
     record {

@@ -4,7 +4,7 @@ use Rattle.cbfs_edit.proofs.removal.remove.Goals as goal
 
 pub returns-in_err-write_empty_entry-clause-stopped : goal.returns-in_err-write_empty_entry-clause-stopped
 returns-in_err-write_empty_entry-clause-stopped g c honest = λ is.
-    removal_leaves c.args.region c.args.name.now c.in_ok-group.group (g.F.Flash.facts c.args.paged.now.device).content (g.F.Flash.facts c.find_group.new.paged.device).content _
+    removal_leaves c.args.region c.args.name.now c.in_ok-group.group c.args.paged.now.device.content c.find_group.new.paged.device.content _
     c.requires.inside c.requires.below (c.find_group.ensures.after.device.unchanged honest)
     (c.in_ok-group.ensures.answer honest)
     (c.write_empty_entry.ensures.left (honest_still c.find_group.ensures.after.device.calls.same_honesty honest))

@@ -4,7 +4,7 @@ use Rattle.cbfs_walk.proofs.AttributeScans.{scanning_start, scanned, lies_still,
 use Rattle.cbfs_walk.proofs.attribute_walk.are_well_formed.Goals as goal
 
 pub loop-head-init : goal.loop-head-init
-loop-head-init g c = scanning_start _ c.args.region c.args.from c.args.end _ _ c.requires.order (λ h. refl)
+loop-head-init g c = scanning_start c.args.region c.args.from c.args.end _ _ c.requires.order (λ h. refl)
 
 pub listed_at-requires-clause-region : goal.listed_at-requires-clause-region
 listed_at-requires-clause-region g c = lies_still c.loop-head.invariant c.requires.region

@@ -9,7 +9,7 @@ use Rattle.cbfs_walk.proofs.attribute_walk.first_attribute.Goals as goal
 
 pub loop-head-init : goal.loop-head-init
 loop-head-init g c =
-    scanning_start _ c.args.region _ _ _ _ (omega (arith, (has_field c.args.region.size c.args.cell.now c.requires.component).high)) (λ h. refl)
+    scanning_start c.args.region _ _ _ _ (omega (arith, (has_field c.args.region.size c.args.cell.now c.requires.component).high)) (λ h. refl)
 
 pub listed_at-requires-clause-region : goal.listed_at-requires-clause-region
 listed_at-requires-clause-region g c = lies_still c.loop-head.invariant c.requires.region

@@ -17,4 +17,4 @@ returns-clause-listed g c = λ h.
     listed_tested c.args.region _ c.args.at c.args.end c.read-head.result false false c.requires.region.inside c.requires.inside c.if-end-at-lt8.false (c.read-head.ensures ∙ ap attr_head_of (c.in_ok-read_in.ensures.read h)) c.if-is_unused.ensures c.if-has_bad_len.ensures
 
 pub returns-then-end-at-lt8-clause-passes : goal.returns-then-end-at-lt8-clause-passes
-returns-then-end-at-lt8-clause-passes g c = Passes-none _ c.args.region c.args.at _
+returns-then-end-at-lt8-clause-passes g c = Passes-none c.args.region c.args.at _

@@ -12,7 +12,7 @@ returns-in_err-stored-in-Some-clause-after g c =
 
 pub returns-in-None-2-clause-unread : goal.returns-in-None-2-clause-unread
 returns-in-None-2-clause-unread g c = λ told.
-    HasRead-within _ _ _ 0 _ _ (omega arith) (read_to_content c.args.cell.now _ _ _ c.in-Some.is c.in_ok-at.ensures.attribute c.in_ok-at.ensures.passes c.in_ok-stored-in-Some.ensures.passes).read
+    HasRead-within _ _ 0 _ _ (omega arith) (read_to_content c.args.cell.now _ _ _ c.in-Some.is c.in_ok-at.ensures.attribute c.in_ok-at.ensures.passes c.in_ok-stored-in-Some.ensures.passes).read
 
 pub returns-in-None-2-clause-after : goal.returns-in-None-2-clause-after
 returns-in-None-2-clause-after g c =

@@ -16,13 +16,13 @@ returns-in_err-bytes-clause-passes g c =
 pub loop-at-preserved : goal.loop-at-preserved
 loop-at-preserved g c =
     let passes = rw c.in_ok-bytes.was at c.piece_in.follows.holds-at-none in
-    taking_more _ g.D.Digest.holds c.args.region _ _ c.loop-at.at c.min-n.result _ _ _ c.loop-at.hasher c.update.new.self _ c.loop-at.invariant (omega (arith, c.min-n.ensures, c.loop-at-test.true)) passes c.in_ok-bytes.ensures.read c.update.ensures
+    taking_more g.D.Digest.holds c.args.region _ _ c.loop-at.at c.min-n.result _ _ _ c.loop-at.hasher c.update.new.self _ c.loop-at.invariant (omega (arith, c.min-n.ensures, c.loop-at-test.true)) passes c.in_ok-bytes.ensures.read c.update.ensures
 
 pub returns-clause-passes : goal.returns-clause-passes
 returns-clause-passes g c = Passes-within c.loop-at.invariant.passed (omega arith) (omega (arith, c.loop-at.invariant.high))
 
 pub returns-clause-digest : goal.returns-clause-digest
 returns-clause-digest g c = λ h.
-    let x = bytes_in c.args.region (g.F.Flash.facts c.args.paged.now.device).content in
+    let x = bytes_in c.args.region c.args.paged.now.device.content in
     let all = content_taken x c.args.cell.now (c.args.cell.now.at + c.from.result) c.loop-at.at (omega arith) (omega (arith, c.loop-at.invariant.high)) in
     c.finalize.ensures _ (rw all at (c.loop-at.invariant.asked h))

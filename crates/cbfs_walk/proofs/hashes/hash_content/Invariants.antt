@@ -3,7 +3,7 @@ use Rattle.cbfs_walk.proofs.Digests.{Taking}
 use Rattle.cbfs_walk.proofs.hashes.hash_content.Given as goal
 
 abbrev pub invariant-loop-at : goal.invariant-loop-at
-invariant-loop-at g l = Taking g.F.Flash.facts g.D.Digest.holds l.region l.initial.at l.end l.at l.fn.paged l.paged l.hasher
+invariant-loop-at g l = Taking g.D.Digest.holds l.region l.initial.at l.end l.at l.fn.paged l.paged l.hasher
 
 abbrev pub decreases-loop-at : goal.decreases-loop-at
 decreases-loop-at g l = l.end - l.at

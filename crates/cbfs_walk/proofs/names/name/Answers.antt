@@ -12,12 +12,12 @@ piece_in-requires-clause-inside g c = omega (arith, (has_field c.args.region.siz
 
 pub returns-clause-name : goal.returns-clause-name
 returns-clause-name g c = λ h stands.
-    let image = (g.F.Flash.facts c.args.paged.now.device).content in
+    let image = c.args.paged.now.device.content in
     rw c.copy_from_slice.ensures.after (name_written (bytes_in c.args.region image) c.args.region.size c.args.cell.now c.requires.component (length-region c.args.region image c.requires.region.inside)
     c.text_len.result _ _ _ _ c.name_room.ensures c.min-n.ensures stands c.text_len.ensures (c.in_ok-bytes.ensures.read h))
 
 pub returns-clause-len : goal.returns-clause-len
 returns-clause-len g c = λ h stands.
-    let image = (g.F.Flash.facts c.args.paged.now.device).content in
+    let image = c.args.paged.now.device.content in
     c.text_len.ensures ∙ ap length (read_name (bytes_in c.args.region image) c.args.region.size c.args.cell.now c.requires.component (length-region c.args.region image c.requires.region.inside)
     _ _ _ c.name_room.ensures c.min-n.ensures stands (c.in_ok-bytes.ensures.read h))

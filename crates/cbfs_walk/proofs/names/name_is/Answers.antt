@@ -10,7 +10,7 @@ name_room-requires g c = (has_field c.args.region.size c.args.cell.now c.require
 
 pub returns-then-name-gt-LONGEST-clause-named : goal.returns-then-name-gt-LONGEST-clause-named
 returns-then-name-gt-LONGEST-clause-named g c = λ h stands.
-    let image = (g.F.Flash.facts c.args.paged.now.device).content in
+    let image = c.args.paged.now.device.content in
     let len = length-region c.args.region image c.requires.region.inside in
     name_too_long (bytes_in c.args.region image) c.args.region.size c.args.cell.now c.requires.component len c.args.name.now
     (elim c.then-name-gt-LONGEST.branch [
@@ -25,7 +25,7 @@ piece_in-requires-clause-inside g c =
 
 pub returns-clause-named : goal.returns-clause-named
 returns-clause-named g c = λ h stands.
-    let image = (g.F.Flash.facts c.args.paged.now.device).content in
+    let image = c.args.paged.now.device.content in
     let len = length-region c.args.region image c.requires.region.inside in
     c.shows_text.ensures ∙ name_compared (bytes_in c.args.region image) c.args.region.size c.args.cell.now c.requires.component len
     _ c.args.name.now _ c.name_room.ensures c.if-name-name_room.false stands (c.in_ok-bytes.ensures.read h)

@@ -9,6 +9,6 @@ returns g c = (
   record {
     passes = tt;
     size = c.piece.ensures.size;
-    read = λ h. rw (c.start.ensures, part-in (g.F.Flash.facts c.args.paged.now.device).content c.args.region c.args.at c.args.n c.requires.inside) at (c.piece.ensures.read h);
+    read = λ h. rw (c.start.ensures, part-in c.args.paged.now.device.content c.args.region c.args.at c.args.n c.requires.inside) at (c.piece.ensures.read h);
   },
 )

@@ -4,7 +4,7 @@ use Rattle.cbfs_walk.proofs.SearchSteps.{searching_start, searching_more, found_
 use Rattle.cbfs_walk.proofs.search.find.Goals as goal
 
 pub loop-cell-init : goal.loop-cell-init
-loop-cell-init g c = rw c.new-walk.ensures (searching_start _ c.args.region c.args.name.now _)
+loop-cell-init g c = rw c.new-walk.ensures (searching_start c.args.region c.args.name.now _)
 
 pub loop-cell-preserved : goal.loop-cell-preserved
 loop-cell-preserved g c =

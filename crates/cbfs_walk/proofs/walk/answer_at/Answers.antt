@@ -12,29 +12,29 @@ use Rattle.cbfs_walk.proofs.walk.answer_at.Goals as goal
 
 pub returns-then-has_bad_size-clause-answer : goal.returns-then-has_bad_size-clause-answer
 returns-then-has_bad_size-clause-answer g c = λ h.
-    let len = length-region c.args.region (g.F.Flash.facts c.args.paged.now.device).content c.requires.region.inside in
+    let len = length-region c.args.region c.args.paged.now.device.content c.requires.region.inside in
     inr (answer_shape _ c.args.at _ len (c.if-has_bad_size.ensures ∙ ap has_bad_size c.size.ensures))
 
 pub returns-then-at-size-clause-answer : goal.returns-then-at-size-clause-answer
 returns-then-at-size-clause-answer g c = λ h.
-    let len = length-region c.args.region (g.F.Flash.facts c.args.paged.now.device).content c.requires.region.inside in
+    let len = length-region c.args.region c.args.paged.now.device.content c.requires.region.inside in
     inr (answer_end _ c.args.at _ len (c.if-has_bad_size.ensures ∙ ap has_bad_size c.size.ensures) (c.if-at-size.true ∙ c.size-2.ensures))
 
 pub returns-in-None-clause-answer : goal.returns-in-None-clause-answer
 returns-in-None-clause-answer g c = λ h.
-    let len = length-region c.args.region (g.F.Flash.facts c.args.paged.now.device).content c.requires.region.inside in
+    let len = length-region c.args.region c.args.paged.now.device.content c.requires.region.inside in
     inr (answer_absent _ c.args.at _ len (c.if-has_bad_size.ensures ∙ ap has_bad_size c.size.ensures) (entry_absent _ (rw c.in-None.is at (c.in_ok-front_at.ensures.head h))) c.if-at-eq0.true)
 
 pub returns-in-None-2-clause-answer : goal.returns-in-None-2-clause-answer
 returns-in-None-2-clause-answer g c = λ h.
-    let len = length-region c.args.region (g.F.Flash.facts c.args.paged.now.device).content c.requires.region.inside in
+    let len = length-region c.args.region c.args.paged.now.device.content c.requires.region.inside in
     let inside : c.args.at < c.args.region.size = grind (arith, common_steps) in
     let later : (eqb c.args.at 0 && true) ≡ false = and_left (eqb c.args.at 0) true (grind (arith, common_steps)) in
     inr (answer_entry _ c.args.at _ absent len (c.if-has_bad_size.ensures ∙ ap has_bad_size c.size.ensures) inside (entry_absent _ (rw c.in-None.is at (c.in_ok-front_at.ensures.head h))) later)
 
 pub returns-in-Err-clause-answer : goal.returns-in-Err-clause-answer
 returns-in-Err-clause-answer g c = λ h.
-    let image = (g.F.Flash.facts c.args.paged.now.device).content in
+    let image = c.args.paged.now.device.content in
     let inside : c.args.at < c.args.region.size = grind (arith, common_steps) in
     let here = entry_present _ c.in-Some.head _ _ (rw c.in-Some.is at (c.in_ok-front_at.ensures.head h)) (length-rest c.args.region image c.args.at c.requires.region.inside)
     (c.in-Err.ensures ∙ ap (λ n. extent_of c.in-Some.head (n - c.args.at)) c.size-3.ensures) in
@@ -45,7 +45,7 @@ cell_at-requires-clause-cell g c = checked_extent _ _ c.in-Ok.extent (c.in-Ok.en
 
 pub returns-in-Ok-clause-after : goal.returns-in-Ok-clause-after
 returns-in-Ok-clause-after g c =
-    cell_reads _ c.args.region (record { at = c.args.at; head = c.in-Some.head; span = c.in-Ok.extent.span }) _ _ _ c.cell_at.result
+    cell_reads c.args.region (record { at = c.args.at; head = c.in-Some.head; span = c.in-Ok.extent.span }) _ _ _ c.cell_at.result
     (checked_extent _ _ c.in-Ok.extent (c.in-Ok.ensures ∙ ap (λ n. extent_of c.in-Some.head (n - c.args.at)) c.size-3.ensures)) c.cell_at.ensures.cell c.in_ok-front_at.ensures.passes c.cell_at.ensures.passes
 
 pub returns-in-Ok-clause-cell : goal.returns-in-Ok-clause-cell
@@ -55,7 +55,7 @@ returns-in-Ok-clause-cell g c =
 
 pub returns-in-Ok-clause-answer : goal.returns-in-Ok-clause-answer
 returns-in-Ok-clause-answer g c = λ h.
-    let len = length-region c.args.region (g.F.Flash.facts c.args.paged.now.device).content c.requires.region.inside in
+    let len = length-region c.args.region c.args.paged.now.device.content c.requires.region.inside in
     let inside : c.args.at < c.args.region.size = grind (arith, common_steps) in
     let told = rw (c.front_at.ensures.passes.read.device.unchanged h) at (c.cell_at.ensures.answer (honest_still c.front_at.ensures.passes.read.device.calls.same_honesty h)) in
     answer_cell _ c.args.at _ c.in-Some.head c.in-Ok.extent c.cell_at.result len (c.if-has_bad_size.ensures ∙ ap has_bad_size c.size.ensures) inside

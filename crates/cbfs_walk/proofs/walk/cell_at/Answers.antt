@@ -15,14 +15,14 @@ pub damage_in-requires-clause-placed : goal.damage_in-requires-clause-placed
 damage_in-requires-clause-placed g c = (checks_give _ _ _ c.requires.cell).name_high (sym c.if-is_free.ensures)
 
 pub returns-then-is_free-clause-passes : goal.returns-then-is_free-clause-passes
-returns-then-is_free-clause-passes g c = Passes-within (Passes-none _ c.args.region c.args.cell.now.at _) (le_refl _) (omega arith)
+returns-then-is_free-clause-passes g c = Passes-within (Passes-none c.args.region c.args.cell.now.at _) (le_refl _) (omega arith)
 
 pub returns-then-is_free-clause-answer : goal.returns-then-is_free-clause-answer
 returns-then-is_free-clause-answer g c = λ h head. inr (answer_free _ c.args.cell.now head c.if-is_free.ensures)
 
 pub returns-in-Some-clause-answer : goal.returns-in-Some-clause-answer
 returns-in-Some-clause-answer g c = λ h head.
-    let rest = drop c.args.cell.now.at (bytes_in c.args.region (g.F.Flash.facts c.args.paged.now.device).content) in
+    let rest = drop c.args.cell.now.at (bytes_in c.args.region c.args.paged.now.device.content) in
     inr (answer_damaged rest c.args.cell.now c.in-Some.kind c.if-is_free.ensures (rw c.in-Some.is at (c.in_ok-kind.ensures.damage h)))
 
 pub returns-in-None-clause-answer : goal.returns-in-None-clause-answer

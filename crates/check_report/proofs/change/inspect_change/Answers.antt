@@ -7,7 +7,7 @@ use Rattle.check_report.proofs.change.inspect_change.Goals as goal
 
 pub returns-clause-inspection : goal.returns-clause-inspection
 returns-clause-inspection g c = λ h k.
-    let y = (g.G.Flash.facts c.args.images.now.new_image.device).content in
+    let y = c.args.images.now.new_image.device.content in
     let old_is : c.old_image.result ≡ Ok c.in_ok-old.old = search rules in
     let new_is : c.check_image-checked.result ≡ Ok c.in_ok-checked.checked = search rules in
     let old = rw old_is at (c.old_image.ensures.image h) in

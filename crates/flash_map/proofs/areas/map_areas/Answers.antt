@@ -10,9 +10,9 @@ pub loop-number-preserved : goal.loop-number-preserved
 loop-number-preserved g c =
     let map = c.args.map.now in
     let had = c.loop-number.invariant in
-    let image = (g.F.Flash.facts c.args.paged.now.device).content in
+    let image = c.args.paged.now.device.content in
     record {
-      read = HasRead-then _ _ 1 0 _ _ _ had.read c.in_ok-area.ensures.after.read;
+      read = HasRead-then _ 1 0 _ _ _ had.read c.in_ok-area.ensures.after.read;
       count = omega (arith, ap length c.in_ok-push.ensures.items, length-append c.loop-number.areas.items (record { number = c.loop-number.number; area = c.in_ok-area.area } ∷ []), had.count);
       areas = λ h.
           let is = rw (had.read.device.unchanged h) at (c.in_ok-area.ensures.area (honest_still had.read.device.calls.same_honesty h)) in
@@ -22,5 +22,5 @@ loop-number-preserved g c =
 pub returns-clause-areas : goal.returns-clause-areas
 returns-clause-areas g c = λ h.
     let map = c.args.map.now in
-    let image = (g.F.Flash.facts c.args.paged.now.device).content in
+    let image = c.args.paged.now.device.content in
     c.loop-number.invariant.areas h ∙ ap (λ n. numbered_from 0 (areas_from n (drop (map.at + 56) image))) {x = c.loop-number.number} {y = map.head.nareas} (omega arith)

@@ -6,9 +6,8 @@ use Rattle.flash_map.proofs.areas.map_areas.Given as goal
 
 abbrev pub invariant-loop-number : goal.invariant-loop-number
 invariant-loop-number g l =
-    let facts = g.F.Flash.facts in
     record {
-      read : HasRead facts l.number 0 l.initial.paged l.paged;
+      read : HasRead l.number 0 l.initial.paged l.paged;
       count : length l.areas.items ≡ l.number;
-      areas : OnHonest facts l.initial.paged.device (λ image. l.areas.items ≡ numbered_from 0 (areas_from l.number (drop (l.map.at + 56) image)));
+      areas : OnHonest l.initial.paged.device (λ image. l.areas.items ≡ numbered_from 0 (areas_from l.number (drop (l.map.at + 56) image)));
     }

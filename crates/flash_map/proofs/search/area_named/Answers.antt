@@ -8,16 +8,16 @@ use Rattle.flash_map.proofs.search.area_named.Goals as goal
 pub returns-then-name_is-clause-first : goal.returns-then-name_is-clause-first
 returns-then-name_is-clause-first g c = λ h.
     let had = c.loop-i.invariant in
-    let image = (g.F.Flash.facts c.args.paged.now.device).content in
+    let image = c.args.paged.now.device.content in
     let read = rw (had.0.device.unchanged h) at (c.in_ok-area.ensures.area (honest_still had.0.device.calls.same_honesty h)) in
     area_found image c.args.name.now c.args.map.now.head.nareas c.loop-i.i _ _ c.loop-i-test.true read c.if-name_is.ensures ∙ had.1 h
 
 pub loop-i-preserved : goal.loop-i-preserved
 loop-i-preserved g c =
     let had = c.loop-i.invariant in
-    let image = (g.F.Flash.facts c.args.paged.now.device).content in
+    let image = c.args.paged.now.device.content in
     let next : c.args.map.now.at + 56 + 42 * (c.loop-i.i + 1) ≡ c.args.map.now.at + 56 + 42 * c.loop-i.i + 42 = omega arith in (
-      HasRead-then _ _ 1 0 _ _ _ had.0 c.in_ok-area.ensures.after.read,
+      HasRead-then _ 1 0 _ _ _ had.0 c.in_ok-area.ensures.after.read,
       λ h.
           let read = rw (had.0.device.unchanged h) at (c.in_ok-area.ensures.area (honest_still had.0.device.calls.same_honesty h)) in
           ap (λ p. named_from image c.args.name.now (c.args.map.now.head.nareas - (c.loop-i.i + 1)) p) next
@@ -26,4 +26,4 @@ loop-i-preserved g c =
 
 pub returns-clause-first : goal.returns-clause-first
 returns-clause-first g c = λ h.
-    area_none (g.F.Flash.facts c.args.paged.now.device).content c.args.name.now c.args.map.now.head.nareas c.loop-i.i _ c.loop-i-test.false ∙ c.loop-i.invariant.1 h
+    area_none c.args.paged.now.device.content c.args.name.now c.args.map.now.head.nareas c.loop-i.i _ c.loop-i-test.false ∙ c.loop-i.invariant.1 h

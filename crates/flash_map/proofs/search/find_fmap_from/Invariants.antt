@@ -3,7 +3,7 @@ use Rattle.flash_map.proofs.FmapLemmas.{SearchedTo}
 use Rattle.flash_map.proofs.search.find_fmap_from.Given as goal
 
 abbrev pub invariant-loop-place : goal.invariant-loop-place
-invariant-loop-place g l = SearchedTo g.F.Flash.facts l.initial.place l.place l.initial.paged l.paged
+invariant-loop-place g l = SearchedTo l.initial.place l.place l.initial.paged l.paged
 
 abbrev pub decreases-loop-place : goal.decreases-loop-place
 decreases-loop-place g l = l.len - l.place

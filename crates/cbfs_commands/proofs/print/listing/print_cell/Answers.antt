@@ -20,7 +20,7 @@ pub returns-then-not-is_free : goal.returns-then-not-is_free
 returns-then-not-is_free g c =
     let r = c.args.region in
     let cell = c.args.cell.now in
-    let mid = (g.F.Flash.facts c.print_row.new.paged.device).content in
+    let mid = c.print_row.new.paged.device.content in
     let here = still_cell c.print_row.ensures.read c.requires in
     let rest = so_far-of (λ image. lines c.args.verbose (cell_bytes r cell image)) c.in_ok-print_row.ensures in
     so_far-ends rest _ c.print_details.ensures (λ h.

@@ -5,8 +5,8 @@ use Rattle.check_changes.proofs.areas.areas.push_changes.Given as goal
 
 abbrev pub invariant-loop-pair : goal.invariant-loop-pair
 invariant-loop-pair g l =
-    let f = g.F.Flash.facts in
-    let k = g.G.Flash.facts in
+    let f = in
+    let k = in
     let most = 8 * (lengths f k l.initial.images).new in
     let n = (most - l.left) / 4096 + l.pair-index in
     record {

@@ -8,8 +8,8 @@ use Rattle.check_changes.proofs.components.changes.push_changes.Given as goal
 
 abbrev pub invariant-loop-listed : goal.invariant-loop-listed
 invariant-loop-listed g l =
-    let f = g.F.Flash.facts in
-    let k = g.G.Flash.facts in
+    let f = in
+    let k = in
     let old = l.lists.old.all.now in
     let new = l.lists.new.all.now in
     let n = spans (take l.listed-index new) / 24 in

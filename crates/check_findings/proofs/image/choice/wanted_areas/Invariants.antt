@@ -8,10 +8,9 @@ use Rattle.check_findings.proofs.image.choice.wanted_areas.Given as goal
 
 abbrev pub invariant-loop-area : goal.invariant-loop-area
 invariant-loop-area g l =
-    let facts = g.F.Flash.facts in
     record {
-      read : HasRead facts l.area-index 0 l.initial.paged l.paged;
-      inside : All (λ a. area_end a.area ≤ length (facts l.initial.paged.device).content) l.wanted.items;
+      read : HasRead l.area-index 0 l.initial.paged l.paged;
+      inside : All (λ a. area_end a.area ≤ length l.initial.paged.device.content) l.wanted.items;
       count : length l.wanted.items ≤ l.area-index;
-      areas : OnHonest facts l.initial.paged.device (λ image. (names : List (List ℕ)) → HasNames l.expected names → l.wanted.items ≡ filter (is_wanted image names l.areas) (take l.area-index l.areas));
+      areas : OnHonest l.initial.paged.device (λ image. (names : List (List ℕ)) → HasNames l.expected names → l.wanted.items ≡ filter (is_wanted image names l.areas) (take l.area-index l.areas));
     }

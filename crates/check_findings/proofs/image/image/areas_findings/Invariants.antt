@@ -7,11 +7,10 @@ use Rattle.check_findings.proofs.image.image.areas_findings.Given as goal
 
 abbrev pub invariant-loop-area : goal.invariant-loop-area
 invariant-loop-area g l =
-    let facts = g.F.Flash.facts in
-    let n = length (facts l.initial.paged.device).content in
+    let n = length l.initial.paged.device.content in
     record {
-      read : HasRead facts ((2 * n - l.left) / 16 + 2 * l.area-index) 0 l.initial.paged l.paged;
+      read : HasRead ((2 * n - l.left) / 16 + 2 * l.area-index) 0 l.initial.paged l.paged;
       checked : AreChecked n l.area-index l.left (region_areas l.findings.items);
-      found : OnHonest facts l.initial.paged.device (λ image. (names : List (List ℕ)) → HasNames l.expected names →
+      found : OnHonest l.initial.paged.device (λ image. (names : List (List ℕ)) → HasNames l.expected names →
           l.findings.items ++ areas_findings image names l.left (drop l.area-index l.areas) ≡ areas_findings image names (2 * length image) l.areas);
     }

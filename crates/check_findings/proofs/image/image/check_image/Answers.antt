@@ -14,7 +14,7 @@ pub returns-clause-inside : goal.returns-clause-inside
 returns-clause-inside g c =
     let is = regions_of c.deref.result.now c.deref-4.result.now _ _ c.in_ok-regions.regions.items _ _ c.in_ok-findings.ensures c.in_ok-append.ensures.items c.in_ok-push_missing.ensures in
     let same = c.wanted_areas.ensures.after.device.calls.same_length ∙ c.check_map.ensures.after.device.calls.same_length in
-    subst (λ l. All (λ a. area_end a.area ≤ length (g.F.Flash.facts c.args.paged.now.device).content) l) (sym is) (subst (λ n. All (λ a. area_end a.area ≤ n) (region_areas c.in_ok-regions.regions.items)) same c.in_ok-regions.ensures.checked.inside)
+    subst (λ l. All (λ a. area_end a.area ≤ length c.args.paged.now.device.content) l) (sym is) (subst (λ n. All (λ a. area_end a.area ≤ n) (region_areas c.in_ok-regions.regions.items)) same c.in_ok-regions.ensures.checked.inside)
 
 pub returns-clause-fits : goal.returns-clause-fits
 returns-clause-fits g c =

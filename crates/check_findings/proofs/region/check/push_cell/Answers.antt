@@ -25,7 +25,7 @@ pub returns-then-is_free-clause-found : goal.returns-then-is_free-clause-found
 returns-then-is_free-clause-found g c = λ h stands.
     let r = c.args.region in
     let cell = c.args.cell.now in
-    let image = (g.F.Flash.facts c.args.paged.now.device).content in
+    let image = c.args.paged.now.device.content in
     let known = c.cells_stand_in_their_image.ensures r image cell c.requires.region.inside c.requires.cell stands in
     rw (known.head, sym c.is_free.ensures ∙ c.if-is_free.true) c.in_ok-push_if.ensures
 
@@ -33,7 +33,7 @@ pub returns-clause-found : goal.returns-clause-found
 returns-clause-found g c = λ h stands.
     let r = c.args.region in
     let cell = c.args.cell.now in
-    let image = (g.F.Flash.facts c.args.paged.now.device).content in
+    let image = c.args.paged.now.device.content in
     let x : List ℕ = cell_in (bytes_in r image) cell in
     let known = c.cells_stand_in_their_image.ensures r image cell c.requires.region.inside c.requires.cell stands in
     let named = c.in_ok-len.ensures in

@@ -11,7 +11,7 @@ pub returns-clause-has : goal.returns-clause-has
 returns-clause-has g c = λ h.
     let r = c.args.region in
     let at = c.args.at in
-    let image = (g.F.Flash.facts c.args.paged.now.device).content in
+    let image = c.args.paged.now.device.content in
     let size = length-bytes_in r image c.requires.region.inside in
     let fits : at + 24 ≤ r.size = omega (arith, c.if-size-at-lt-HEAD.false, c.size.ensures, c.requires.inside) in
     let bytes = read_part {E = FlashFault} (Ok tt) _ image r _ at 24 (c.in_ok-read_small.ensures.read h) (omega (arith, c.start.ensures)) fits in

@@ -6,9 +6,8 @@ use Rattle.check_findings.proofs.region.tail.find_filled.Given as goal
 
 abbrev pub invariant-loop-i : goal.invariant-loop-i
 invariant-loop-i g l =
-    let facts = g.F.Flash.facts in
     record {
-      read : HasRead facts l.i 0 l.fn.paged l.paged;
-      blank : OnHonestIn facts l.fn.paged.device l.fn.region (λ x.
+      read : HasRead l.i 0 l.fn.paged l.paged;
+      blank : OnHonestIn l.fn.paged.device l.fn.region (λ x.
           position_from is_filled l.fn.at (tail_bytes l.fn.at x) ≡ position_from is_filled (l.fn.at + 4096 * l.i) (drop (4096 * l.i) (tail_bytes l.fn.at x)));
     }

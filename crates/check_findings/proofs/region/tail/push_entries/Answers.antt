@@ -9,7 +9,7 @@ use Rattle.check_findings.proofs.RegionLemmas.Tails.{entries_last}
 use Rattle.check_findings.proofs.region.tail.push_entries.Goals as goal
 
 pub loop-i-init : goal.loop-i-init
-loop-i-init g c = record { read = HasRead-none _ _; found = λ h. sym (append-nil c.args.findings.now.items) }
+loop-i-init g c = record { read = HasRead-none _; found = λ h. sym (append-nil c.args.findings.now.items) }
 
 pub loop-i-preserved : goal.loop-i-preserved
 loop-i-preserved g c =
@@ -18,9 +18,9 @@ loop-i-preserved g c =
     let entry = c.in_ok-has_entry.ensures in
     let i = c.loop-i.i in
     let at = c.args.at in
-    let x = bytes_in c.args.region (g.F.Flash.facts c.args.paged.now.device).content in
+    let x = bytes_in c.args.region c.args.paged.now.device.content in
     record {
-      read = HasRead-then _ _ 1 0 _ _ _ had.read entry.after.read;
+      read = HasRead-then _ 1 0 _ _ _ had.read entry.after.read;
       found = λ h.
           let has = rw (device.unchanged h) at (entry.has (honest_still device.calls.same_honesty h)) in
           rw (entries_last i at x, sym (append_assoc c.args.findings.now.items (entries_findings i at x) (only_if (begins_with_entry (drop (at + 64 * i) x)) (TailEntry (at + 64 * i)))), sym (had.found h)) (rw has at c.in_ok-push_if.ensures);
@@ -29,6 +29,6 @@ loop-i-preserved g c =
 pub returns-clause-found : goal.returns-clause-found
 returns-clause-found g c = λ h.
     let r = c.args.region in
-    let image = (g.F.Flash.facts c.args.paged.now.device).content in
+    let image = c.args.paged.now.device.content in
     subst (λ n. c.loop-i.findings.items ≡ c.args.findings.now.items ++ entries_findings n c.args.at (bytes_in r image))
     (omega (arith, c.loop-i-test.false, c.size.ensures, length-bytes_in r image c.requires.region.inside)) (c.loop-i.invariant.found h)

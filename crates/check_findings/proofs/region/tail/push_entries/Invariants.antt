@@ -5,9 +5,8 @@ use Rattle.check_findings.proofs.region.tail.push_entries.Given as goal
 
 abbrev pub invariant-loop-i : goal.invariant-loop-i
 invariant-loop-i g l =
-    let facts = g.F.Flash.facts in
     record {
-      read : HasRead facts l.i 0 l.initial.paged l.paged;
-      found : OnHonestIn facts l.initial.paged.device l.region (λ x.
+      read : HasRead l.i 0 l.initial.paged l.paged;
+      found : OnHonestIn l.initial.paged.device l.region (λ x.
           l.findings.items ≡ l.initial.findings.items ++ entries_findings l.i l.at x);
     }

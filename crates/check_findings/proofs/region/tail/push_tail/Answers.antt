@@ -15,7 +15,7 @@ returns-clause-found g c = λ h.
     let read = c.in_ok-filled.ensures.after.read.device in
     let before = c.args.findings.now.items in
     let at = c.args.at in
-    let x = bytes_in c.args.region (g.F.Flash.facts c.args.paged.now.device).content in
+    let x = bytes_in c.args.region c.args.paged.now.device.content in
     let entries = entries_findings ((length x - at) / 64) at x in
     let filled = TailFilled c.in-Some.filled ∷ [] in
     rw (sym (c.in_ok-filled.ensures.found h), c.in-Some.is)

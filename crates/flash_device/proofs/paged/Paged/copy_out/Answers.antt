@@ -17,7 +17,7 @@ loop-done-preserved g c =
       within = omega (arith, size, left);
       whole_pieces = λ more. omega (arith, size, had.whole_pieces left, more);
       no_piece = piece.no_piece;
-      read = HasRead-piece _ _ _ _ _ _ _ (omega (arith, size, left)) (had.whole_pieces left) had.read whole.read;
+      read = HasRead-piece _ _ _ _ _ _ (omega (arith, size, left)) (had.whole_pieces left) had.read whole.read;
       free = λ covers.
           let same = had.free covers in
           let part = Covers-part c.args.self.now.held c.args.at c.args.n c.loop-done.done c.min-size.result (omega (arith, size, left)) covers in
@@ -30,8 +30,8 @@ pub returns-in_err-copy_piece-clause-after : goal.returns-in_err-copy_piece-clau
 returns-in_err-copy_piece-clause-after g c =
     let had = c.loop-done.invariant in
     let left = c.loop-done-test.true in
-    let read = HasRead-piece _ _ _ _ _ _ _ left (had.whole_pieces left) had.read c.copy_piece.ensures.after.read in
-    let part = λ (h : IsTrue (g.F.Flash.facts c.args.self.now.device).honest).
+    let read = HasRead-piece _ _ _ _ _ _ left (had.whole_pieces left) had.read c.copy_piece.ensures.after.read in
+    let part = λ (h : IsTrue c.args.self.now.device.honest).
     let piece = rw (had.read.device.unchanged h) at (c.in_err-copy_piece.ensures.after.part (honest_still had.read.device.calls.same_honesty h)) in
     OnErr-from c.from_residual.result (AppendsPart-more _ _ _ _ c.args.at c.loop-done.done c.min-size.result c.args.n (omega (arith, c.min-size.ensures, left)) c.requires (had.put h) piece) in
     search (rules, read, part)

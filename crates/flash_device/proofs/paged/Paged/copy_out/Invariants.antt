@@ -5,12 +5,12 @@ use Rattle.flash_device.proofs.paged.Paged.copy_out.Given as goal
 
 abbrev pub invariant-loop-done : goal.invariant-loop-done
 invariant-loop-done g l =
-    let old = g.F.Flash.facts l.fn.self.device in
+    let old = l.fn.self.device in
     record {
       within : l.done ≤ l.n;
       whole_pieces : l.done < l.n → l.done % 4096 ≡ 0;
       no_piece : without_piece l.self.held ≡ l.self.held;
-      read : HasRead g.F.Flash.facts ((l.done + 4095) / 4096) 0 l.fn.self l.self;
+      read : HasRead ((l.done + 4095) / 4096) 0 l.fn.self l.self;
       free : Covers l.fn.self.held l.at l.n → l.self ≡ l.fn.self;
       faults : g.W.Sink.faults l.fn.out ≤ g.W.Sink.faults l.out;
       put : IsTrue old.honest → Appends (g.W.Sink.contents l.fn.out) (g.W.Sink.contents l.out) (slice_range old.content l.at (l.at + l.done));

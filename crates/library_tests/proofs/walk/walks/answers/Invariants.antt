@@ -4,6 +4,6 @@ use Rattle.library_tests.proofs.walk.walks.answers.Given as goal
 
 abbrev pub invariant-loop-one : goal.invariant-loop-one
 invariant-loop-one g l = record {
-  lies : LiesOn l.walk.region (g.F.Flash.facts l.paged.device);
+  lies : LiesOn l.walk.region l.paged.device;
   region : l.walk.region ≡ l.initial.walk.region;
 }
