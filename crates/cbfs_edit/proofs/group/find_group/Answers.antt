@@ -19,15 +19,15 @@ loop-cell-preserved g c =
 
 pub returns-in-Tail : goal.returns-in-Tail
 returns-in-Tail g c =
-    let read = last_after _ c.args.region (group_by c.args.name.now) _ _ c.loop-cell.walk c.loop-cell.search _ _ c.requires c.loop-cell.invariant _ c.in-Tail.is _ c.in_ok-cell.ensures.after in
+    let read = last_after c.args.region (group_by c.args.name.now) _ _ c.loop-cell.walk c.loop-cell.search _ _ c.requires c.loop-cell.invariant _ c.in-Tail.is _ c.in_ok-cell.ensures.after in
     record {
       after = rw (faultless c.group_in.result (IfErr-weaker c.group_in.result _ _ (λ fault is other. cc) c.group_in.ensures.fault)) read;
       no_source = search rules;
       group = IfOk-weaker c.group_in.result _ _ (λ group within. within c.loop-cell.walk.at c.args.region.size c.loop-cell.invariant.before c.loop-cell.invariant.inside) c.group_in.ensures.group;
-      answer = λ h. inr (c.group_in.ensures.is c.args.name.now _ ∙ last_answer _ c.args.region (group_by c.args.name.now) _ _ c.loop-cell.walk c.loop-cell.search _ _ c.requires c.loop-cell.invariant _ c.in-Tail.is c.in_ok-cell.ensures.answer h);
+      answer = λ h. inr (c.group_in.ensures.is c.args.name.now _ ∙ last_answer c.args.region (group_by c.args.name.now) _ _ c.loop-cell.walk c.loop-cell.search _ _ c.requires c.loop-cell.invariant _ c.in-Tail.is c.in_ok-cell.ensures.answer h);
     }
 
 pub returns-in_err-cell-clause-answer : goal.returns-in_err-cell-clause-answer
 returns-in_err-cell-clause-answer g c = λ h.
     let told = err_from_is_err_and c.from_residual.result c.from_residual.ensures.1 in
-    rw (told.1, told.2) (surveying_err _ c.args.region (group_by c.args.name.now) _ _ c.loop-cell.walk c.loop-cell.search _ _ c.requires c.loop-cell.invariant c.in_err-cell.field-0.0 c.in_err-cell.ensures.answer h)
+    rw (told.1, told.2) (surveying_err c.args.region (group_by c.args.name.now) _ _ c.loop-cell.walk c.loop-cell.search _ _ c.requires c.loop-cell.invariant c.in_err-cell.field-0.0 c.in_err-cell.ensures.answer h)

@@ -27,15 +27,15 @@ loop-cell-preserved g c =
 
 pub returns-in-Tail : goal.returns-in-Tail
 returns-in-Tail g c =
-    let read = last_after _ c.args.region (λ s at cells. place_by c.args.name.now c.args.wanted c.args.region.size s cells) _ _ c.loop-cell.walk c.loop-cell.survey _ _ c.requires.region c.loop-cell.invariant _ c.in-Tail.is _ c.in_ok-cell.ensures.after in
+    let read = last_after c.args.region (λ s at cells. place_by c.args.name.now c.args.wanted c.args.region.size s cells) _ _ c.loop-cell.walk c.loop-cell.survey _ _ c.requires.region c.loop-cell.invariant _ c.in-Tail.is _ c.in_ok-cell.ensures.after in
     record {
       after = rw (faultless c.answer_of.result c.answer_of.ensures.fault) read;
       no_source = c.answer_of.ensures.no_source;
       fits = c.answer_of.ensures.fits;
-      answer = λ h. inr (c.answer_of.ensures.is c.args.name.now ∙ last_answer _ c.args.region (λ s at cells. place_by c.args.name.now c.args.wanted c.args.region.size s cells) _ _ c.loop-cell.walk c.loop-cell.survey _ _ c.requires.region c.loop-cell.invariant _ c.in-Tail.is c.in_ok-cell.ensures.answer h);
+      answer = λ h. inr (c.answer_of.ensures.is c.args.name.now ∙ last_answer c.args.region (λ s at cells. place_by c.args.name.now c.args.wanted c.args.region.size s cells) _ _ c.loop-cell.walk c.loop-cell.survey _ _ c.requires.region c.loop-cell.invariant _ c.in-Tail.is c.in_ok-cell.ensures.answer h);
     }
 
 pub returns-in_err-cell-clause-answer : goal.returns-in_err-cell-clause-answer
 returns-in_err-cell-clause-answer g c = λ h.
     let told = err_from_is_err_and c.from_residual.result c.from_residual.ensures.1 in
-    rw (told.1, told.2) (surveying_err _ c.args.region (λ s at cells. place_by c.args.name.now c.args.wanted c.args.region.size s cells) _ _ c.loop-cell.walk c.loop-cell.survey _ _ c.requires.region c.loop-cell.invariant c.in_err-cell.field-0.0 c.in_err-cell.ensures.answer h)
+    rw (told.1, told.2) (surveying_err c.args.region (λ s at cells. place_by c.args.name.now c.args.wanted c.args.region.size s cells) _ _ c.loop-cell.walk c.loop-cell.survey _ _ c.requires.region c.loop-cell.invariant c.in_err-cell.field-0.0 c.in_err-cell.ensures.answer h)

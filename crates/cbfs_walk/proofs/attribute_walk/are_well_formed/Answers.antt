@@ -13,16 +13,16 @@ pub loop-head-preserved : goal.loop-head-preserved
 loop-head-preserved g c =
     let told = rw c.in-Attribute.is at c.in_ok-head.ensures.listed in
     let inside = rw c.in-Attribute.is at c.in_ok-head.ensures.attribute in
-    asked_more _ are_formed c.args.region _ _ c.loop-head.at _ _ _ c.loop-head.invariant told c.in-Attribute.head c.from-at.result _ c.from-at.ensures inside c.in_ok-head.ensures.passes
+    asked_more are_formed c.args.region _ _ c.loop-head.at _ _ _ c.loop-head.invariant told c.in-Attribute.head c.from-at.result _ c.from-at.ensures inside c.in_ok-head.ensures.passes
     (formed_more c.loop-head.at c.in-Attribute.head)
 
 pub returns-in-End-clause-formed : goal.returns-in-End-clause-formed
 returns-in-End-clause-formed g c =
-    asked_here _ are_formed c.args.region _ _ c.loop-head.at _ _ _ c.loop-head.invariant (rw c.in-End.is at c.in_ok-head.ensures.listed) true (formed_end c.loop-head.at)
+    asked_here are_formed c.args.region _ _ c.loop-head.at _ _ _ c.loop-head.invariant (rw c.in-End.is at c.in_ok-head.ensures.listed) true (formed_end c.loop-head.at)
 
 pub returns-in-Malformed-clause-formed : goal.returns-in-Malformed-clause-formed
 returns-in-Malformed-clause-formed g c =
-    asked_here _ are_formed c.args.region _ _ c.loop-head.at _ _ _ c.loop-head.invariant (rw c.in-Malformed.is at c.in_ok-head.ensures.listed) false (formed_malformed c.loop-head.at)
+    asked_here are_formed c.args.region _ _ c.loop-head.at _ _ _ c.loop-head.invariant (rw c.in-Malformed.is at c.in_ok-head.ensures.listed) false (formed_malformed c.loop-head.at)
 
 pub returns-in_err-head-clause-passes : goal.returns-in_err-head-clause-passes
 returns-in_err-head-clause-passes g c = rw (err_from_is_err_and c.from_residual.result c.from_residual.ensures.1).1 (scanned c.loop-head.invariant c.in_err-head.ensures.passes)

@@ -18,19 +18,19 @@ pub loop-head-preserved : goal.loop-head-preserved
 loop-head-preserved g c =
     let told = rw c.in-Attribute.is at c.in_ok-head.ensures.listed in
     let inside = rw c.in-Attribute.is at c.in_ok-head.ensures.attribute in
-    asked_more _ (first_in c.args.tag) c.args.region _ _ c.loop-head.at _ _ _ c.loop-head.invariant told c.in-Attribute.head c.from-at.result _ c.from-at.ensures inside c.in_ok-head.ensures.passes
+    asked_more (first_in c.args.tag) c.args.region _ _ c.loop-head.at _ _ _ c.loop-head.invariant told c.in-Attribute.head c.from-at.result _ c.from-at.ensures inside c.in_ok-head.ensures.passes
     (λ y. first_more c.args.tag c.loop-head.at c.in-Attribute.head y (ne_eqb _ _ c.if-head-tag.false))
 
 pub returns-then-head-tag-clause-first : goal.returns-then-head-tag-clause-first
 returns-then-head-tag-clause-first g c = λ h.
     let told = rw c.in-Attribute.is at c.in_ok-head.ensures.listed in
     first_is _ c.args.tag c.args.cell.now _ _ _ (ap (λ n. c.args.cell.now.at + n) (c.from-2.ensures ∙ c.name_end.ensures)) (ap (λ n. c.args.cell.now.at + n) c.from.ensures)
-    (asked_here _ (first_in c.args.tag) c.args.region _ _ c.loop-head.at _ _ _ c.loop-head.invariant told _ (λ y. first_here c.args.tag c.loop-head.at c.in-Attribute.head y (eq-eqb _ _ c.if-head-tag.true)) h)
+    (asked_here (first_in c.args.tag) c.args.region _ _ c.loop-head.at _ _ _ c.loop-head.invariant told _ (λ y. first_here c.args.tag c.loop-head.at c.in-Attribute.head y (eq-eqb _ _ c.if-head-tag.true)) h)
 
 pub returns-in_default-clause-first : goal.returns-in_default-clause-first
 returns-in_default-clause-first g c = λ h.
     first_is _ c.args.tag c.args.cell.now _ _ _ (ap (λ n. c.args.cell.now.at + n) (c.from-2.ensures ∙ c.name_end.ensures)) (ap (λ n. c.args.cell.now.at + n) c.from.ensures)
-    (asked_here _ (first_in c.args.tag) c.args.region _ _ c.loop-head.at _ _ _ c.loop-head.invariant c.in_ok-head.ensures.listed _ (λ y. first_none c.args.tag c.loop-head.at c.in_ok-head.field-0 y c.in_default.not-Attribute) h)
+    (asked_here (first_in c.args.tag) c.args.region _ _ c.loop-head.at _ _ _ c.loop-head.invariant c.in_ok-head.ensures.listed _ (λ y. first_none c.args.tag c.loop-head.at c.in_ok-head.field-0 y c.in_default.not-Attribute) h)
 
 pub returns-in_err-head-clause-passes : goal.returns-in_err-head-clause-passes
 returns-in_err-head-clause-passes g c =

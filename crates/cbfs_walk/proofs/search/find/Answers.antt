@@ -8,26 +8,26 @@ loop-cell-init g c = rw c.new-walk.ensures (searching_start c.args.region c.args
 
 pub loop-cell-preserved : goal.loop-cell-preserved
 loop-cell-preserved g c =
-    searching_more _ c.args.region c.args.name.now c.loop-cell.walk _ _ c.requires c.loop-cell.invariant _ c.in-Cell.cell _ c.in_ok-is_component-in-Cell.field-0 c.in-Cell.is
+    searching_more c.args.region c.args.name.now c.loop-cell.walk _ _ c.requires c.loop-cell.invariant _ c.in-Cell.cell _ c.in_ok-is_component-in-Cell.field-0 c.in-Cell.is
     c.in_ok-cell.ensures.cell c.in_ok-cell.ensures.after c.in_ok-cell.ensures.answer c.in_ok-is_component-in-Cell.ensures.named _ _ c.if-branch.false c.in_ok-cell.ensures.moved c.in_ok-is_component-in-Cell.ensures.after.read
 
 pub returns-then-branch-clause-answer : goal.returns-then-branch-clause-answer
 returns-then-branch-clause-answer g c = λ h.
-    inr (found_answer _ c.args.region c.args.name.now c.loop-cell.walk _ _ c.requires c.loop-cell.invariant _ c.in-Cell.cell _ c.in_ok-is_component-in-Cell.field-0 c.in-Cell.is
+    inr (found_answer c.args.region c.args.name.now c.loop-cell.walk _ _ c.requires c.loop-cell.invariant _ c.in-Cell.cell _ c.in_ok-is_component-in-Cell.field-0 c.in-Cell.is
     c.in_ok-cell.ensures.cell c.in_ok-cell.ensures.after c.in_ok-cell.ensures.answer c.in_ok-is_component-in-Cell.ensures.named c.if-branch.true h)
 
 pub returns-then-branch-clause-first : goal.returns-then-branch-clause-first
 returns-then-branch-clause-first g c = λ h.
-    found_first _ c.args.region c.args.name.now c.loop-cell.walk _ _ c.requires c.loop-cell.invariant _ c.in-Cell.cell _ c.in_ok-is_component-in-Cell.field-0 c.in-Cell.is
+    found_first c.args.region c.args.name.now c.loop-cell.walk _ _ c.requires c.loop-cell.invariant _ c.in-Cell.cell _ c.in_ok-is_component-in-Cell.field-0 c.in-Cell.is
     c.in_ok-cell.ensures.cell c.in_ok-cell.ensures.after c.in_ok-cell.ensures.answer c.in_ok-is_component-in-Cell.ensures.named c.if-branch.true h
 
 pub returns-in-Tail : goal.returns-in-Tail
 returns-in-Tail g c =
     record {
-      after = last_after _ c.args.region c.args.name.now c.loop-cell.walk _ _ c.requires c.loop-cell.invariant _ c.in-Tail.is _ c.in_ok-cell.ensures.after;
+      after = last_after c.args.region c.args.name.now c.loop-cell.walk _ _ c.requires c.loop-cell.invariant _ c.in-Tail.is _ c.in_ok-cell.ensures.after;
       cell = tt;
       component = tt;
-      answer = λ h. inr (last_answer _ c.args.region c.args.name.now c.loop-cell.walk _ _ c.requires c.loop-cell.invariant _ c.in-Tail.is c.in_ok-cell.ensures.answer h);
+      answer = λ h. inr (last_answer c.args.region c.args.name.now c.loop-cell.walk _ _ c.requires c.loop-cell.invariant _ c.in-Tail.is c.in_ok-cell.ensures.answer h);
       stands = λ h. tt;
       first = λ h. tt;
     }
@@ -35,4 +35,4 @@ returns-in-Tail g c =
 pub returns-in_err-cell-clause-answer : goal.returns-in_err-cell-clause-answer
 returns-in_err-cell-clause-answer g c = λ h.
     let told = err_from_is_err_and c.from_residual.result c.from_residual.ensures.1 in
-    rw (told.1, told.2) (searching_err _ c.args.region c.args.name.now c.loop-cell.walk _ _ c.requires c.loop-cell.invariant c.in_err-cell.field-0.0 c.in_err-cell.ensures.answer h)
+    rw (told.1, told.2) (searching_err c.args.region c.args.name.now c.loop-cell.walk _ _ c.requires c.loop-cell.invariant c.in_err-cell.field-0.0 c.in_err-cell.ensures.answer h)
