@@ -84,8 +84,8 @@ addition_step facts name kind hash spot source r honest old now (Err fault) answ
 -- ---- a list with one more step
 
 -- two calls
-pub changed_more : {F : Type 0} (facts : F → Device) (region : Range) (n k r q : ℕ) (a b c : Pages F) → HasChanged facts region n r a b → HasChanged facts region k q b c → HasChanged facts region (n + k) (r + q) a c
-changed_more facts region n k r q a b c first second = search rules
+pub changed_more : {F : Type 0} (region : Range) (n k r q : ℕ) (a b c : Pages F) → HasChanged region n r a b → HasChanged region k q b c → HasChanged region (n + k) (r + q) a c
+changed_more region n k r q a b c first second = search rules
 
 module _ {S : Type 0} (facts : S → Device) (region : Range) where
   run-push : (olds news : List (Edit S)) (replies : List Reply) (before mid after : Device) (old new : Edit S) (reply : Reply) → Run facts region olds news replies before mid → Step facts region old new mid reply after
@@ -101,26 +101,26 @@ module _ {S : Type 0} (facts : S → Device) (region : Range) where
       rw (take_more olds i d in_olds, take_more_set edits i f in_edits, take_more_set replies i reply in_replies)
       (run-push (take i olds) (take i edits) (take i replies) before mid after (get_or olds i d) f reply run one)
 
-module _ {F S : Type 0} (device : F → Device) (facts : S → Device) where
+same_edit : {S : Type 0} (olds edits : List (Edit S)) (i : ℕ) (d : Edit S) → drop i edits ≡ drop i olds → get_or edits i d ≡ get_or olds i d
+same_edit {S = S} olds edits i d same =
+    let here : i + 0 ≡ i = omega arith in
+    ap (λ n. get_or edits n d) (sym here) ∙ sym (get_or-drop i edits 0 d) ∙ ap (λ (l : List (Edit S)). get_or l 0 d) same ∙ get_or-drop i olds 0 d ∙ ap (λ n. get_or olds n d) here
+
+module _ {F S : Type 0} (facts : S → Device) where
   -- the first edits are applied, the others are unchanged
   pub record Applied (region : Range) (olds edits : List (Edit S)) (replies : List Reply) (i : ℕ) (old now : Pages F) : Type 0 where
-    pub after : HasChanged device region (sum_by (edit_calls region.size) (take i olds)) (sum_by (faults_of by_device) (take i replies)) old now
+    pub after : HasChanged region (sum_by (edit_calls region.size) (take i olds)) (sum_by (faults_of by_device) (take i replies)) old now
     pub as_many : length edits ≡ length olds
     pub replied : length replies ≡ length olds
     pub others : drop i edits ≡ drop i olds
-    pub run : Run facts region (take i olds) (take i edits) (take i replies) (device old.device) (device now.device)
-
-  same_edit : (olds edits : List (Edit S)) (i : ℕ) (d : Edit S) → drop i edits ≡ drop i olds → get_or edits i d ≡ get_or olds i d
-  same_edit olds edits i d same =
-      let here : i + 0 ≡ i = omega arith in
-      ap (λ n. get_or edits n d) (sym here) ∙ sym (get_or-drop i edits 0 d) ∙ ap (λ (l : List (Edit S)). get_or l 0 d) same ∙ get_or-drop i olds 0 d ∙ ap (λ n. get_or olds n d) here
+    pub run : Run facts region (take i olds) (take i edits) (take i replies) old.device now.device
 
   pub applied_more : (region : Range) (olds edits : List (Edit S)) (replies : List Reply) (i : ℕ) (e f : Edit S) (old now new : Pages F) (reply : Reply)
       → Applied region olds edits replies i old now
       → i < length edits
       → e ≡ get_or edits i e
-      → HasChanged device region (edit_calls region.size e) (faults_of by_device reply) now new
-      → Step facts region e f (device now.device) reply (device new.device)
+      → HasChanged region (edit_calls region.size e) (faults_of by_device reply) now new
+      → Step facts region e f now.device reply new.device
       → Applied region olds (set edits i f) (set replies i reply) (i + 1) old new
   applied_more region olds edits replies i e f old now new reply so_far in_edits is after step =
       let was : e ≡ get_or olds i e = is ∙ same_edit olds edits i e so_far.others in
@@ -132,15 +132,15 @@ module _ {F S : Type 0} (device : F → Device) (facts : S → Device) where
             sum_by_more (edit_calls region.size) olds i e in_olds ∙ ap (λ (k : Edit S). sum_by (edit_calls region.size) (take i olds) + edit_calls region.size k) (sym was) in
             let faults : sum_by (faults_of by_device) (take (i + 1) (set replies i reply)) ≡ sum_by (faults_of by_device) (take i replies) + faults_of by_device reply =
             ap (λ (rs : List Reply). sum_by (faults_of by_device) rs) (take_more_set replies i reply in_replies) ∙ sum_by-append (faults_of by_device) (take i replies) (reply ∷ []) ∙ omega arith in
-            rw (calls, faults) (changed_more device region _ _ _ _ old now new so_far.after after);
+            rw (calls, faults) (changed_more region _ _ _ _ old now new so_far.after after);
         as_many = length-set edits i f ∙ so_far.as_many;
         replied = length-set replies i reply ∙ so_far.replied;
         others =
             let next : i < i + 1 = omega arith in
             drop-set-lt (i + 1) edits i f next ∙ sym (drop-drop 1 i edits) ∙ ap (λ (l : List (Edit S)). drop 1 l) so_far.others ∙ drop-drop 1 i olds;
         run =
-            run_more facts region olds edits replies i e f reply (device old.device) (device now.device) (device new.device) in_olds in_edits in_replies so_far.run
-            (subst (λ (k : Edit S). Step facts region k f (device now.device) reply (device new.device)) was step);
+            run_more facts region olds edits replies i e f reply old.device now.device new.device in_olds in_edits in_replies so_far.run
+            (subst (λ (k : Edit S). Step facts region k f now.device reply new.device) was step);
       }
 
   pub applied_none : (region : Range) (olds : List (Edit S)) (replies : List Reply) (old : Pages F) → length olds ≡ length replies → Applied region olds olds replies 0 old old
@@ -156,7 +156,7 @@ module _ {F S : Type 0} (device : F → Device) (facts : S → Device) where
   }
 
   pub applied_all : (region : Range) (olds edits : List (Edit S)) (replies : List Reply) (i : ℕ) (old now : Pages F) → Applied region olds edits replies i old now → length olds ≤ i
-      → HasChanged device region (sum_by (edit_calls region.size) olds) (sum_by (faults_of by_device) replies) old now × Run facts region olds edits replies (device old.device) (device now.device)
+      → HasChanged region (sum_by (edit_calls region.size) olds) (sum_by (faults_of by_device) replies) old now × Run facts region olds edits replies old.device now.device
   applied_all region olds edits replies i old now all ended =
       let first : take i olds ≡ olds = take_all i olds ended in
       let second : take i edits ≡ edits = take_all i edits (omega (arith, ended, all.as_many)) in

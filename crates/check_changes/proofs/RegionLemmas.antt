@@ -13,39 +13,35 @@ use Rattle.check_changes.specs.Images.{HasReadBoth, OnBoth, lengths}
 use Rattle.check_changes.specs.Regions.{region_changes_in, region_changes}
 use Rattle.check_changes.proofs.ImageLemmas.{both-none, both-then, both-within, OnBoth-before}
 
-module _ {F G : Type 0} (f : F → Device) (g : G → Device) (olds : List NumberedArea) (findings : List ImageFinding) where
+module _ {F G : Type 0} (olds : List NumberedArea) (findings : List ImageFinding) where
   -- the changes of the first i findings are listed, with `left` bytes of the old image for comparisons
   pub record Changing (i left : ℕ) (changes : List RegionChange) (old new : Images F G) : Type 0 where
     pub sizes : ℕ
     pub count : ℕ
     pub all_sizes : sizes + sum_sizes (region_areas (drop i findings)) ≡ sum_sizes (region_areas findings)
     pub all : count + length (region_areas (drop i findings)) ≡ length (region_areas findings)
-    pub within : left ≤ (lengths f g old).old
-    pub read : HasReadBoth f g (((lengths f g old).old - left + sizes) / 24 + 2 * count) (sizes / 12 + 2 * count) 0 0 old new
-    pub listed : OnBoth f g old (λ x y. changes ++ region_changes_in left x y olds (region_areas (drop i findings)) ≡ region_changes_in (length x) x y olds (region_areas findings))
+    pub within : left ≤ (lengths old).old
+    pub read : HasReadBoth (((lengths old).old - left + sizes) / 24 + 2 * count) (sizes / 12 + 2 * count) 0 0 old new
+    pub listed : OnBoth old (λ x y. changes ++ region_changes_in left x y olds (region_areas (drop i findings)) ≡ region_changes_in (length x) x y olds (region_areas findings))
 
-  pub changing_start : (left : ℕ) (changes : List RegionChange) (images : Images F G) → left ≡ (lengths f g images).old → changes ≡ [] → Changing 0 left changes images images
+  pub changing_start : (left : ℕ) (changes : List RegionChange) (images : Images F G) → left ≡ (lengths images).old → changes ≡ [] → Changing 0 left changes images images
   changing_start left changes images is none = record {
     sizes = 0;
     count = 0;
     all_sizes = omega arith;
     all = omega arith;
     within = omega arith;
-    read = both-none f g _ _ images;
+    read = both-none _ _ images;
     listed = λ h k. rw (none, is) refl;
   }
 
-  -- the area of finding i, if it is of a region
-  abbrev areas_at : ℕ → ImageFinding → List NumberedArea
-  areas_at i d = region_area (get_or findings i d)
-
   -- another finding
   pub changing_more : {i left rest : ℕ} (d : ImageFinding) {changes next : List RegionChange} {old mid new : Images F G} → Changing i left changes old mid → i < length findings → rest ≤ left
-      → HasReadBoth f g ((left - rest + sum_sizes (areas_at i d)) / 24 + 2 * length (areas_at i d)) (sum_sizes (areas_at i d) / 12 + 2 * length (areas_at i d)) 0 0 mid new
-      → OnBoth f g mid (λ x y. (later : List NumberedArea) → next ++ region_changes_in rest x y olds later ≡ changes ++ region_changes_in left x y olds (areas_at i d ++ later))
+      → HasReadBoth ((left - rest + sum_sizes (region_area (get_or findings i d))) / 24 + 2 * length (region_area (get_or findings i d))) (sum_sizes (region_area (get_or findings i d)) / 12 + 2 * length (region_area (get_or findings i d))) 0 0 mid new
+      → OnBoth mid (λ x y. (later : List NumberedArea) → next ++ region_changes_in rest x y olds later ≡ changes ++ region_changes_in left x y olds (region_area (get_or findings i d) ++ later))
       → Changing (i + 1) rest next old new
   changing_more {i} {left} {rest} d {changes} {next} {old} had lt fewer read more =
-      let here = areas_at i d in
+      let here = region_area (get_or findings i d) in
       let later = region_areas (drop (i + 1) findings) in
       let split : region_areas (drop i findings) ≡ here ++ later = rw (add-one, drop-cons findings i d lt) refl in
       record {
@@ -54,38 +50,38 @@ module _ {F G : Type 0} (f : F → Device) (g : G → Device) (olds : List Numbe
         all_sizes = omega (arith, had.all_sizes, ap sum_sizes split, sum_by-append (λ (a : NumberedArea). a.area.size) here later);
         all = omega (arith, had.all, ap length split, length-append here later);
         within = omega (arith, had.within, fewer);
-        read = both-within f g _ _ (omega (arith, had.within)) (omega arith) (both-then f g had.read read);
+        read = both-within _ _ (omega (arith, had.within)) (omega arith) (both-then had.read read);
         listed = λ h k.
-            OnBoth-before f g (λ x y. (later : List NumberedArea) → next ++ region_changes_in rest x y olds later ≡ changes ++ region_changes_in left x y olds (here ++ later)) had.read more h k later
-            ∙ ap (λ (l : List NumberedArea). changes ++ region_changes_in left (f old.old_image.device).content (g old.new_image.device).content olds l) (sym split)
+            OnBoth-before (λ x y. (later : List NumberedArea) → next ++ region_changes_in rest x y olds later ≡ changes ++ region_changes_in left x y olds (here ++ later)) had.read more h k later
+            ∙ ap (λ (l : List NumberedArea). changes ++ region_changes_in left old.old_image.device.content old.new_image.device.content olds l) (sym split)
             ∙ had.listed h k;
       }
 
   -- the reads after some findings, or up to a fault in the next one
   abbrev pub HasReadAll : ℕ → ℕ → Images F G → Images F G → Type 0
   HasReadAll a b old new =
-      HasReadBoth f g (((lengths f g old).old + 8 * (lengths f g old).new) / 24 + 2 * length (region_areas findings)) (8 * (lengths f g old).new / 12 + 2 * length (region_areas findings)) a b old new
+      HasReadBoth (((lengths old).old + 8 * (lengths old).new) / 24 + 2 * length (region_areas findings)) (8 * (lengths old).new / 12 + 2 * length (region_areas findings)) a b old new
 
-  pub reads_all : {i left : ℕ} {changes : List RegionChange} {old new : Images F G} → sum_sizes (region_areas findings) ≤ 8 * (lengths f g old).new → Changing i left changes old new → HasReadAll 0 0 old new
-  reads_all total had = both-within f g _ _ (omega (arith, total, had.all_sizes, had.all)) (omega (arith, total, had.all_sizes, had.all)) had.read
+  pub reads_all : {i left : ℕ} {changes : List RegionChange} {old new : Images F G} → sum_sizes (region_areas findings) ≤ 8 * (lengths old).new → Changing i left changes old new → HasReadAll 0 0 old new
+  reads_all total had = both-within _ _ (omega (arith, total, had.all_sizes, had.all)) (omega (arith, total, had.all_sizes, had.all)) had.read
 
-  pub reads_stopped : {i left a b : ℕ} (rest : ℕ) (d : ImageFinding) {changes : List RegionChange} {old mid new : Images F G} → sum_sizes (region_areas findings) ≤ 8 * (lengths f g old).new → Changing i left changes old mid → i < length findings → rest ≤ left
-      → HasReadBoth f g ((left - rest + sum_sizes (areas_at i d)) / 24 + 2 * length (areas_at i d)) (sum_sizes (areas_at i d) / 12 + 2 * length (areas_at i d)) a b mid new → HasReadAll a b old new
+  pub reads_stopped : {i left a b : ℕ} (rest : ℕ) (d : ImageFinding) {changes : List RegionChange} {old mid new : Images F G} → sum_sizes (region_areas findings) ≤ 8 * (lengths old).new → Changing i left changes old mid → i < length findings → rest ≤ left
+      → HasReadBoth ((left - rest + sum_sizes (region_area (get_or findings i d))) / 24 + 2 * length (region_area (get_or findings i d))) (sum_sizes (region_area (get_or findings i d)) / 12 + 2 * length (region_area (get_or findings i d))) a b mid new → HasReadAll a b old new
   reads_stopped {i} {left} rest d total had lt fewer read =
-      let here = areas_at i d in
+      let here = region_area (get_or findings i d) in
       let later = region_areas (drop (i + 1) findings) in
       let split : region_areas (drop i findings) ≡ here ++ later = rw (add-one, drop-cons findings i d lt) refl in
       let sizes : had.sizes + sum_sizes here ≤ sum_sizes (region_areas findings) = omega (arith, had.all_sizes, ap sum_sizes split, sum_by-append (λ (a : NumberedArea). a.area.size) here later) in
       let count : had.count + length here ≤ length (region_areas findings) = omega (arith, had.all, ap length split, length-append here later) in
-      both-within f g _ _ (omega (arith, had.within, fewer, total, sizes, count)) (omega (arith, total, sizes, count)) (both-then f g had.read read)
+      both-within _ _ (omega (arith, had.within, fewer, total, sizes, count)) (omega (arith, total, sizes, count)) (both-then had.read read)
 
   -- all findings
   pub changing_all : {i left : ℕ} {changes : List RegionChange} {old new : Images F G} → Changing i left changes old new → length findings ≤ i
-      → (all : List NumberedArea) → olds ≡ all → OnBoth f g old (λ x y. changes ≡ region_changes x all y findings)
+      → (all : List NumberedArea) → olds ≡ all → OnBoth old (λ x y. changes ≡ region_changes x all y findings)
   unfolding region_changes
   changing_all {i} {left} {changes} {old} had end all are = λ h k.
-      let x = (f old.old_image.device).content in
-      let y = (g old.new_image.device).content in
+      let x = old.old_image.device.content in
+      let y = old.new_image.device.content in
       sym (append-nil changes)
       ∙ ap (λ (l : List ImageFinding). changes ++ region_changes_in left x y olds (region_areas l)) (sym (drop_all i findings end))
       ∙ had.listed h k

@@ -37,17 +37,17 @@ LieWithin lens r = (r.old.start + r.old.size ≤ lens.old) × (r.new.start + r.n
 
 -- ---- images on devices
 
-module _ {F G : Type 0} (f : F → Device) (g : G → Device) where
+module _ {F G : Type 0} where
   abbrev pub lengths : Images F G → Both ℕ
-  lengths i = lengths_of (f i.old_image.device).content (g i.new_image.device).content
+  lengths i = lengths_of i.old_image.device.content i.new_image.device.content
 
   -- regions on the devices of the images
   abbrev pub LieOn : Images F G → Both Range → Type 0
-  LieOn i r = LiesOn r.old (f i.old_image.device) × LiesOn r.new (g i.new_image.device)
+  LieOn i r = LiesOn r.old i.old_image.device × LiesOn r.new i.new_image.device
 
   -- P of both images, if both devices are honest
   abbrev pub OnBoth : Images F G → (List ℕ → List ℕ → Type 0) → Type 0
-  OnBoth i P = OnHonest f i.old_image.device (λ x. OnHonest g i.new_image.device (P x))
+  OnBoth i P = OnHonest i.old_image.device (λ x. OnHonest i.new_image.device (P x))
 
   -- P of a region of each image
   abbrev pub OnBothIn : Images F G → Both Range → (List ℕ → List ℕ → Type 0) → Type 0
@@ -55,8 +55,8 @@ module _ {F G : Type 0} (f : F → Device) (g : G → Device) where
 
   -- the images after at most m and n reads, a and b of them refused
   pub record HasReadBoth (m n a b : ℕ) (before after : Images F G) : Type 0 where
-    pub of_old : HasRead f m a before.old_image after.old_image
-    pub of_new : HasRead g n b before.new_image after.new_image
+    pub of_old : HasRead m a before.old_image after.old_image
+    pub of_new : HasRead n b before.new_image after.new_image
 
   -- the same; the result names the device that refused a read
   abbrev pub HasReadFor : {T : Type 0} (m n : ℕ) (i j : Images F G) → Result T ChangeFault → Type 0

@@ -25,20 +25,20 @@ pub flat_map-all : {X Z : Type 0} (f : X → List Z) (xs : List X) (i : ℕ) (be
 flat_map-all f xs i before all end is = sym (append-nil before) ∙ ap (λ l. before ++ flat_map f l) (sym (drop_all i xs end)) ∙ is
 
 -- another pair
-module _ {F G : Type 0} (f : F → Device) (g : G → Device) (pairs : List AreaPair) where
+module _ {F G : Type 0} (pairs : List AreaPair) where
   pub changes_in-more : {i m n rest : ℕ} (left : ℕ) (d : AreaPair) (before : List AreaChange) {mid after : List AreaChange} {old now : Images F G} (all : List ℕ → List ℕ → List AreaChange) → i < length pairs
-      → HasReadBoth f g m n 0 0 old now → OnBoth f g old (λ x y. before ++ area_changes_in x y pairs left (drop i pairs) ≡ all x y)
-      → mid ≡ before ++ map (area_change (get_or pairs i d).new) (entry_differences (get_or pairs i d).old (get_or pairs i d).new) → rest ≡ left_after left (same_size_regions (lengths f g now) (get_or pairs i d))
-      → OnBoth f g now (λ x y. after ≡ mid ++ map (area_change (get_or pairs i d).new) (content_differences x y pairs (get_or pairs i d) (compared left (same_size_regions (lengths_of x y) (get_or pairs i d)))))
-      → OnBoth f g old (λ x y. after ++ area_changes_in x y pairs rest (drop (i + 1) pairs) ≡ all x y)
+      → HasReadBoth m n 0 0 old now → OnBoth old (λ x y. before ++ area_changes_in x y pairs left (drop i pairs) ≡ all x y)
+      → mid ≡ before ++ map (area_change (get_or pairs i d).new) (entry_differences (get_or pairs i d).old (get_or pairs i d).new) → rest ≡ left_after left (same_size_regions (lengths now) (get_or pairs i d))
+      → OnBoth now (λ x y. after ≡ mid ++ map (area_change (get_or pairs i d).new) (content_differences x y pairs (get_or pairs i d) (compared left (same_size_regions (lengths_of x y) (get_or pairs i d)))))
+      → OnBoth old (λ x y. after ++ area_changes_in x y pairs rest (drop (i + 1) pairs) ≡ all x y)
   changes_in-more {i} {m} {n} {rest} left d before {mid} {after} {old} {now} all lt read so_far entered less pushed = λ h k.
       let p = get_or pairs i d in
-      let x = (f old.old_image.device).content in
-      let y = (g old.new_image.device).content in
+      let x = old.old_image.device.content in
+      let y = old.new_image.device.content in
       let here = map (area_change p.new) (entry_differences p.old p.new) in
       let content = map (area_change p.new) (content_differences x y pairs p (compared left (same_size_regions (lengths_of x y) p))) in
       let later = area_changes_in x y pairs rest (drop (i + 1) pairs) in
-      let told = OnBoth-before f g (λ x y. (rest ≡ left_after left (same_size_regions (lengths_of x y) p)) × (after ≡ mid ++ map (area_change p.new) (content_differences x y pairs p (compared left (same_size_regions (lengths_of x y) p))))) read (λ h k. (less, pushed h k)) h k in
+      let told = OnBoth-before (λ x y. (rest ≡ left_after left (same_size_regions (lengths_of x y) p)) × (after ≡ mid ++ map (area_change p.new) (content_differences x y pairs p (compared left (same_size_regions (lengths_of x y) p))))) read (λ h k. (less, pushed h k)) h k in
       let split : area_changes_in x y pairs left (drop i pairs) ≡ (here ++ content) ++ later = rw (told.0, add-one, drop-cons pairs i d lt, map-append (area_change p.new) (entry_differences p.old p.new) (content_differences x y pairs p (compared left (same_size_regions (lengths_of x y) p)))) refl in
       rw (told.1, entered, append_assoc before here content, append_assoc before (here ++ content) later, ← split) (so_far h k)
 

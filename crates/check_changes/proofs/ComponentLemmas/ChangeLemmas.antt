@@ -26,18 +26,18 @@ pub spans_part : (all : List Listed) (i : ℕ) → spans (take i all) / 24 ≤ s
 spans_part all i = omega (arith, sum_by-take-le (λ (l : Listed). l.cell.span) all i)
 
 -- the reads after another component, and their limit
-module _ {F G : Type 0} (f : F → Device) (g : G → Device) (size : ℕ) (all : List Listed) (lie : All (IsListedIn size) all) (i : ℕ) (d : Listed) (lt : i < length all) {a b : ℕ} {old mid new : Images F G} where
-  pub reads_more : HasReadBoth f g (spans (take i all) / 24) (spans (take i all) / 24) 0 0 old mid
-      → HasReadBoth f g (2 + (get_or all i d).cell.span / 4096) (2 + (get_or all i d).cell.span / 4096) a b mid new
-      → HasReadBoth f g (spans (take (i + 1) all) / 24) (spans (take (i + 1) all) / 24) a b old new
+module _ {F G : Type 0} (size : ℕ) (all : List Listed) (lie : All (IsListedIn size) all) (i : ℕ) (d : Listed) (lt : i < length all) {a b : ℕ} {old mid new : Images F G} where
+  pub reads_more : HasReadBoth (spans (take i all) / 24) (spans (take i all) / 24) 0 0 old mid
+      → HasReadBoth (2 + (get_or all i d).cell.span / 4096) (2 + (get_or all i d).cell.span / 4096) a b mid new
+      → HasReadBoth (spans (take (i + 1) all) / 24) (spans (take (i + 1) all) / 24) a b old new
   reads_more first second =
       let some : 64 ≤ (get_or all i d).cell.span = (All-get_or (IsListedIn size) all i d lt lie).0.positive in
       let few : spans (take i all) / 24 + (2 + (get_or all i d).cell.span / 4096) ≤ spans (take (i + 1) all) / 24 = omega (arith, some, spans_more all i d lt) in
-      both-within f g _ _ few few (both-then f g first second)
+      both-within _ _ few few (both-then first second)
 
-  pub reads_all : HasReadBoth f g (spans (take i all) / 24) (spans (take i all) / 24) 0 0 old mid
-      → HasReadBoth f g (2 + (get_or all i d).cell.span / 4096) (2 + (get_or all i d).cell.span / 4096) a b mid new
-      → HasReadBoth f g (spans all / 24) (spans all / 24) a b old new
+  pub reads_all : HasReadBoth (spans (take i all) / 24) (spans (take i all) / 24) 0 0 old mid
+      → HasReadBoth (2 + (get_or all i d).cell.span / 4096) (2 + (get_or all i d).cell.span / 4096) a b mid new
+      → HasReadBoth (spans all / 24) (spans all / 24) a b old new
   reads_all first second =
       let few = spans_part all (i + 1) in
-      both-within f g _ _ few few (reads_more first second)
+      both-within _ _ few few (reads_more first second)

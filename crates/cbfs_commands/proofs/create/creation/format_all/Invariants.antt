@@ -7,7 +7,7 @@ use Rattle.cbfs_commands.specs.Creations.{IsPlace}
 use Rattle.cbfs_commands.proofs.create.creation.format_all.Given as goal
 
 abbrev pub invariant-loop-places : goal.invariant-loop-places
-invariant-loop-places g l = let facts = in
+invariant-loop-places g l =
     All (IsPlace (length l.initial.paged.device.content)) l.places
     × (length l.places ≤ length l.initial.places)
     × Calls ((length l.initial.places - length l.places) * (length l.initial.paged.device.content / 4096 + 2)) 0 l.initial.paged.device l.paged.device

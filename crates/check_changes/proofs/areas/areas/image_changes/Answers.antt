@@ -9,17 +9,17 @@ returns-in_err-push_changes-clause-after g c =
     let few = c.in_ok-pairs.ensures.count in
     let same = ap length c.deref.ensures.value in
     let new = ap length c.in_ok-of-2.ensures in
-    both-handed _ _ _ _ c.from_residual-in_err-push_changes.ensures.1 (both-within _ _ _ _ (omega (arith, few, same, new)) (omega (arith, few, same, new)) (both-then _ _ c.in_ok-blocks.ensures.after c.in_err-push_changes.ensures.after))
+    both-handed _ _ c.from_residual-in_err-push_changes.ensures.1 (both-within _ _ (omega (arith, few, same, new)) (omega (arith, few, same, new)) (both-then c.in_ok-blocks.ensures.after c.in_err-push_changes.ensures.after))
 
 pub returns-clause-after : goal.returns-clause-after
 returns-clause-after g c =
     let few = c.in_ok-pairs.ensures.count in
     let same = ap length c.deref.ensures.value in
     let new = ap length c.in_ok-of-2.ensures in
-    both-within _ _ _ _ (omega (arith, few, same, new)) (omega (arith, few, same, new)) (both-then _ _ c.in_ok-blocks.ensures.after c.in_ok-push_changes.ensures.after)
+    both-within _ _ (omega (arith, few, same, new)) (omega (arith, few, same, new)) (both-then c.in_ok-blocks.ensures.after c.in_ok-push_changes.ensures.after)
 
 pub returns-clause-areas : goal.returns-clause-areas
 unfolding area_changes
 returns-clause-areas g c = λ h k.
-    let pushed = OnBoth-before _ _ (λ x y. c.push_changes.new.changes.items ≡ c.new-areas.result.items ++ area_changes_in x y c.deref.result.now (8 * length y) c.deref.result.now) c.in_ok-blocks.ensures.after c.in_ok-push_changes.ensures.changes h k in
+    let pushed = OnBoth-before (λ x y. c.push_changes.new.changes.items ≡ c.new-areas.result.items ++ area_changes_in x y c.deref.result.now (8 * length y) c.deref.result.now) c.in_ok-blocks.ensures.after c.in_ok-push_changes.ensures.changes h k in
     rw (sym c.in_ok-of.ensures, sym c.in_ok-of-2.ensures) (pushed-both _ _ _ _ _ c.new-areas.ensures.items (rw (c.deref.ensures.value, c.in_ok-pairs.ensures.found) at pushed) c.in_ok-push_gone.ensures)

@@ -8,18 +8,18 @@ use Rattle.check_changes.proofs.areas.areas.push_changes.Goals as goal
 pub returns-in_err-push_entry_changes-clause-after : goal.returns-in_err-push_entry_changes-clause-after
 returns-in_err-push_entry_changes-clause-after g c =
     let had = c.loop-pair.invariant in
-    both-handed _ _ _ faults.Memory c.from_residual.ensures.1 (both-within _ _ _ _ (omega (arith, had.within)) (omega (arith, had.within)) had.read)
+    both-handed _ faults.Memory c.from_residual.ensures.1 (both-within _ _ (omega (arith, had.within)) (omega (arith, had.within)) had.read)
 
 pub returns-clause-after : goal.returns-clause-after
 returns-clause-after g c =
     let had = c.loop-pair.invariant in
-    both-within _ _ _ _ (omega (arith, had.within)) (omega (arith, had.within)) had.read
+    both-within _ _ (omega (arith, had.within)) (omega (arith, had.within)) had.read
 
 pub returns-in_err-push_content_changes-clause-after : goal.returns-in_err-push_content_changes-clause-after
 returns-in_err-push_content_changes-clause-after g c =
     let had = c.loop-pair.invariant in
     let done = c.in_err-push_content_changes.ensures in
-    both-handed _ _ _ _ c.from_residual-in_err-push_content_changes.ensures.1 (both-within _ _ _ _ (omega (arith, had.within, done.fewer)) (omega (arith, had.within, done.fewer)) (both-then _ _ had.read done.after))
+    both-handed _ _ c.from_residual-in_err-push_content_changes.ensures.1 (both-within _ _ (omega (arith, had.within, done.fewer)) (omega (arith, had.within, done.fewer)) (both-then had.read done.after))
 
 pub loop-pair-preserved : goal.loop-pair-preserved
 loop-pair-preserved g c =
@@ -27,6 +27,6 @@ loop-pair-preserved g c =
     let done = c.in_ok-push_content_changes.ensures in
     record {
       within = omega (arith, had.within, done.fewer);
-      read = both-within _ _ _ _ (omega (arith, had.within, done.fewer)) (omega (arith, had.within, done.fewer)) (both-then _ _ had.read done.after);
-      changes = changes_in-more _ _ c.args.pairs.now _ _ _ (λ x y. c.args.changes.now.items ++ area_changes_in x y c.args.pairs.now (8 * length y) c.args.pairs.now) c.loop-pair-test.true had.read had.changes c.in_ok-push_entry_changes.ensures done.left done.changes;
+      read = both-within _ _ (omega (arith, had.within, done.fewer)) (omega (arith, had.within, done.fewer)) (both-then had.read done.after);
+      changes = changes_in-more c.args.pairs.now _ _ _ (λ x y. c.args.changes.now.items ++ area_changes_in x y c.args.pairs.now (8 * length y) c.args.pairs.now) c.loop-pair-test.true had.read had.changes c.in_ok-push_entry_changes.ensures done.left done.changes;
     }

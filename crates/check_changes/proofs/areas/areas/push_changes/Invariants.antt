@@ -5,13 +5,11 @@ use Rattle.check_changes.proofs.areas.areas.push_changes.Given as goal
 
 abbrev pub invariant-loop-pair : goal.invariant-loop-pair
 invariant-loop-pair g l =
-    let f = in
-    let k = in
-    let most = 8 * (lengths f k l.initial.images).new in
+    let most = 8 * (lengths l.initial.images).new in
     let n = (most - l.left) / 4096 + l.pair-index in
     record {
       within : l.left ≤ most;
-      read : HasReadBoth f k n n 0 0 l.initial.images l.images;
-      changes : OnBoth f k l.initial.images (λ x y. l.changes.items ++ area_changes_in x y l.pairs l.left (drop l.pair-index l.pairs)
+      read : HasReadBoth n n 0 0 l.initial.images l.images;
+      changes : OnBoth l.initial.images (λ x y. l.changes.items ++ area_changes_in x y l.pairs l.left (drop l.pair-index l.pairs)
           ≡ l.initial.changes.items ++ area_changes_in x y l.pairs (8 * length y) l.pairs);
     }

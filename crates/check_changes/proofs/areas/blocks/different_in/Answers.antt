@@ -13,13 +13,13 @@ loop-number-preserved g c =
     let number = c.loop-number.number in
     let r = c.args.regions.now in
     let pairs = c.args.pairs.now in
-    let is = OnBoth-before _ _ (λ x y. found ≡ is_difference x y r number) had.read c.in_ok-is_different.ensures.different in
+    let is = OnBoth-before (λ x y. found ≡ is_difference x y r number) had.read c.in_ok-is_different.ensures.different in
     let own : c.if-is_different.is_own ≡ (found && not (is_held c.lengths-lens.result pairs r number)) = elim c.if-is_different.branch [
       | then-is_different w ↦ search rules
       | else-is_different w ↦ search rules
     ] in
     record {
-      read = both-then _ _ had.read c.in_ok-is_different.ensures.after;
+      read = both-then had.read c.in_ok-is_different.ensures.after;
       few = omega (arith, had.few, at_most_one found c.from-blocks.result c.from-blocks.ensures);
       fewer = omega (arith, had.fewer, at_most_one c.if-is_different.is_own c.from-own.result c.from-own.ensures);
       blocks = λ h k. omega (arith, count_below-more (is_difference _ _ r) number _ found (is h k) c.from-blocks.ensures, had.blocks h k);

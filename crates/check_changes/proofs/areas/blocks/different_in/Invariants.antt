@@ -6,12 +6,10 @@ use Rattle.check_changes.proofs.areas.blocks.different_in.Given as goal
 
 abbrev pub invariant-loop-number : goal.invariant-loop-number
 invariant-loop-number g l =
-    let f = in
-    let k = in
     record {
-      read : HasReadBoth f k l.number l.number 0 0 l.initial.images l.images;
+      read : HasReadBoth l.number l.number 0 0 l.initial.images l.images;
       few : l.blocks ≤ l.number;
       fewer : l.own ≤ l.number;
-      blocks : OnBoth f k l.initial.images (λ x y. l.blocks ≡ count_below (is_difference x y l.regions) l.number);
-      own : OnBoth f k l.initial.images (λ x y. l.own ≡ count_below (is_own_difference x y l.pairs l.regions) l.number);
+      blocks : OnBoth l.initial.images (λ x y. l.blocks ≡ count_below (is_difference x y l.regions) l.number);
+      own : OnBoth l.initial.images (λ x y. l.own ≡ count_below (is_own_difference x y l.pairs l.regions) l.number);
     }

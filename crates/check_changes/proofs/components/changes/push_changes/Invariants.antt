@@ -8,14 +8,12 @@ use Rattle.check_changes.proofs.components.changes.push_changes.Given as goal
 
 abbrev pub invariant-loop-listed : goal.invariant-loop-listed
 invariant-loop-listed g l =
-    let f = in
-    let k = in
     let old = l.lists.old.all.now in
     let new = l.lists.new.all.now in
     let n = spans (take l.listed-index new) / 24 in
     record {
-      read : HasReadBoth f k n n 0 0 l.initial.images l.images;
-      changes : OnBothIn f k l.initial.images (listed_regions l.lists) (λ x y.
+      read : HasReadBoth n n 0 0 l.initial.images l.images;
+      changes : OnBothIn l.initial.images (listed_regions l.lists) (λ x y.
           l.changes.items ++ flat_map (new_changes x y old new) (drop l.listed-index new)
           ≡ l.initial.changes.items ++ flat_map (new_changes x y old new) new);
     }

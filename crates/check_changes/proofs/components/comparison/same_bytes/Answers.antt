@@ -8,15 +8,15 @@ use Rattle.check_changes.proofs.components.comparison.same_bytes.Goals as goal
 pub returns-then-branch-clause-same : goal.returns-then-branch-clause-same
 returns-then-branch-clause-same g c = λ h k.
     let had = c.loop-number.invariant in
-    let is = OnBoth-before _ _ (λ x y. c.in_ok-is_different.field-0 ≡ is_difference x y c.args.regions c.loop-number.number) had.read c.in_ok-is_different.ensures.different in
+    let is = OnBoth-before (λ x y. c.in_ok-is_different.field-0 ≡ is_difference x y c.args.regions c.loop-number.number) had.read c.in_ok-is_different.ensures.different in
     differ-all _ _ c.loop-number.number _ (is h k) c.if-branch.true
 
 pub loop-number-preserved : goal.loop-number-preserved
 loop-number-preserved g c =
     let had = c.loop-number.invariant in
-    let is = OnBoth-before _ _ (λ x y. c.in_ok-is_different.field-0 ≡ is_difference x y c.args.regions c.loop-number.number) had.read c.in_ok-is_different.ensures.different in
+    let is = OnBoth-before (λ x y. c.in_ok-is_different.field-0 ≡ is_difference x y c.args.regions c.loop-number.number) had.read c.in_ok-is_different.ensures.different in
     record {
-      read = both-then _ _ had.read c.in_ok-is_different.ensures.after;
+      read = both-then had.read c.in_ok-is_different.ensures.after;
       same = λ h k. same-more _ _ c.loop-number.number _ (is h k) c.if-branch.false (had.same h k);
     }
 

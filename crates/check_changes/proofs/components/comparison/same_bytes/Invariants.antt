@@ -4,9 +4,7 @@ use Rattle.check_changes.proofs.components.comparison.same_bytes.Given as goal
 
 abbrev pub invariant-loop-number : goal.invariant-loop-number
 invariant-loop-number g l =
-    let f = in
-    let k = in
     record {
-      read : HasReadBoth f k l.number l.number 0 0 l.initial.images l.images;
-      same : OnBothIn f k l.initial.images l.regions (AreSame l.number);
+      read : HasReadBoth l.number l.number 0 0 l.initial.images l.images;
+      same : OnBothIn l.initial.images l.regions (AreSame l.number);
     }
