@@ -43,4 +43,4 @@ module _ {F : Type 0} {n : ℕ} (names : List (List ℕ)) {old new : Pages F} {s
 pub creation_done : {F : Type 0} {n : ℕ} (names : List (List ℕ)) {old new : Pages F} {source now : Device} (plan : Plan) → Calls n 0 old.device new.device → Calls (source_calls (changes (creates names)) (length source.content)) 0 source now
     → OnHonest old.device (λ image. IsTrue source.honest → ((let r : Result Plan Refusal = Ok plan in IsErrOf r refusals.Source) ⊎ (Ok plan ≡ plan_for (length image) names source.content)) × (new.device.content ≡ created_image (length image) plan source.content))
     → HasApplied n (creates names) old new source now (Ok tt)
-creation_done names plan calls reads made = creation names calls reads (inl refl) (λ output. absurd cc) (λ h serves. let m = made h (serves refl) in elim m.0 [ inl failed ↦ absurd cc | inr is ↦ inl (rw (← is) (refl, m.1)) ])
+creation_done names plan calls reads made = creation names calls reads (inl refl) (λ output. absurd cc) (λ h serves. let m = made h (serves refl) in elim m.0 [ inl failed ↦ absurd {0} cc | inr is ↦ inl (rw (← is) (refl, m.1)) ])

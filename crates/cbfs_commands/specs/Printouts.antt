@@ -41,15 +41,13 @@ PrintsOut old new answer t =
     ((answer ≡ t.answer) × Appends old new t.written) ⊎ StopsWriting old new answer t.written
 
 -- A cell of a region within bounds. An honest device has the cell at its offset.
-pub record IsCellOf {F : Type 0} (r : Range) (c : Cell)
-    (device : F) : Type 0 where
-  pub region : LiesOn r (device)
+pub record IsCellOf (r : Range) (c : Cell) (device : Device) : Type 0 where
+  pub region : LiesOn r device
   pub cell : IsCellIn r.size c
   pub stands : OnHonestIn device r (λ x. StandsIn x c)
 
 -- a cell in use
-pub record IsComponentOf {F : Type 0} (r : Range) (c : Cell)
-    (device : F) : Type 0 where
+pub record IsComponentOf (r : Range) (c : Cell) (device : Device) : Type 0 where
   pub cell : IsCellOf r c device
   pub used : is_free c.head ≡ false
 
