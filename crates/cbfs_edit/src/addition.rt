@@ -7,7 +7,7 @@ ghost use Rattle.flash_format.specs.Entry.{is_nul};
 ghost use Rattle.flash_format.specs.Made.{hash_len};
 ghost use Rattle.flash_device.specs.Device.{overwritten, Reads, fault_count};
 ghost use Rattle.flash_device.specs.Pages.{HasChanged, OnHonestIn};
-ghost use Rattle.flash_device.specs.Regions.{LiesOn};
+ghost use Rattle.flash_device.specs.Regions.{LiesOn, Reaches};
 ghost use Rattle.cbfs_edit.specs.Changes.{OnHonestChange, HasCopied, AddLeavesBefore};
 ghost use Rattle.cbfs_edit.specs.Changes.{AddLeavesWhole, IsInsertStop, written_to, by_device};
 ghost use Rattle.cbfs_edit.specs.Changes.{by_source, stop_count};
@@ -86,8 +86,7 @@ fn copy_content<F: Flash, S: Source>(
     hash: HashChoice,
     source: &mut S,
 ) -> Result<Option<Digest>, CopyInFault>
-    requires region { LiesOn region paged.old.device }
-    requires inside { at + length (S.facts source.old).content ≤ region.size }
+    requires { Reaches region (at + length (S.facts source.old).content) paged.old.device }
 
     ensures after { HasCopied region at paged.old paged.new (S.facts source.old)
         (S.facts source.new) result }
@@ -120,8 +119,7 @@ fn copy_hashed<F: Flash, S: Source, H: sha2::Digest>(
     at: u64,
     source: &mut S,
 ) -> Result<H::Output, CopyInFault>
-    requires region { LiesOn region paged.old.device }
-    requires inside { at + length (S.facts source.old).content ≤ region.size }
+    requires { Reaches region (at + length (S.facts source.old).content) paged.old.device }
 
     ensures after { HasCopied region at paged.old paged.new (S.facts source.old)
         (S.facts source.new) result }

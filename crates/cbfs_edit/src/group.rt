@@ -4,7 +4,7 @@ ghost use Rattle.std.specs.Prelude.{IsErrOf};
 ghost use Rattle.flash_device.specs.Device.{fault_count};
 ghost use Rattle.flash_device.specs.Pages.{HasRead, HasAnswered, OnHonestIn};
 ghost use Rattle.flash_device.specs.Regions.{LiesOn};
-ghost use Rattle.cbfs_walk.specs.Cells.{IsCellIn, cell_in};
+ghost use Rattle.cbfs_walk.specs.Cells.{IsCellOn, IsCellIn, cell_in};
 ghost use Rattle.cbfs_walk.specs.Walks.{StandsIn};
 ghost use Rattle.cbfs_edit.specs.Removals.{IsCellRange, removal_in};
 ghost use Rattle.cbfs_edit.specs.Changes.{by_device};
@@ -70,8 +70,7 @@ fn pass<F: Flash>(
     name: &[u8],
     search: Search,
 ) -> Result<Search, FlashFault>
-    requires region { LiesOn region paged.old.device }
-    requires cell { IsCellIn region.size cell.now }
+    requires cell { IsCellOn IsCellIn region cell.now paged.old.device }
     requires before { IsBefore cell.now.at search }
 
     ensures after { HasAnswered 1 paged.old paged.new result }

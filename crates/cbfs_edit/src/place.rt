@@ -5,7 +5,7 @@ ghost use Rattle.std.specs.Prelude.{false, nat_lt, if◌then◌else◌, IfOk, If
 ghost use Rattle.flash_device.specs.Device.{fault_count};
 ghost use Rattle.flash_device.specs.Pages.{HasRead, HasAnswered, OnHonestIn};
 ghost use Rattle.flash_device.specs.Regions.{LiesOn};
-ghost use Rattle.cbfs_walk.specs.Cells.{IsCellIn, cell_in};
+ghost use Rattle.cbfs_walk.specs.Cells.{IsCellOn, IsCellIn, cell_in};
 ghost use Rattle.cbfs_walk.specs.Walks.{StandsIn};
 ghost use Rattle.cbfs_edit.specs.Removals.{IsCellRange};
 ghost use Rattle.cbfs_edit.specs.Changes.{by_device};
@@ -102,8 +102,7 @@ fn pass<F: Flash>(
     wanted: Wanted,
     survey: Survey,
 ) -> Result<Survey, FlashFault>
-    requires region { LiesOn region paged.old.device }
-    requires cell { IsCellIn region.size cell.now }
+    requires cell { IsCellOn IsCellIn region cell.now paged.old.device }
     requires before { IsSurvey wanted region.size cell.now.at survey }
 
     ensures after { HasAnswered 1 paged.old paged.new result }

@@ -3,7 +3,7 @@ ghost use Rattle.std.specs.Prelude.{◌≡◌, ◌⊎◌, ℕ, List, ◌++◌, �
 ghost use Rattle.std.specs.Prelude.{OnOk, OnErr, replicate};
 ghost use Rattle.flash_format.specs.Made.{header_length};
 ghost use Rattle.flash_device.specs.Device.{overwritten, SameOutside};
-ghost use Rattle.flash_device.specs.Regions.{LiesOn};
+ghost use Rattle.flash_device.specs.Regions.{LiesOn, Reaches};
 ghost use Rattle.cbfs_edit.specs.Changes.{HasCopied, HasWrittenIn, IsOldOrEmptied};
 ghost use Rattle.cbfs_edit.specs.Removals.{IsCellRange, removed, space_end};
 
@@ -19,8 +19,7 @@ pub fn commit_in<F: Flash>(
     at: u64,
     bytes: &[u8; HEADER_LENGTH],
 ) -> Result<(), FlashFault>
-    requires region { LiesOn region paged.old.device }
-    requires inside { at + header_length ≤ region.size }
+    requires { Reaches region (at + header_length) paged.old.device }
 
     ensures { HasWrittenIn region 1 (λ x. overwritten x at bytes.now)
         (λ x y. (y ≡ x) ⊎ (y ≡ overwritten x at bytes.now)) paged.old paged.new result }
@@ -36,8 +35,7 @@ pub fn fill_in<F: Flash>(
     n: u64,
     byte: u8,
 ) -> Result<(), FlashFault>
-    requires region { LiesOn region paged.old.device }
-    requires inside { at + n ≤ region.size }
+    requires { Reaches region (at + n) paged.old.device }
 
     ensures { HasWrittenIn region ((n + 4095) / 4096)
         (λ x. overwritten x at (replicate n byte)) (SameOutside at n) paged.old paged.new result }
@@ -53,8 +51,7 @@ pub fn copy_into<F: Flash, S: Source, W: Watch>(
     source: &mut S,
     watch: &mut W,
 ) -> Result<(), CopyInFault>
-    requires region { LiesOn region paged.old.device }
-    requires inside { at + length (S.facts source.old).content ≤ region.size }
+    requires { Reaches region (at + length (S.facts source.old).content) paged.old.device }
 
     ensures after { HasCopied region at paged.old paged.new (S.facts source.old)
         (S.facts source.new) result }
@@ -74,8 +71,7 @@ pub fn write_in<F: Flash>(
     at: u64,
     bytes: &[u8],
 ) -> Result<(), FlashFault>
-    requires region { LiesOn region paged.old.device }
-    requires inside { at + length bytes.now ≤ region.size }
+    requires reach { Reaches region (at + length bytes.now) paged.old.device }
     requires short { length bytes.now ≤ 4096 }
 
     ensures { HasWrittenIn region 1 (λ x. overwritten x at bytes.now)

@@ -3,6 +3,8 @@ use Rattle.std.specs.Prelude.{◌≡◌, ℕ, ◌+◌, ◌-◌, ◌%◌, ◌≤�
 use Rattle.flash_format.specs.declared.head.Head.{Head}
 use Rattle.flash_format.specs.Head.{extent_of, is_free}
 use Rattle.flash_format.specs.Entry.{name_end}
+use Rattle.flash_device.specs.Device.{Device}
+use Rattle.flash_device.specs.Regions.{Range, LiesOn}
 use Rattle.cbfs_walk.specs.declared.cell.Cell.{Cell}
 
 -- valid head with `left` bytes remaining, and the cell's length
@@ -25,6 +27,11 @@ pub record IsCellIn (size : ℕ) (c : Cell) : Type 0 where
   pub inside : c.at + c.span ≤ size
   pub content : c.head.offset + c.head.len ≤ c.span
   pub checks : PassesChecks size c
+
+-- a cell with a property by the size of its region, which lies on the device
+pub record IsCellOn (Is : ℕ → Cell → Type 0) (r : Range) (c : Cell) (device : Device) : Type 0 where
+  pub region : LiesOn r device
+  pub cell : Is r.size c
 
 -- relative to the region's start
 abbrev pub attributes_start : Cell → ℕ

@@ -4,9 +4,9 @@ ghost use Rattle.flash_format.specs.Head.{is_free, be32};
 ghost use Rattle.flash_format.specs.Entry.{Attribute, attributes, COMPRESSION, name_end};
 ghost use Rattle.flash_format.specs.Components.{cell_attributes, packing};
 ghost use Rattle.flash_device.specs.Pages.{HasAnswered, OnHonestIn};
-ghost use Rattle.flash_device.specs.Regions.{LiesOn};
+ghost use Rattle.flash_device.specs.Regions.{LiesOn, Reaches};
 ghost use Rattle.cbfs_walk.specs.Walks.{HasPassed, ReadsAs, reads_over, StandsIn, ReadsCellAs};
-ghost use Rattle.cbfs_walk.specs.Cells.{IsComponentIn, attributes_start, cell_in};
+ghost use Rattle.cbfs_walk.specs.Cells.{IsCellOn, IsComponentIn, attributes_start, cell_in};
 ghost use Rattle.cbfs_walk.specs.AttrWalks.{place_in_region, attr_walk_of, attr_moved, attr_reads, IsAttrIn, attributes_left, first_head, after_first, IsListedAttribute, listed_in, IsAttrOf, first_attribute, searched_to, value_in};
 
 use crate::cell::{Cell, content_fits};
@@ -55,8 +55,7 @@ impl AttrWalk {
         paged: &mut Paged<F>,
         region: Region,
     ) -> Result<Option<AttrHead>, FlashFault>
-        requires region { LiesOn region paged.old.device }
-        requires inside { self.old.cell.at + self.old.cell.head.offset ≤ region.size }
+        requires { Reaches region (self.old.cell.at + self.old.cell.head.offset) paged.old.device }
 
         ensures after { HasAnswered (attr_reads self.old) paged.old paged.new result }
         ensures passes { HasPassed region (place_in_region self.old)
@@ -95,8 +94,7 @@ pub fn packing<F: Flash>(
     region: Region,
     cell: &Cell,
 ) -> Result<u32, FlashFault>
-    requires region { LiesOn region paged.old.device }
-    requires component { IsComponentIn region.size cell.now }
+    requires { IsCellOn IsComponentIn region cell.now paged.old.device }
 
     ensures after { HasAnswered (reads_over cell.now.head.offset) paged.old
         paged.new result }
@@ -121,8 +119,7 @@ pub fn first_attribute<F: Flash>(
     cell: &Cell,
     tag: u32,
 ) -> Result<Option<(u64, AttrHead)>, FlashFault>
-    requires region { LiesOn region paged.old.device }
-    requires component { IsComponentIn region.size cell.now }
+    requires { IsCellOn IsComponentIn region cell.now paged.old.device }
 
     ensures passes { HasPassed region (attributes_start cell.now)
         (searched_to cell.now result) paged.old paged.new result }
@@ -152,9 +149,8 @@ pub fn are_well_formed<F: Flash>(
     from: u64,
     end: u64,
 ) -> Result<bool, FlashFault>
-    requires region { LiesOn region paged.old.device }
+    requires reach { Reaches region end paged.old.device }
     requires order { from ≤ end }
-    requires inside { end ≤ region.size }
 
     ensures passes { HasPassed region from end paged.old paged.new result }
     ensures formed { ReadsAs paged.old region result
@@ -183,9 +179,8 @@ fn listed_at<F: Flash>(
     at: u64,
     end: u64,
 ) -> Result<Listed, FlashFault>
-    requires region { LiesOn region paged.old.device }
+    requires reach { Reaches region end paged.old.device }
     requires order { at ≤ end }
-    requires inside { end ≤ region.size }
 
     ensures after { HasAnswered (min 1 ((end - at) / 8)) paged.old paged.new result }
     ensures passes { HasPassed region at at paged.old paged.new result }
@@ -211,8 +206,7 @@ fn listed_at<F: Flash>(
 }
 
 pub fn value_at<F: Flash>(paged: &mut Paged<F>, region: Region, at: u64) -> Result<u32, FlashFault>
-    requires region { LiesOn region paged.old.device }
-    requires inside { at + 4 ≤ region.size }
+    requires { Reaches region (at + 4) paged.old.device }
 
     ensures passes { HasPassed region at at paged.old paged.new result }
     ensures value { ReadsAs paged.old region result (λ x. be32 at x) }

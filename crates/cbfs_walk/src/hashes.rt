@@ -3,9 +3,9 @@ ghost use Rattle.std.specs.Prelude.{◌≡◌, ◌+◌, ◌≤◌, slice_range, 
 ghost use Rattle.flash_format.specs.declared.digest.Digest.TheVariants as digests;
 ghost use Rattle.flash_format.specs.Components.{cell_attributes, cell_content};
 ghost use Rattle.flash_device.specs.Pages.{HasAnswered, HasRead, OnHonestIn};
-ghost use Rattle.flash_device.specs.Regions.{LiesOn};
+ghost use Rattle.flash_device.specs.Regions.{LiesOn, Reaches};
 ghost use Rattle.cbfs_walk.specs.Walks.{HasPassed, ReadsAs, reads_over, ReadsCellAs};
-ghost use Rattle.cbfs_walk.specs.Cells.{IsComponentIn, PassesChecks, content_start, content_end};
+ghost use Rattle.cbfs_walk.specs.Cells.{IsCellOn, IsComponentIn, PassesChecks, content_start, content_end};
 ghost use Rattle.cbfs_walk.specs.Hashes.{digest_like, stored_digest, comparison, hash_state, content_at, hash_state_in, IsUncompared};
 
 use crate::attribute_walk::{first_attribute, value_at};
@@ -38,8 +38,7 @@ pub fn check_hash<F: Flash>(
     region: Region,
     cell: &Cell,
 ) -> Result<HashState, FlashFault>
-    requires region { LiesOn region paged.old.device }
-    requires component { IsComponentIn region.size cell.now }
+    requires { IsCellOn IsComponentIn region cell.now paged.old.device }
 
     ensures after { HasAnswered (reads_over cell.now.span) paged.old paged.new result }
     ensures unread { IfOk result (λ state. IsUncompared state
@@ -69,8 +68,7 @@ fn stored_digest<F: Flash>(
     at: u64,
     n: u32,
 ) -> Result<Option<Digest>, FlashFault>
-    requires region { LiesOn region paged.old.device }
-    requires inside { at + n ≤ region.size }
+    requires reach { Reaches region (at + n) paged.old.device }
     requires least { 4 ≤ n }
 
     ensures passes { HasPassed region at (at + n) paged.old paged.new result }
@@ -96,8 +94,7 @@ fn content_digest<F: Flash>(
     cell: &Cell,
     stored: &Digest,
 ) -> Result<Digest, FlashFault>
-    requires region { LiesOn region paged.old.device }
-    requires cell { PassesChecks region.size cell.now }
+    requires { IsCellOn PassesChecks region cell.now paged.old.device }
 
     ensures passes { HasPassed region (content_start cell.now) (content_end cell.now)
         paged.old paged.new result }
@@ -125,8 +122,7 @@ fn hash_content<F: Flash, D: sha2::Digest>(
     region: Region,
     cell: &Cell,
 ) -> Result<D::Output, FlashFault>
-    requires region { LiesOn region paged.old.device }
-    requires cell { PassesChecks region.size cell.now }
+    requires { IsCellOn PassesChecks region cell.now paged.old.device }
 
     ensures passes { HasPassed region (content_start cell.now) (content_end cell.now)
         paged.old paged.new result }

@@ -5,9 +5,9 @@ ghost use Rattle.std.specs.Str.{bytes_eq};
 ghost use Rattle.flash_format.specs.Entry.{name_field, name_end, is_terminated, is_nul};
 ghost use Rattle.flash_format.specs.Components.{cell_name};
 ghost use Rattle.flash_device.specs.Pages.{HasAnswered, OnHonestIn};
-ghost use Rattle.flash_device.specs.Regions.{LiesOn};
+ghost use Rattle.flash_device.specs.Regions.{LiesOn, Reaches};
 ghost use Rattle.cbfs_walk.specs.Walks.{HasPassed, ReadsAs, StandsIn, ReadsCellAs};
-ghost use Rattle.cbfs_walk.specs.Cells.{IsComponentIn, cell_in};
+ghost use Rattle.cbfs_walk.specs.Cells.{IsCellOn, IsComponentIn, cell_in};
 
 use crate::cell::{Cell, content_fits};
 use crate::region_reads::piece_in;
@@ -25,8 +25,7 @@ pub fn name<F: Flash>(
     cell: &Cell,
     out: &mut [u8; 256],
 ) -> Result<usize, FlashFault>
-    requires region { LiesOn region paged.old.device }
-    requires component { IsComponentIn region.size cell.now }
+    requires { IsCellOn IsComponentIn region cell.now paged.old.device }
 
     ensures after { HasAnswered 1 paged.old paged.new result }
     ensures short { IfOk result (λ n. n ≤ 255) }
@@ -49,8 +48,7 @@ pub fn name_is<F: Flash>(
     cell: &Cell,
     name: &[u8],
 ) -> Result<bool, FlashFault>
-    requires region { LiesOn region paged.old.device }
-    requires component { IsComponentIn region.size cell.now }
+    requires { IsCellOn IsComponentIn region cell.now paged.old.device }
 
     ensures after { HasAnswered 1 paged.old paged.new result }
 
@@ -73,8 +71,7 @@ pub fn has_name_end<F: Flash>(
     at: u64,
     head: &Head,
 ) -> Result<bool, FlashFault>
-    requires region { LiesOn region paged.old.device }
-    requires inside { at + name_end head.now ≤ region.size }
+    requires reach { Reaches region (at + name_end head.now) paged.old.device }
     requires order { 24 ≤ name_end head.now }
 
     ensures passes { HasPassed region (at + 24) (at + 24) paged.old paged.new result }

@@ -3,7 +3,7 @@ ghost use Rattle.std.specs.Prelude.{◌≡◌, ◌+◌, ◌≤◌, length, slice
 ghost use Rattle.std.specs.Borrow.{sem};
 ghost use Rattle.std.specs.Io.BufRead.{Rests};
 ghost use Rattle.flash_device.specs.Pages.{OnHonestIn};
-ghost use Rattle.flash_device.specs.Regions.{LiesOn};
+ghost use Rattle.flash_device.specs.Regions.{Reaches};
 ghost use Rattle.flash_device.specs.contracts.paged.Paged.{the_row};
 ghost use Rattle.cbfs_walk.specs.Walks.{HasPassed};
 
@@ -18,8 +18,7 @@ pub fn read_in<F: Flash>(
     at: u64,
     out: &mut [u8],
 ) -> Result<(), FlashFault>
-    requires region { LiesOn region paged.old.device }
-    requires inside { at + length out.old ≤ region.size }
+    requires reach { Reaches region (at + length out.old) paged.old.device }
     requires short { length out.old ≤ 256 }
 
     ensures passes { HasPassed region at at paged.old paged.new result }
@@ -37,8 +36,7 @@ pub fn piece_in<F: Flash>(
     at: u64,
     n: usize,
 ) -> Result<&[u8], FlashFault>
-    requires region { LiesOn region paged.old.device }
-    requires inside { at + n ≤ region.size }
+    requires reach { Reaches region (at + n) paged.old.device }
     requires short { n ≤ 256 }
 
     ensures* passes { sem 𝓛 (Rests (the_row F.row F.Flash) paged.entry (λ new.

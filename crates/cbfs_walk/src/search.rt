@@ -6,7 +6,7 @@ ghost use Rattle.flash_format.specs.Components.{cell_name, component_at};
 ghost use Rattle.flash_device.specs.Device.{fault_count};
 ghost use Rattle.flash_device.specs.Pages.{HasRead, HasAnswered, OnHonestIn};
 ghost use Rattle.flash_device.specs.Regions.{LiesOn};
-ghost use Rattle.cbfs_walk.specs.Cells.{IsCellIn, PassesChecks, cell_in};
+ghost use Rattle.cbfs_walk.specs.Cells.{IsCellOn, IsCellIn, PassesChecks, cell_in};
 ghost use Rattle.cbfs_walk.specs.Walks.{StandsIn, ReadsCellAs, by_device};
 ghost use Rattle.cbfs_walk.specs.Search.{component_in, found_cell, find_reads};
 
@@ -58,8 +58,7 @@ pub fn is_component<F: Flash>(
     cell: &Cell,
     name: &[u8],
 ) -> Result<bool, FlashFault>
-    requires region { LiesOn region paged.old.device }
-    requires cell { PassesChecks region.size cell.now }
+    requires { IsCellOn PassesChecks region cell.now paged.old.device }
 
     ensures after { HasAnswered 1 paged.old paged.new result }
     ensures component { IfOk result (λ is. IsTrue is → is_free cell.now.head ≡ false) }

@@ -4,8 +4,8 @@ ghost use Rattle.flash_format.specs.Entry.{front, component, name_end};
 ghost use Rattle.flash_format.specs.Head.{head_of};
 ghost use Rattle.flash_device.specs.Device.{fault_count};
 ghost use Rattle.flash_device.specs.Pages.{HasRead, OnHonestIn};
-ghost use Rattle.flash_device.specs.Regions.{LiesOn};
-ghost use Rattle.cbfs_walk.specs.Cells.{PassesChecks, content_start};
+ghost use Rattle.flash_device.specs.Regions.{LiesOn, Reaches};
+ghost use Rattle.cbfs_walk.specs.Cells.{IsCellOn, PassesChecks, content_start};
 ghost use Rattle.cbfs_walk.specs.Walks.{entry_or, by_device, walk_of, walk_after, answer_at, answer_of, GivesCell, reads_at, HasPassed, Passes, ReadsAs};
 ghost use Rattle.cbfs_walk.specs.Shapes.{has_bad_size};
 
@@ -137,8 +137,7 @@ fn has_bad_size(size: u64) -> bool
 }
 
 fn answer_at<F: Flash>(paged: &mut Paged<F>, region: Region, at: u64) -> Result<Step, WalkFault>
-    requires region { LiesOn region paged.old.device }
-    requires inside { at ≤ region.size }
+    requires reach { Reaches region at paged.old.device }
     requires aligned { at % 64 ≡ 0 }
 
     ensures after { HasRead (reads_at region.size at result)
@@ -173,8 +172,7 @@ fn answer_at<F: Flash>(paged: &mut Paged<F>, region: Region, at: u64) -> Result<
 }
 
 fn cell_at<F: Flash>(paged: &mut Paged<F>, region: Region, cell: &Cell) -> Result<Step, WalkFault>
-    requires region { LiesOn region paged.old.device }
-    requires cell { PassesChecks region.size cell.now }
+    requires { IsCellOn PassesChecks region cell.now paged.old.device }
 
     ensures passes { Passes region cell.now.at (content_start cell.now)
         (fault_count by_device result) paged.old paged.new }
@@ -197,8 +195,7 @@ fn front_at<F: Flash>(
     region: Region,
     at: u64,
 ) -> Result<Option<Head>, FlashFault>
-    requires region { LiesOn region paged.old.device }
-    requires inside { at ≤ region.size }
+    requires { Reaches region at paged.old.device }
 
     ensures passes { HasPassed region at at paged.old paged.new result }
     ensures head { ReadsAs paged.old region result (λ x. front (drop at x)) }
@@ -218,8 +215,7 @@ fn damage_in<F: Flash>(
     at: u64,
     head: &Head,
 ) -> Result<Option<DamageKind>, FlashFault>
-    requires region { LiesOn region paged.old.device }
-    requires inside { at + head.now.offset ≤ region.size }
+    requires reach { Reaches region (at + head.now.offset) paged.old.device }
     requires room { 24 ≤ name_end head.now }
     requires placed { name_end head.now ≤ head.now.offset }
 

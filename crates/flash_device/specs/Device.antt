@@ -30,6 +30,11 @@ pub record Device : Type 0 where
   pub faults : ℕ
   pub honest : Bool
 
+-- the range of one call: inside the device, at most 4096 bytes
+pub record IsPiece (at n : ℕ) (device : Device) : Type 0 where
+  pub inside : at + n ≤ length device.content
+  pub short : n ≤ 4096
+
 -- the faults in a result, by error
 abbrev pub fault_count : {T E : Type 0} → (E → ℕ) → Result T E → ℕ
 fault_count told (Ok value) = 0

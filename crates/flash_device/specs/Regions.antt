@@ -16,3 +16,8 @@ LiesIn region image = region.start + region.size ≤ length image
 pub record LiesOn (r : Range) (device : Device) : Type 0 where
   pub inside : r.start + r.size ≤ length device.content
   pub below : length device.content < 2 ^ 32
+
+-- a region on a device, of at least `end` bytes
+pub record Reaches (r : Range) (end : ℕ) (device : Device) : Type 0 where
+  pub region : LiesOn r device
+  pub inside : end ≤ r.size

@@ -1,6 +1,6 @@
 //! A device with injected faults.
 ghost use Rattle.std.specs.Prelude.{◌≡◌, ◌+◌, ◌-◌, ◌<◌, ◌≤◌, length, take, true, false, IsTrue};
-ghost use Rattle.flash_device.specs.Device.{OneRead, OneWrite, OneCommit};
+ghost use Rattle.flash_device.specs.Device.{IsPiece, OneRead, OneWrite, OneCommit};
 ghost use Rattle.flash_device.specs.TestDevices.{facts_over, PassedOrRefused, RefusedWrite, refused_once};
 
 use crate::counter::Counter;
@@ -97,8 +97,7 @@ impl<F: Flash> Flash for FailAt<F> {
     }
 
     fn read_at(&mut self, at: u64, out: &mut [u8]) -> Result<(), FlashFault>
-        requires inside { at + length out.old ≤ length (F.facts self.old.device).content }
-        requires short { length out.old ≤ 4096 }
+        requires { IsPiece at (length out.old) (F.facts self.old.device) }
 
         ensures after { OneRead at (length out.old) (facts_over F.facts self.old)
             (facts_over F.facts self.new) result out.new }
@@ -113,8 +112,7 @@ impl<F: Flash> Flash for FailAt<F> {
     }
 
     fn write_at(&mut self, at: u64, bytes: &[u8]) -> Result<(), FlashFault>
-        requires inside { at + length bytes.now ≤ length (F.facts self.old.device).content }
-        requires short { length bytes.now ≤ 4096 }
+        requires { IsPiece at (length bytes.now) (F.facts self.old.device) }
 
         ensures after { OneWrite at bytes.now (facts_over F.facts self.old)
             (facts_over F.facts self.new) result }
@@ -154,8 +152,7 @@ fn write_part<F: Flash>(
     bytes: &[u8],
     part: usize,
 ) -> Result<(), FlashFault>
-    requires inside { at + length bytes.now ≤ length (F.facts device.old).content }
-    requires short { length bytes.now ≤ 4096 }
+    requires { IsPiece at (length bytes.now) (F.facts device.old) }
 
     ensures { OneWrite at (take part bytes.now) (F.facts device.old) (F.facts device.new) result }
 {

@@ -1,6 +1,6 @@
 //! A source with injected faults.
 ghost use Rattle.std.specs.Prelude.{◌≡◌, ◌+◌, ◌≤◌, length, false};
-ghost use Rattle.flash_device.specs.Device.{OneRead};
+ghost use Rattle.flash_device.specs.Device.{IsPiece, OneRead};
 ghost use Rattle.flash_device.specs.TestDevices.{facts_over, PassedOrRefused, refused_once};
 
 use crate::counter::Counter;
@@ -55,8 +55,7 @@ impl<S: Source> Source for FailSource<S> {
     }
 
     fn read_at(&mut self, at: u64, out: &mut [u8]) -> Result<(), SourceFault>
-        requires inside { at + length out.old ≤ length (S.facts self.old.device).content }
-        requires short { length out.old ≤ 4096 }
+        requires { IsPiece at (length out.old) (S.facts self.old.device) }
 
         ensures after { OneRead at (length out.old) (facts_over S.facts self.old)
             (facts_over S.facts self.new) result out.new }

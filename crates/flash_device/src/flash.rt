@@ -1,6 +1,6 @@
 //! The contract of every device.
 ghost use Rattle.std.specs.Prelude.{◌≡◌, ◌+◌, ◌^◌, ◌<◌, ◌≤◌, length};
-ghost use Rattle.flash_device.specs.Device.{Device, OneRead, OneWrite, OneCommit};
+ghost use Rattle.flash_device.specs.Device.{IsPiece, Device, OneRead, OneWrite, OneCommit};
 
 /// The maximum length of a call in bytes.
 pub const PIECE: usize = 4096;
@@ -27,16 +27,14 @@ pub trait Flash: Drop {
 
     /// Reads bytes. After a fault, `out` is unspecified.
     fn read_at(&mut self, at: u64, out: &mut [u8]) -> Result<(), FlashFault>
-        requires inside { at + length out.old ≤ length (facts self.old).content }
-        requires short { length out.old ≤ 4096 }
+        requires { IsPiece at (length out.old) (facts self.old) }
 
         ensures after { OneRead at (length out.old) (facts self.old) (facts self.new)
             result out.new };
 
     /// Writes bytes. After a fault, the range is unspecified.
     fn write_at(&mut self, at: u64, bytes: &[u8]) -> Result<(), FlashFault>
-        requires inside { at + length bytes.now ≤ length (facts self.old).content }
-        requires short { length bytes.now ≤ 4096 }
+        requires { IsPiece at (length bytes.now) (facts self.old) }
 
         ensures after { OneWrite at bytes.now (facts self.old) (facts self.new) result };
 

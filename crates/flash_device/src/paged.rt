@@ -1,6 +1,6 @@
 //! Buffered devices.
 ghost use Rattle.std.specs.Prelude.{◌≡◌, ℕ, List, ◌++◌, ◌+◌, ◌/◌, ◌^◌, ◌<◌, ◌≤◌, ◌↔◌, length, take, IsTrue, OnOk, IfOk, IsErrOf, slice_range, replicate};
-ghost use Rattle.flash_device.specs.Device.{OneCall, OneRead, OneWrite, OneCommit, refusals};
+ghost use Rattle.flash_device.specs.Device.{IsPiece, OneCall, OneRead, OneWrite, OneCommit, refusals};
 ghost use Rattle.flash_device.specs.Pages.{HasFilled, HasCopiedIn, HasCopiedOut, as_copy};
 ghost use Rattle.flash_device.specs.Output.{AppendsPieces};
 ghost use Rattle.std.specs.Io.KnownBytes.{Keeps};
@@ -183,8 +183,7 @@ impl<F: Flash> Paged<F> {
 
     /// Reads up to 4096 bytes.
     pub fn read_small(&mut self, at: u64, out: &mut [u8]) -> Result<(), FlashFault>
-        requires inside { at + length out.old ≤ length self.old.device.content }
-        requires short { length out.old ≤ 4096 }
+        requires { IsPiece at (length out.old) self.old.device }
 
         ensures after { HasSeen at (length out.old) self.old self.new result }
         ensures read { IsTrue self.old.device.honest
@@ -199,8 +198,7 @@ impl<F: Flash> Paged<F> {
 
     /// Returns n bytes at an offset.
     pub fn piece(&mut self, at: u64, n: usize) -> Result<&[u8], FlashFault>
-        requires inside { at + n ≤ length self.old.device.content }
-        requires short { n ≤ 4096 }
+        requires { IsPiece at n self.old.device }
 
         ensures* after { sem 𝓛 (Rests (the_row F.row F.Flash) self.entry (λ new.
             HasSeen at n self.old new result)) }
@@ -226,8 +224,7 @@ impl<F: Flash> Paged<F> {
     }
 
     fn fetch(&mut self, at: u64, n: usize) -> Result<(), FlashFault>
-        requires inside { at + n ≤ length self.old.device.content }
-        requires short { n ≤ 4096 }
+        requires { IsPiece at n self.old.device }
 
         ensures { HasSeen at n self.old self.new result }
     {
@@ -263,8 +260,7 @@ impl<F: Flash> Paged<F> {
         from: u64,
         n: usize,
     ) -> Result<&[u8], SourceFault>
-        requires inside { from + n ≤ length (S.facts source.old).content }
-        requires short { n ≤ 4096 }
+        requires { IsPiece from n (S.facts source.old) }
 
         ensures call { OneCall (refusals result) (S.facts source.old) (S.facts source.new) }
         ensures* after { sem 𝓛 (Rests (the_row F.row F.Flash) self.entry (λ new.
@@ -384,8 +380,7 @@ impl<F: Flash> Paged<F> {
     }
 
     fn copy_piece<W: Sink>(&mut self, at: u64, n: usize, out: &mut W) -> Result<(), CopyFault>
-        requires inside { at + n ≤ length self.old.device.content }
-        requires short { n ≤ 4096 }
+        requires piece { IsPiece at n self.old.device }
         requires some { 0 < n }
 
         ensures after { HasCopiedOut W.contents W.faults 1 at n
@@ -400,8 +395,7 @@ impl<F: Flash> Paged<F> {
 }
 
 fn load<F: Flash>(device: &mut F, buffer: &mut [u8], at: u64, n: usize) -> Result<(), FlashFault>
-    requires inside { at + n ≤ length (F.facts device.old).content }
-    requires short { n ≤ 4096 }
+    requires piece { IsPiece at n (F.facts device.old) }
     requires room { n ≤ length buffer.old }
 
     ensures { OneRead at n (F.facts device.old) (F.facts device.new) result (take n buffer.new) }
@@ -415,8 +409,7 @@ fn load_from<S: Source>(
     at: u64,
     n: usize,
 ) -> Result<(), SourceFault>
-    requires inside { at + n ≤ length (S.facts source.old).content }
-    requires short { n ≤ 4096 }
+    requires piece { IsPiece at n (S.facts source.old) }
     requires room { n ≤ length buffer.old }
 
     ensures { OneRead at n (S.facts source.old) (S.facts source.new) result (take n buffer.new) }

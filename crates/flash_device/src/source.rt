@@ -1,6 +1,6 @@
 //! Input of bytes.
 ghost use Rattle.std.specs.Prelude.{◌≡◌, ◌+◌, ◌^◌, ◌<◌, ◌≤◌, length};
-ghost use Rattle.flash_device.specs.Device.{Device, OneRead};
+ghost use Rattle.flash_device.specs.Device.{IsPiece, Device, OneRead};
 
 /// A failed call.
 #[derive(Clone, Copy, Debug, PartialEq, Eq, Drop)]
@@ -17,8 +17,7 @@ pub trait Source: Drop {
 
     /// Reads bytes. After a fault, `out` is unspecified.
     fn read_at(&mut self, at: u64, out: &mut [u8]) -> Result<(), SourceFault>
-        requires inside { at + length out.old ≤ length (facts self.old).content }
-        requires short { length out.old ≤ 4096 }
+        requires { IsPiece at (length out.old) (facts self.old) }
 
         ensures after { OneRead at (length out.old) (facts self.old) (facts self.new)
             result out.new };

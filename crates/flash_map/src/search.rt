@@ -2,7 +2,7 @@
 ghost use Rattle.std.specs.Prelude.{◌≡◌, ◌+◌, ◌-◌, ◌*◌, ◌/◌, ◌<◌, ◌≤◌, ◌↔◌, ◌⊎◌, length, drop, OnErr, IfOk, IfSome, IsErrOf};
 ghost use Rattle.std.specs.List.{find};
 ghost use Rattle.flash_format.specs.Flashmap.{fmap_head_len, area_len, map_len, area_of, areas_from, is_area};
-ghost use Rattle.flash_device.specs.Device.{Reads, fault_count, refusals};
+ghost use Rattle.flash_device.specs.Device.{IsPiece, Reads, fault_count, refusals};
 ghost use Rattle.flash_device.specs.Pages.{OnHonest, HasRead, HasAnswered};
 ghost use Rattle.flash_map.specs.Fmap.{HasSignatureAt, map_head, map_head_in, found_from, found_in};
 ghost use Rattle.flash_device.specs.Regions.{LiesOn};
@@ -103,8 +103,7 @@ fn signature_in<F: Flash>(
     at: u64,
     n: usize,
 ) -> Result<Option<u64>, FlashFault>
-    requires inside { at + n ≤ length paged.old.device.content }
-    requires short { n ≤ 4096 }
+    requires { IsPiece at n paged.old.device }
 
     ensures after { HasAnswered 1 paged.old paged.new result }
     ensures within { IfOk result (λ place. IfSome place (λ q. (at ≤ q) × (q + 8 ≤ at + n))) }

@@ -3,7 +3,7 @@ ghost use Rattle.std.specs.Prelude.{◌≡◌, ◌+◌, ◌/◌, ◌≤◌, ◌+
 ghost use Rattle.flash_device.specs.Device.{fault_count};
 ghost use Rattle.flash_device.specs.Pages.{HasRead, OnHonestIn};
 ghost use Rattle.flash_device.specs.Regions.{LiesOn};
-ghost use Rattle.cbfs_walk.specs.Cells.{IsCellIn, cell_in};
+ghost use Rattle.cbfs_walk.specs.Cells.{IsCellOn, IsCellIn, cell_in};
 ghost use Rattle.cbfs_walk.specs.Walks.{StandsIn};
 ghost use Rattle.check_changes.specs.Listings.{IsListedIn, Lists, cell_listed, spans};
 ghost use Rattle.flash_map.specs.Faults.{by_device};
@@ -36,8 +36,7 @@ fn list_cell<F: Flash>(
     cell: &Cell,
     all: &mut Vec<Listed>,
 ) -> Result<(), CheckFault>
-    requires region { LiesOn region paged.old.device }
-    requires cell { IsCellIn region.size cell.now }
+    requires { IsCellOn IsCellIn region cell.now paged.old.device }
 
     ensures after { HasRead 1 (fault_count by_device result) paged.old paged.new }
     ensures cells { OnOk result (All (IsListedIn region.size) all.old.items

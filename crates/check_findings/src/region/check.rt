@@ -3,7 +3,7 @@ ghost use Rattle.std.specs.Prelude.{◌≡◌, ◌+◌, ◌*◌, ◌/◌, ◌++�
 ghost use Rattle.flash_device.specs.Device.{fault_count};
 ghost use Rattle.flash_device.specs.Pages.{HasRead, OnHonestIn};
 ghost use Rattle.flash_device.specs.Regions.{LiesOn};
-ghost use Rattle.cbfs_walk.specs.Cells.{IsCellIn, cell_in};
+ghost use Rattle.cbfs_walk.specs.Cells.{IsCellOn, IsCellIn, cell_in};
 ghost use Rattle.cbfs_walk.specs.Walks.{StandsIn};
 ghost use Rattle.flash_map.specs.Faults.{by_device};
 ghost use Rattle.check_findings.specs.RegionFindings.{cell_findings, region_findings};
@@ -29,8 +29,7 @@ fn push_cell<F: Flash>(
     cell: &Cell,
     findings: &mut Vec<RegionFinding>,
 ) -> Result<(), CheckFault>
-    requires region { LiesOn region paged.old.device }
-    requires cell { IsCellIn region.size cell.now }
+    requires { IsCellOn IsCellIn region cell.now paged.old.device }
 
     ensures after { HasRead (3 + 2 * (cell.now.span / 3840)) (fault_count by_device result)
         paged.old paged.new }

@@ -1,7 +1,7 @@
 //! Starts of entries.
 ghost use Rattle.std.specs.Prelude.{◌≡◌, ◌≤◌, drop, IfOk};
 ghost use Rattle.flash_device.specs.Pages.{HasAnswered, OnHonestIn};
-ghost use Rattle.flash_device.specs.Regions.{LiesOn};
+ghost use Rattle.flash_device.specs.Regions.{Reaches};
 ghost use Rattle.check_findings.specs.RegionFindings.{begins_with_entry};
 
 use flash_device::{Flash, FlashFault, Paged};
@@ -17,8 +17,7 @@ pub fn has_entry_at<F: Flash>(
     region: Region,
     at: u64,
 ) -> Result<bool, FlashFault>
-    requires region { LiesOn region paged.old.device }
-    requires inside { at ≤ region.size }
+    requires { Reaches region at paged.old.device }
 
     // On any device.
     ensures after { HasAnswered 1 paged.old paged.new result }

@@ -3,7 +3,7 @@ ghost use Rattle.std.specs.Prelude.{◌≡◌, ◌+◌, ◌-◌, ◌/◌, ◌^�
 ghost use Rattle.std.specs.List.{position_from};
 ghost use Rattle.flash_device.specs.Device.{fault_count};
 ghost use Rattle.flash_device.specs.Pages.{HasAnswered, HasRead, OnHonestIn};
-ghost use Rattle.flash_device.specs.Regions.{LiesOn};
+ghost use Rattle.flash_device.specs.Regions.{Reaches};
 ghost use Rattle.flash_map.specs.Faults.{by_device};
 ghost use Rattle.check_findings.specs.RegionFindings.{is_filled, tail_bytes};
 ghost use Rattle.check_findings.specs.RegionFindings.{entries_findings};
@@ -34,8 +34,7 @@ fn find_filled<F: Flash>(
     region: Region,
     at: u64,
 ) -> Result<Option<u64>, FlashFault>
-    requires region { LiesOn region paged.old.device }
-    requires inside { at ≤ region.size }
+    requires { Reaches region at paged.old.device }
 
     ensures after { HasAnswered ((region.size - at + 4095) / 4096)
         paged.old paged.new result }
@@ -61,8 +60,7 @@ fn push_entries<F: Flash>(
     at: u64,
     findings: &mut Vec<RegionFinding>,
 ) -> Result<(), CheckFault>
-    requires region { LiesOn region paged.old.device }
-    requires inside { at ≤ region.size }
+    requires { Reaches region at paged.old.device }
 
     ensures after { HasRead ((region.size - at) / 64) (fault_count by_device result)
         paged.old paged.new }
@@ -86,8 +84,7 @@ pub fn push_tail<F: Flash>(
     at: u64,
     findings: &mut Vec<RegionFinding>,
 ) -> Result<(), CheckFault>
-    requires region { LiesOn region paged.old.device }
-    requires inside { at ≤ region.size }
+    requires { Reaches region at paged.old.device }
 
     ensures after { HasRead ((region.size - at + 4095) / 4096 + (region.size - at) / 64)
         (fault_count by_device result) paged.old paged.new }

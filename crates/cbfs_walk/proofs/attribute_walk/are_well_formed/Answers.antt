@@ -1,4 +1,4 @@
-use Rattle.std.proofs.Common.{true, false, refl}
+use Rattle.std.proofs.Common.{true, false, refl, rules}
 use Rattle.std.proofs.lemmas.Result.{err_from_is_err_and}
 use Rattle.cbfs_walk.proofs.AttributeScans.{scanning_start, scanned, lies_still, asked_more, asked_here, are_formed, formed_more, formed_end, formed_malformed}
 use Rattle.cbfs_walk.proofs.attribute_walk.are_well_formed.Goals as goal
@@ -6,8 +6,8 @@ use Rattle.cbfs_walk.proofs.attribute_walk.are_well_formed.Goals as goal
 pub loop-head-init : goal.loop-head-init
 loop-head-init g c = scanning_start c.args.region c.args.from c.args.end _ _ c.requires.order (λ h. refl)
 
-pub listed_at-requires-clause-region : goal.listed_at-requires-clause-region
-listed_at-requires-clause-region g c = lies_still c.loop-head.invariant c.requires.region
+pub listed_at-requires-clause-reach : goal.listed_at-requires-clause-reach
+listed_at-requires-clause-reach g c = record { region = lies_still c.loop-head.invariant c.requires.reach.region; inside = search rules }
 
 pub loop-head-preserved : goal.loop-head-preserved
 loop-head-preserved g c =

@@ -1,4 +1,4 @@
-use Rattle.std.proofs.Common.{ap, ◌∙◌, ◌+◌, arith, refl, le_refl}
+use Rattle.std.proofs.Common.{ap, ◌∙◌, ◌+◌, arith, refl, le_refl, rules}
 use Rattle.std.proofs.lemmas.Bool.{eq-eqb, ne_eqb}
 use Rattle.std.proofs.lemmas.Result.{err_from_is_err_and}
 use Rattle.cbfs_walk.specs.AttrWalks.{first_in}
@@ -9,10 +9,10 @@ use Rattle.cbfs_walk.proofs.attribute_walk.first_attribute.Goals as goal
 
 pub loop-head-init : goal.loop-head-init
 loop-head-init g c =
-    scanning_start c.args.region _ _ _ _ (omega (arith, (has_field c.args.region.size c.args.cell.now c.requires.component).high)) (λ h. refl)
+    scanning_start c.args.region _ _ _ _ (omega (arith, (has_field c.args.region.size c.args.cell.now c.requires.cell).high)) (λ h. refl)
 
-pub listed_at-requires-clause-region : goal.listed_at-requires-clause-region
-listed_at-requires-clause-region g c = lies_still c.loop-head.invariant c.requires.region
+pub listed_at-requires-clause-reach : goal.listed_at-requires-clause-reach
+listed_at-requires-clause-reach g c = record { region = lies_still c.loop-head.invariant c.requires.region; inside = search rules }
 
 pub loop-head-preserved : goal.loop-head-preserved
 loop-head-preserved g c =

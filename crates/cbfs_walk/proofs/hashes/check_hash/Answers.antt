@@ -42,10 +42,10 @@ pub returns-in-None-clause-value : goal.returns-in-None-clause-value
 returns-in-None-clause-value g c = search rules
 
 pub returns-in_ok-computed-in-Some-2-clause-state : goal.returns-in_ok-computed-in-Some-2-clause-state
-returns-in_ok-computed-in-Some-2-clause-state g c = λ h stands. state_found c.args.region _ c.args.cell.now _ c.requires.region.inside c.requires.component stands (returns-in_ok-computed-in-Some-2-clause-value g c h)
+returns-in_ok-computed-in-Some-2-clause-state g c = λ h stands. state_found c.args.region _ c.args.cell.now _ c.requires.region.inside c.requires.cell stands (returns-in_ok-computed-in-Some-2-clause-value g c h)
 
 pub returns-in-None-2-clause-state : goal.returns-in-None-2-clause-state
-returns-in-None-2-clause-state g c = λ h stands. state_found c.args.region _ c.args.cell.now _ c.requires.region.inside c.requires.component stands (returns-in-None-2-clause-value g c h)
+returns-in-None-2-clause-state g c = λ h stands. state_found c.args.region _ c.args.cell.now _ c.requires.region.inside c.requires.cell stands (returns-in-None-2-clause-value g c h)
 
 pub returns-in-None-clause-state : goal.returns-in-None-clause-state
-returns-in-None-clause-state g c = λ h stands. state_found c.args.region _ c.args.cell.now _ c.requires.region.inside c.requires.component stands (returns-in-None-clause-value g c h)
+returns-in-None-clause-state g c = λ h stands. state_found c.args.region _ c.args.cell.now _ c.requires.region.inside c.requires.cell stands (returns-in-None-clause-value g c h)

@@ -1,4 +1,4 @@
-use Rattle.std.proofs.Common.{arith, ◌+◌}
+use Rattle.std.proofs.Common.{arith, ◌+◌, rules}
 use Rattle.flash_device.specs.Regions.{bytes_in}
 use Rattle.std.proofs.lemmas.Result.{err_from_is_err_and}
 use Rattle.cbfs_walk.proofs.ReadSequences.{Passes-within}
@@ -6,8 +6,8 @@ use Rattle.cbfs_walk.proofs.AttributeScans.{scanned, lies_still}
 use Rattle.cbfs_walk.proofs.Digests.{taking_more, content_taken}
 use Rattle.cbfs_walk.proofs.hashes.hash_content.Goals as goal
 
-pub piece_in-requires-clause-region : goal.piece_in-requires-clause-region
-piece_in-requires-clause-region g c = lies_still c.loop-at.invariant c.requires.region
+pub piece_in-requires-clause-reach : goal.piece_in-requires-clause-reach
+piece_in-requires-clause-reach g c = record { region = lies_still c.loop-at.invariant c.requires.region; inside = search rules }
 
 pub returns-in_err-bytes-clause-passes : goal.returns-in_err-bytes-clause-passes
 returns-in_err-bytes-clause-passes g c =

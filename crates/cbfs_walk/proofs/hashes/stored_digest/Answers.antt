@@ -9,13 +9,13 @@ pub returns-in_default-clause-passes : goal.returns-in_default-clause-passes
 returns-in_default-clause-passes g c = Passes-within c.in_ok-number.ensures.passes (le_refl _) (omega arith)
 
 pub returns-in_default-clause-stored : goal.returns-in_default-clause-stored
-returns-in_default-clause-stored g c = λ h. stored_by c.args.region c.args.paged.now.device.content c.args.at c.args.n c.in_ok-number.number c.requires.region.inside c.requires.inside c.requires.least (c.in_ok-number.ensures.value h) None (sym c.in_default.is ∙ c.numbered.ensures)
+returns-in_default-clause-stored g c = λ h. stored_by c.args.region c.args.paged.now.device.content c.args.at c.args.n c.in_ok-number.number c.requires.reach.region.inside c.requires.reach.inside c.requires.least (c.in_ok-number.ensures.value h) None (sym c.in_default.is ∙ c.numbered.ensures)
 
 pub returns-then-n-len-clause-passes : goal.returns-then-n-len-clause-passes
 returns-then-n-len-clause-passes g c = Passes-within c.in_ok-number.ensures.passes (le_refl _) (omega arith)
 
 pub returns-then-n-len-clause-stored : goal.returns-then-n-len-clause-stored
-returns-then-n-len-clause-stored g c = λ h. stored_short c.args.region c.args.paged.now.device.content c.args.at c.args.n c.in_ok-number.number c.requires.region.inside c.requires.inside c.requires.least (c.in_ok-number.ensures.value h) c.in-Some.algorithm (sym c.in-Some.is ∙ c.numbered.ensures) (omega (arith, c.if-n-len.true, c.digest_len-len.ensures))
+returns-then-n-len-clause-stored g c = λ h. stored_short c.args.region c.args.paged.now.device.content c.args.at c.args.n c.in_ok-number.number c.requires.reach.region.inside c.requires.reach.inside c.requires.least (c.in_ok-number.ensures.value h) c.in-Some.algorithm (sym c.in-Some.is ∙ c.numbered.ensures) (omega (arith, c.if-n-len.true, c.digest_len-len.ensures))
 
 pub returns-in_err-bytes-clause-passes : goal.returns-in_err-bytes-clause-passes
 returns-in_err-bytes-clause-passes g c =
@@ -30,4 +30,4 @@ pub returns-clause-stored : goal.returns-clause-stored
 returns-clause-stored g c = λ h.
     let calls = c.value_at.ensures.passes.read.device in
     let read = rw (calls.unchanged h, c.digest_len-len.ensures) at (c.in_ok-bytes.ensures.read (honest_still calls.calls.same_honesty h)) in
-    rw c.read.ensures (stored_whole c.args.region c.args.paged.now.device.content c.args.at c.args.n c.in_ok-number.number c.requires.region.inside c.requires.inside c.requires.least (c.in_ok-number.ensures.value h) c.in-Some.algorithm _ (sym c.in-Some.is ∙ c.numbered.ensures) (omega (arith, c.if-n-len.false, c.digest_len-len.ensures)) read)
+    rw c.read.ensures (stored_whole c.args.region c.args.paged.now.device.content c.args.at c.args.n c.in_ok-number.number c.requires.reach.region.inside c.requires.reach.inside c.requires.least (c.in_ok-number.ensures.value h) c.in-Some.algorithm _ (sym c.in-Some.is ∙ c.numbered.ensures) (omega (arith, c.if-n-len.false, c.digest_len-len.ensures)) read)

@@ -1,23 +1,23 @@
-use Rattle.std.proofs.Common.{arith, ap, ◌∙◌, length}
+use Rattle.std.proofs.Common.{arith, ap, ◌∙◌, length, rules}
 use Rattle.flash_device.specs.Regions.{bytes_in}
 use Rattle.cbfs_walk.proofs.Parts.{length-region}
 use Rattle.cbfs_walk.proofs.CellNames.{has_field, name_written, read_name}
 use Rattle.cbfs_walk.proofs.names.name.Goals as goal
 
 pub name_room-requires : goal.name_room-requires
-name_room-requires g c = (has_field c.args.region.size c.args.cell.now c.requires.component).low
+name_room-requires g c = (has_field c.args.region.size c.args.cell.now c.requires.cell).low
 
-pub piece_in-requires-clause-inside : goal.piece_in-requires-clause-inside
-piece_in-requires-clause-inside g c = omega (arith, (has_field c.args.region.size c.args.cell.now c.requires.component).inside, c.name_room.ensures, c.min-n.ensures)
+pub piece_in-requires-clause-reach : goal.piece_in-requires-clause-reach
+piece_in-requires-clause-reach g c = record { region = search rules; inside = omega (arith, (has_field c.args.region.size c.args.cell.now c.requires.cell).inside, c.name_room.ensures, c.min-n.ensures) }
 
 pub returns-clause-name : goal.returns-clause-name
 returns-clause-name g c = λ h stands.
     let image = c.args.paged.now.device.content in
-    rw c.copy_from_slice.ensures.after (name_written (bytes_in c.args.region image) c.args.region.size c.args.cell.now c.requires.component (length-region c.args.region image c.requires.region.inside)
+    rw c.copy_from_slice.ensures.after (name_written (bytes_in c.args.region image) c.args.region.size c.args.cell.now c.requires.cell (length-region c.args.region image c.requires.region.inside)
     c.text_len.result _ _ _ _ c.name_room.ensures c.min-n.ensures stands c.text_len.ensures (c.in_ok-bytes.ensures.read h))
 
 pub returns-clause-len : goal.returns-clause-len
 returns-clause-len g c = λ h stands.
     let image = c.args.paged.now.device.content in
-    c.text_len.ensures ∙ ap length (read_name (bytes_in c.args.region image) c.args.region.size c.args.cell.now c.requires.component (length-region c.args.region image c.requires.region.inside)
+    c.text_len.ensures ∙ ap length (read_name (bytes_in c.args.region image) c.args.region.size c.args.cell.now c.requires.cell (length-region c.args.region image c.requires.region.inside)
     _ _ _ c.name_room.ensures c.min-n.ensures stands (c.in_ok-bytes.ensures.read h))

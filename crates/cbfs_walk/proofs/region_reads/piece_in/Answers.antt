@@ -5,10 +5,10 @@ use Rattle.cbfs_walk.proofs.region_reads.piece_in.Goals as goal
 
 pub returns : goal.returns
 returns g c = (
-  (refl, λ p. tt, Passes-seen c.requires.region c.requires.inside c.requires.short (rw c.start.ensures at c.piece.follows.holds-at-none)),
+  (refl, λ p. tt, Passes-seen c.requires.reach.region c.requires.reach.inside c.requires.short (rw c.start.ensures at c.piece.follows.holds-at-none)),
   record {
     passes = tt;
     size = c.piece.ensures.size;
-    read = λ h. rw (c.start.ensures, part-in c.args.paged.now.device.content c.args.region c.args.at c.args.n c.requires.inside) at (c.piece.ensures.read h);
+    read = λ h. rw (c.start.ensures, part-in c.args.paged.now.device.content c.args.region c.args.at c.args.n c.requires.reach.inside) at (c.piece.ensures.read h);
   },
 )

@@ -1,4 +1,4 @@
-use Rattle.std.proofs.Common.{refl, ap, ◌∙◌, ◌-◌, arith, inr, eqb, ◌&&◌, true, false, ◌<◌, ◌≡◌}
+use Rattle.std.proofs.Common.{refl, ap, ◌∙◌, ◌-◌, arith, inr, eqb, ◌&&◌, true, false, ◌<◌, ◌≡◌, rules}
 use Rattle.std.proofs.lemmas.Grind.{common_steps}
 use Rattle.std.proofs.lemmas.Bool.{and_left, and_right}
 use Rattle.flash_format.specs.Head.{extent_of}
@@ -12,22 +12,22 @@ use Rattle.cbfs_walk.proofs.walk.answer_at.Goals as goal
 
 pub returns-then-has_bad_size-clause-answer : goal.returns-then-has_bad_size-clause-answer
 returns-then-has_bad_size-clause-answer g c = λ h.
-    let len = length-region c.args.region c.args.paged.now.device.content c.requires.region.inside in
+    let len = length-region c.args.region c.args.paged.now.device.content c.requires.reach.region.inside in
     inr (answer_shape _ c.args.at _ len (c.if-has_bad_size.ensures ∙ ap has_bad_size c.size.ensures))
 
 pub returns-then-at-size-clause-answer : goal.returns-then-at-size-clause-answer
 returns-then-at-size-clause-answer g c = λ h.
-    let len = length-region c.args.region c.args.paged.now.device.content c.requires.region.inside in
+    let len = length-region c.args.region c.args.paged.now.device.content c.requires.reach.region.inside in
     inr (answer_end _ c.args.at _ len (c.if-has_bad_size.ensures ∙ ap has_bad_size c.size.ensures) (c.if-at-size.true ∙ c.size-2.ensures))
 
 pub returns-in-None-clause-answer : goal.returns-in-None-clause-answer
 returns-in-None-clause-answer g c = λ h.
-    let len = length-region c.args.region c.args.paged.now.device.content c.requires.region.inside in
+    let len = length-region c.args.region c.args.paged.now.device.content c.requires.reach.region.inside in
     inr (answer_absent _ c.args.at _ len (c.if-has_bad_size.ensures ∙ ap has_bad_size c.size.ensures) (entry_absent _ (rw c.in-None.is at (c.in_ok-front_at.ensures.head h))) c.if-at-eq0.true)
 
 pub returns-in-None-2-clause-answer : goal.returns-in-None-2-clause-answer
 returns-in-None-2-clause-answer g c = λ h.
-    let len = length-region c.args.region c.args.paged.now.device.content c.requires.region.inside in
+    let len = length-region c.args.region c.args.paged.now.device.content c.requires.reach.region.inside in
     let inside : c.args.at < c.args.region.size = grind (arith, common_steps) in
     let later : (eqb c.args.at 0 && true) ≡ false = and_left (eqb c.args.at 0) true (grind (arith, common_steps)) in
     inr (answer_entry _ c.args.at _ absent len (c.if-has_bad_size.ensures ∙ ap has_bad_size c.size.ensures) inside (entry_absent _ (rw c.in-None.is at (c.in_ok-front_at.ensures.head h))) later)
@@ -36,12 +36,12 @@ pub returns-in-Err-clause-answer : goal.returns-in-Err-clause-answer
 returns-in-Err-clause-answer g c = λ h.
     let image = c.args.paged.now.device.content in
     let inside : c.args.at < c.args.region.size = grind (arith, common_steps) in
-    let here = entry_present _ c.in-Some.head _ _ (rw c.in-Some.is at (c.in_ok-front_at.ensures.head h)) (length-rest c.args.region image c.args.at c.requires.region.inside)
+    let here = entry_present _ c.in-Some.head _ _ (rw c.in-Some.is at (c.in_ok-front_at.ensures.head h)) (length-rest c.args.region image c.args.at c.requires.reach.region.inside)
     (c.in-Err.ensures ∙ ap (λ n. extent_of c.in-Some.head (n - c.args.at)) c.size-3.ensures) in
-    inr (answer_entry _ c.args.at _ (damaged c.in-Err.kind) (length-region c.args.region image c.requires.region.inside) (c.if-has_bad_size.ensures ∙ ap has_bad_size c.size.ensures) inside here (and_right _ _ refl))
+    inr (answer_entry _ c.args.at _ (damaged c.in-Err.kind) (length-region c.args.region image c.requires.reach.region.inside) (c.if-has_bad_size.ensures ∙ ap has_bad_size c.size.ensures) inside here (and_right _ _ refl))
 
-pub cell_at-requires-clause-cell : goal.cell_at-requires-clause-cell
-cell_at-requires-clause-cell g c = checked_extent _ _ c.in-Ok.extent (c.in-Ok.ensures ∙ ap (λ n. extent_of c.in-Some.head (n - c.args.at)) c.size-3.ensures)
+pub cell_at-requires : goal.cell_at-requires
+cell_at-requires g c = record { region = search rules; cell = checked_extent _ _ c.in-Ok.extent (c.in-Ok.ensures ∙ ap (λ n. extent_of c.in-Some.head (n - c.args.at)) c.size-3.ensures) }
 
 pub returns-in-Ok-clause-after : goal.returns-in-Ok-clause-after
 returns-in-Ok-clause-after g c =
@@ -51,11 +51,11 @@ returns-in-Ok-clause-after g c =
 pub returns-in-Ok-clause-cell : goal.returns-in-Ok-clause-cell
 returns-in-Ok-clause-cell g c =
     cell_gives c.args.region.size (record { at = c.args.at; head = c.in-Some.head; span = c.in-Ok.extent.span }) c.cell_at.result
-    (checked_extent _ _ c.in-Ok.extent (c.in-Ok.ensures ∙ ap (λ n. extent_of c.in-Some.head (n - c.args.at)) c.size-3.ensures)) (c.if-has_bad_size.ensures ∙ ap has_bad_size c.size.ensures) c.requires.aligned c.requires.inside c.cell_at.ensures.cell
+    (checked_extent _ _ c.in-Ok.extent (c.in-Ok.ensures ∙ ap (λ n. extent_of c.in-Some.head (n - c.args.at)) c.size-3.ensures)) (c.if-has_bad_size.ensures ∙ ap has_bad_size c.size.ensures) c.requires.aligned c.requires.reach.inside c.cell_at.ensures.cell
 
 pub returns-in-Ok-clause-answer : goal.returns-in-Ok-clause-answer
 returns-in-Ok-clause-answer g c = λ h.
-    let len = length-region c.args.region c.args.paged.now.device.content c.requires.region.inside in
+    let len = length-region c.args.region c.args.paged.now.device.content c.requires.reach.region.inside in
     let inside : c.args.at < c.args.region.size = grind (arith, common_steps) in
     let told = rw (c.front_at.ensures.passes.read.device.unchanged h) at (c.cell_at.ensures.answer (honest_still c.front_at.ensures.passes.read.device.calls.same_honesty h)) in
     answer_cell _ c.args.at _ c.in-Some.head c.in-Ok.extent c.cell_at.result len (c.if-has_bad_size.ensures ∙ ap has_bad_size c.size.ensures) inside

@@ -5,8 +5,8 @@ use Rattle.cbfs_walk.proofs.ReadSequences.{Passes-none, Passes-within}
 use Rattle.cbfs_walk.proofs.StepResults.{answer_free, answer_damaged, answer_whole}
 use Rattle.cbfs_walk.proofs.walk.cell_at.Goals as goal
 
-pub damage_in-requires-clause-inside : goal.damage_in-requires-clause-inside
-damage_in-requires-clause-inside g c = let k = checks_give _ _ _ c.requires.cell in omega (arith, k.room, k.inside)
+pub damage_in-requires-clause-reach : goal.damage_in-requires-clause-reach
+damage_in-requires-clause-reach g c = let k = checks_give _ _ _ c.requires.cell in record { region = c.requires.region; inside = omega (arith, k.room, k.inside) }
 
 pub damage_in-requires-clause-room : goal.damage_in-requires-clause-room
 damage_in-requires-clause-room g c = (checks_give _ _ _ c.requires.cell).name_low (sym c.if-is_free.ensures)

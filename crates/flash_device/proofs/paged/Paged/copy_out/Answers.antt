@@ -4,8 +4,8 @@ use Rattle.flash_device.proofs.DeviceLemmas.{honest_still}
 use Rattle.flash_device.proofs.WindowLemmas.{Covers-part}
 use Rattle.flash_device.proofs.paged.Paged.copy_out.Goals as goal
 
-pub copy_piece-requires-clause-short : goal.copy_piece-requires-clause-short
-copy_piece-requires-clause-short g c = omega arith
+pub copy_piece-requires-clause-piece : goal.copy_piece-requires-clause-piece
+copy_piece-requires-clause-piece g c = record { inside = omega arith; short = omega arith }
 
 pub loop-done-preserved : goal.loop-done-preserved
 loop-done-preserved g c =
