@@ -27,9 +27,8 @@ fn dispatch<F: Flash, S: Source, W: Sink>(
     source: &mut S,
     out: &mut W,
 ) -> Result<(), Refusal>
-    ensures { HasRun S.facts W.contents W.faults
-        (2 * length paged.old.device.content + 64) (effect (request_of command.now))
-        paged.old paged.new source.old source.new out.old out.new result }
+    ensures { HasRun S.facts W.contents W.faults (2 * length paged.old.device.content + 64) (effect
+        (request_of command.now)) paged.old paged.new source.old source.new out.old out.new result }
 {
     match command {
         Command::Print { region, verbose } => print(paged, region, *verbose, out),
@@ -75,9 +74,8 @@ pub fn run<F: Flash, S: Source, W: Sink>(
     ensures source { IsErrOf result Refusal.Source
         → IsTrue (reads_source (effect (request_of command.now)))
         × ((S.facts source.old).faults < (S.facts source.new).faults) }
-    ensures output { IsErrOf result Refusal.Output
-        → IsTrue (writes_output (effect (request_of command.now)))
-        × (W.faults out.old < W.faults out.new) }
+    ensures output { IsErrOf result Refusal.Output → IsTrue
+        (writes_output (effect (request_of command.now))) × (W.faults out.old < W.faults out.new) }
 
     // For any answer and source.
     ensures spares { IsTrue paged.old.device.honest → SparesOutside
@@ -90,12 +88,10 @@ pub fn run<F: Flash, S: Source, W: Sink>(
     ensures outcome { IsTrue paged.old.device.honest
         → Serves (effect (request_of command.now)) (S.facts source.old)
         → Meets (effect (request_of command.now)) (W.contents out.old) (W.contents out.new)
-        paged.old.device.content (S.facts source.old).content
-        paged.new.device.content result }
-    ensures stopped { IsTrue paged.old.device.honest
-        → Serves (effect (request_of command.now)) (S.facts source.old)
-        → (change_of (effect (request_of command.now))).Stopped paged.old.device.content
-        (S.facts source.old).content result paged.new.device.content }
+        paged.old.device.content (S.facts source.old).content paged.new.device.content result }
+    ensures stopped { IsTrue paged.old.device.honest → Serves (effect (request_of command.now))
+        (S.facts source.old) → (change_of (effect (request_of command.now))).Stopped
+        paged.old.device.content (S.facts source.old).content result paged.new.device.content }
 {
     dispatch(paged, command, source, out)
 }

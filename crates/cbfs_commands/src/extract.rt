@@ -39,9 +39,8 @@ pub fn extract<F: Flash, W: Sink>(
     out: &mut W,
 ) -> Result<(), Refusal>
     ensures { HasOutput W.contents W.faults
-        (2 * length paged.old.device.content + 64)
-        paged.old paged.new out.old out.new result (λ image.
-        printed_in image region.now (λ x. extract_region x name.now)) }
+        (2 * length paged.old.device.content + 64) paged.old paged.new out.old out.new result
+        (λ image. printed_in image region.now (λ x. extract_region x name.now)) }
 {
     let region = flash_map::region(paged, region)?;
     match find(paged, region, name)? {

@@ -53,12 +53,10 @@ fn list_area<F: Flash, W: Sink>(
     row: &mut Row,
     out: &mut W,
 ) -> Result<(), Refusal>
-    requires inside { map.now.at + map_len map.now.head
-        ≤ length paged.old.device.content }
+    requires inside { map.now.at + map_len map.now.head ≤ length paged.old.device.content }
     requires number { i < map.now.head.nareas }
 
-    ensures { HasOutput W.contents W.faults 1
-        paged.old paged.new out.old out.new result (λ image.
+    ensures { HasOutput W.contents W.faults 1 paged.old paged.new out.old out.new result (λ image.
         shows (area_line (area_of (drop (map.now.at + fmap_head_len + area_len * i) image)))) }
 {
     let listed = area(paged, map, i)?;

@@ -30,8 +30,7 @@ pub fn read<F: Flash, W: Sink>(
     name: &[u8],
     out: &mut W,
 ) -> Result<(), Refusal>
-    ensures { HasOutput W.contents W.faults
-        (2 * length paged.old.device.content + 64)
+    ensures { HasOutput W.contents W.faults (2 * length paged.old.device.content + 64)
         paged.old paged.new out.old out.new result (λ image. printed_in image name.now shows) }
 {
     let region = flash_map::region(paged, name)?;

@@ -66,8 +66,7 @@ fn apply<F: Flash, S: Source>(paged: &mut Paged<F>, region: Region, edit: &mut E
 
     ensures after { HasChanged region (edit_calls region.size edit.old)
         (faults_of by_device result) paged.old paged.new }
-    ensures step { Step S.facts region edit.old edit.new paged.old.device result
-        paged.new.device }
+    ensures step { Step S.facts region edit.old edit.new paged.old.device result paged.new.device }
 {
     match edit {
         Edit::Add {

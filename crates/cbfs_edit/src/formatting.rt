@@ -27,9 +27,8 @@ pub fn format<F: Flash>(paged: &mut Paged<F>, region: Region) -> Result<(), Edit
 
     ensures formatted { OnHonestChange region paged.old paged.new
         (λ x y. OnOk result (y ≡ formatted x)) }
-    ensures refused { IsTrue paged.old.device.honest
-        → IfErr result (λ fault. fault ≢ EditFault.Device
-        → paged.new.device.content ≡ paged.old.device.content) }
+    ensures refused { IsTrue paged.old.device.honest → IfErr result
+        (λ fault. fault ≢ EditFault.Device → paged.new.device.content ≡ paged.old.device.content) }
     ensures stopped { OnHonestChange region paged.old paged.new (λ x y.
         IsErrOf result EditFault.Device
         → ((y ≡ x) ⊎ IsOneFreeCell y) × (last_four y ≡ last_four x)) }

@@ -117,10 +117,9 @@ pub fn describe<F: Flash>(
     requires gap { meta.now.gap < 64 }
 
     ensures metadata { length (metadata_of meta.now) ≡ described_len meta.now }
-    ensures after { HasWrittenIn region 3
-        (λ x. with_component x place end (metadata_of meta.now))
-        (λ x y. (y ≡ with_component x place end (metadata_of meta.now)) ⊎ IsUnfinished place x y)
-        paged.old paged.new result }
+    ensures after { HasWrittenIn region 3 (λ x. with_component x place end (metadata_of meta.now))
+        (λ x y. (y ≡ with_component x place end (metadata_of meta.now))
+        ⊎ IsUnfinished place x y) paged.old paged.new result }
 {
     let mut metadata = [0; LONGEST_METADATA];
     let n = write_meta(meta, &mut metadata);

@@ -37,9 +37,8 @@ pub fn remove<F: Flash>(
     ensures image { OnHonestIn paged.old.device region (λ x. IfOk result (λ group.
         paged.new.device.content
         ≡ overwritten paged.old.device.content region.start (removed x group))) }
-    ensures refused { IsTrue paged.old.device.honest
-        → IfErr result (λ fault. fault ≢ EditFault.Device
-        → paged.new.device.content ≡ paged.old.device.content) }
+    ensures refused { IsTrue paged.old.device.honest → IfErr result
+        (λ fault. fault ≢ EditFault.Device → paged.new.device.content ≡ paged.old.device.content) }
     ensures stopped { OnHonestChange region paged.old paged.new (λ x y.
         IsErrOf result EditFault.Device → LeavesWhole x name.now y) }
 {

@@ -161,8 +161,7 @@ impl<'a> Line<'a> {
     }
 
     fn spot(&self) -> Option<Spot>
-        ensures { result ≡ spot_by (text self.now "alignment")
-            (text self.now "base") }
+        ensures { result ≡ spot_by (text self.now "alignment") (text self.now "base") }
     {
         match (self.option("alignment"), self.option("base")) {
             (None, None) => Some(Spot::First),
@@ -231,9 +230,8 @@ pub fn read_line<'a>(alloc: Global, words: &'a [&'a str]) -> Result<Line<'a>, Re
     ensures wordless { words.entry.now ≡ [] → IfErr result (λ refusal. refusal ≡ Refusal.Usage) }
     ensures faultless { IfOk result (λ _.
         fault_of command_line (map (λ w. w.now) (drop 1 words.entry.now)) ≡ []) }
-    ensures usage { words.entry.now ≢ []
-        → fault_of command_line (map (λ w. w.now) (drop 1 words.entry.now)) ≡ []
-        → IfErr result (λ refusal. refusal ≡ Refusal.Memory) }
+    ensures usage { words.entry.now ≢ [] → fault_of command_line (map (λ w. w.now)
+        (drop 1 words.entry.now)) ≡ [] → IfErr result (λ refusal. refusal ≡ Refusal.Memory) }
 {
     let Some((image, rest)) = words.split_first() else {
         return Err(Refusal::Usage);

@@ -96,8 +96,7 @@ pub fn packing<F: Flash>(
 ) -> Result<u32, FlashFault>
     requires { IsCellOn IsComponentIn region cell.now paged.old.device }
 
-    ensures after { HasAnswered (reads_over cell.now.head.offset) paged.old
-        paged.new result }
+    ensures after { HasAnswered (reads_over cell.now.head.offset) paged.old paged.new result }
 
     ensures value { ReadsAs paged.old region result
         (λ x. value_in x (first_attribute x cell.now COMPRESSION)) }
@@ -187,8 +186,7 @@ fn listed_at<F: Flash>(
     ensures no_call { at ≡ end → paged.new ≡ paged.old }
     ensures none { at ≡ end → result ≡ Ok Listed.End }
     ensures attribute { IfOk result (λ listed. IsListedAttribute at end listed) }
-    ensures listed { ReadsAs paged.old region result
-        (λ x. listed_in (slice_range x at end)) }
+    ensures listed { ReadsAs paged.old region result (λ x. listed_in (slice_range x at end)) }
 {
     if end - at < 8 {
         return Ok(Listed::End);

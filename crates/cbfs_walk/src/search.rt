@@ -34,9 +34,8 @@ pub fn find<F: Flash>(
         IsErrOf result WalkFault.Device ⊎ (result ≡ found_cell (component_in x name.now))) }
     ensures stands { OnHonestIn paged.old.device region (λ x.
         IfOk result (λ found. IfSome found (StandsIn x))) }
-    ensures first { OnHonestIn paged.old.device region
-        (λ x. IfOk result (λ found. IfSome found (λ cell.
-        component_in x name.now ≡ Ok (Some (component_at cell.at (cell_in x cell)))))) }
+    ensures first { OnHonestIn paged.old.device region (λ x. IfOk result (λ found. IfSome found
+        (λ cell. component_in x name.now ≡ Ok (Some (component_at cell.at (cell_in x cell)))))) }
 {
     let mut walk = Walk::new(region);
     loop {

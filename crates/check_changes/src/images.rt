@@ -40,8 +40,7 @@ pub fn taken(left: &mut u64, regions: Option<RegionPair>) -> Option<RegionPair>
     ensures regions { result ≡ compared left.old regions }
     ensures left { left.new ≡ left_after left.old regions }
     ensures fewer { left.new ≤ left.old }
-    ensures given { IfSome result (λ r.
-        (regions ≡ Some r) × (left.new + r.old.size ≡ left.old)) }
+    ensures given { IfSome result (λ r. (regions ≡ Some r) × (left.new + r.old.size ≡ left.old)) }
 {
     let regions = regions?;
     if regions.old.size() > *left {

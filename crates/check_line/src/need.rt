@@ -19,8 +19,7 @@ fn place_of(offset: &str) -> Option<NeededPlace>
 }
 
 fn split_at_last<'a>(text: &'a str) -> Option<(&'a str, &'a str)>
-    ensures { option_map (λ parts. (parts.0.now, parts.1.now)) result
-        ≡ split_last text.entry.now }
+    ensures { option_map (λ parts. (parts.0.now, parts.1.now)) result ≡ split_last text.entry.now }
 {
     text.rsplit_once('@')
 }

@@ -22,8 +22,7 @@ use std::hash::RandomState;
 fn old_image<F: Flash>(alloc: Global, old: &mut Paged<F>) -> Result<OldImage, CheckFault>
     ensures after { HasRead (length old.old.device.content * 4 / 7 + 8)
         (fault_count by_device result) old.old old.new }
-    ensures image { OnHonest old.old.device (λ x. IfOk result (λ image.
-        IsOldImage x image)) }
+    ensures image { OnHonest old.old.device (λ x. IfOk result (λ image. IsOldImage x image)) }
 {
     let map = image_map(alloc, old)?;
     let regions = cbfs_areas(alloc, old, &map.areas)?;
@@ -42,11 +41,9 @@ fn compare<F: Flash, G: Flash>(
         ≤ 8 * (lengths images.old).new }
     requires regions { area_len * length (region_areas checked.now.findings.items)
         ≤ (lengths images.old).new }
-    requires areas { area_len * length checked.now.areas.items
-        ≤ (lengths images.old).new }
+    requires areas { area_len * length checked.now.areas.items ≤ (lengths images.old).new }
 
-    ensures after { HasReadFor ((lengths images.old).old / 24
-        + (lengths images.old).new / 2 + 4)
+    ensures after { HasReadFor ((lengths images.old).old / 24 + (lengths images.old).new / 2 + 4)
         ((lengths images.old).new + 4) images.old images.new result }
     ensures changes { OnBoth images.old (λ x y.
         old_map ≡ found_in x → checked.now.found ≡ found_in y → IfOk result (λ changes.
@@ -79,8 +76,7 @@ pub fn inspect_change<F: Flash, G: Flash>(
     request: Request<'_>,
 ) -> Result<Inspection, ChangeFault>
     // On any devices.
-    ensures after { HasReadFor ((lengths images.old).old
-        + (lengths images.old).new / 2 + 64)
+    ensures after { HasReadFor ((lengths images.old).old + (lengths images.old).new / 2 + 64)
         (3 * (lengths images.old).new + 72) images.old images.new result }
 
     // On honest devices.

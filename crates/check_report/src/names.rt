@@ -9,8 +9,7 @@ use flash_map::NumberedArea;
 use std::alloc::{AllocError, Global};
 
 pub fn need_areas<'a>(alloc: Global, needs: &[Need<'a>]) -> Result<Vec<&'a [u8]>, AllocError>
-    ensures { IfOk result (λ names. names_in names.items
-        ≡ map (λ n. n.area.now) needs.now) }
+    ensures { IfOk result (λ names. names_in names.items ≡ map (λ n. n.area.now) needs.now) }
 {
     needs.iter().map(|need| need.area).collect(alloc)
 }
@@ -45,8 +44,7 @@ pub fn kept_names<'a>(
     old_areas: &'a [NumberedArea],
     new_areas: &'a [NumberedArea],
 ) -> Result<Vec<&'a [u8]>, AllocError>
-    ensures { IfOk result (λ names.
-        names_in names.items
+    ensures { IfOk result (λ names. names_in names.items
         ≡ of.kept_by (names_in kept.now) keeps_preserved (old_areas.now ++ new_areas.now)) }
 {
     let areas = old_areas.iter().chain(new_areas);

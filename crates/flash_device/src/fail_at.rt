@@ -67,8 +67,7 @@ impl<F: Flash> FailAt<F> {
 
     /// Counts a call, passed or failed.
     fn admits(&mut self) -> bool
-        ensures passed { IsTrue result → (0 < self.old.left)
-            × (self.new
+        ensures passed { IsTrue result → (0 < self.old.left) × (self.new
             ≡ record self.old { left = self.old.left - 1; calls = self.old.calls + 1 }) }
         ensures refused { result ≡ false → (self.old.left ≡ 0)
             × (self.new ≡ record self.old { calls = self.old.calls + 1 }) }

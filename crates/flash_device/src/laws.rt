@@ -13,8 +13,7 @@ pub fn writes_are_seen_by_regions()
 /// Proves that writes to separate ranges commute.
 pub fn separate_writes_swap()
     ensures { (x : List ℕ) (a : ℕ) (u : List ℕ) (b : ℕ) (v : List ℕ) → a + length u ≤ b
-        → b ≤ length x
-        → overwritten (overwritten x a u) b v ≡ overwritten (overwritten x b v) a u }
+        → b ≤ length x → overwritten (overwritten x a u) b v ≡ overwritten (overwritten x b v) a u }
 {}
 
 /// Proves that size-preserving edits of separate regions commute.

@@ -187,8 +187,7 @@ impl<F: Flash> Paged<F> {
 
         ensures after { HasSeen at (length out.old) self.old self.new result }
         ensures read { IsTrue self.old.device.honest
-            → OnOk result
-            (out.new ≡ slice_range self.old.device.content at (at + length out.old)) }
+            → OnOk result (out.new ≡ slice_range self.old.device.content at (at + length out.old)) }
     {
         let n = out.len();
         self.fetch(at, n)?;
@@ -204,8 +203,7 @@ impl<F: Flash> Paged<F> {
             HasSeen at n self.old new result)) }
         ensures size { IfOk result (λ bytes. length bytes.now ≡ n) }
         ensures read { IsTrue self.old.device.honest
-            → IfOk result
-            (λ bytes. bytes.now ≡ slice_range self.old.device.content at (at + n)) }
+            → IfOk result (λ bytes. bytes.now ≡ slice_range self.old.device.content at (at + n)) }
     {
         self.fetch(at, n)?;
         let window = &*self;
@@ -268,8 +266,7 @@ impl<F: Flash> Paged<F> {
         ensures size { IfOk result (λ bytes. length bytes.now ≡ n) }
 
         // If the source is honest.
-        ensures read { IsTrue (S.facts source.old).honest
-            → IfOk result
+        ensures read { IsTrue (S.facts source.old).honest → IfOk result
             (λ bytes. bytes.now ≡ slice_range (S.facts source.old).content from (from + n)) }
         ensures unchanged { OnHonest (S.facts source.old)
             (λ content. (S.facts source.new).content ≡ content) }
@@ -300,8 +297,7 @@ impl<F: Flash> Paged<F> {
     pub fn commit(&mut self, at: u64, bytes: &[u8; COMMIT_LENGTH]) -> Result<(), FlashFault>
         requires { at + length bytes.now ≤ length self.old.device.content }
 
-        ensures after { OneCommit at bytes.now self.old.device
-            self.new.device result }
+        ensures after { OneCommit at bytes.now self.old.device self.new.device result }
         ensures dropped { self.new.held ≡ Nothing }
     {
         self.held = Buffered::Nothing;
@@ -312,8 +308,7 @@ impl<F: Flash> Paged<F> {
     pub fn fill(&mut self, at: u64, n: u64, byte: u8) -> Result<(), FlashFault>
         requires { at + n ≤ length self.old.device.content }
 
-        ensures after { HasFilled at n byte self.old.device
-            self.new.device result }
+        ensures after { HasFilled at n byte self.old.device self.new.device result }
         ensures dropped { self.new.held ≡ Nothing }
     {
         self.held = Buffered::Nothing;
@@ -349,8 +344,7 @@ impl<F: Flash> Paged<F> {
             (S.facts source.old) (S.facts source.new) (as_copy result) }
         ensures dropped { self.new.held ≡ Nothing }
         // If the source is honest, on any device.
-        ensures shown { IsTrue (S.facts source.old).honest → (seen : List ℕ)
-            → W.saw watch.old seen
+        ensures shown { IsTrue (S.facts source.old).honest → (seen : List ℕ) → W.saw watch.old seen
             → OnOk result (W.saw watch.new (seen ++ take n (S.facts source.old).content)) }
     {
         self.held = Buffered::Nothing;
@@ -364,9 +358,8 @@ impl<F: Flash> Paged<F> {
         ensures after { HasCopiedOut W.contents W.faults ((n + 4095) / 4096) at n
             self.old self.new out.old out.new result }
         ensures pieces { OnHonest self.old.device
-            (λ image. IsErrOf result CopyFault.Device
-            → AppendsPieces (W.contents out.old) (W.contents out.new)
-            (slice_range image at (at + n))) }
+            (λ image. IsErrOf result CopyFault.Device → AppendsPieces
+            (W.contents out.old) (W.contents out.new) (slice_range image at (at + n))) }
     {
         self.forget_piece();
         let _len = self.len();

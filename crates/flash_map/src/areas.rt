@@ -59,8 +59,7 @@ fn map_areas<F: Flash>(
 ) -> Result<Vec<NumberedArea>, CheckFault>
     requires { map.now.at + map_len map.now.head ≤ length paged.old.device.content }
 
-    ensures after { HasRead map.now.head.nareas (fault_count by_device result)
-        paged.old paged.new }
+    ensures after { HasRead map.now.head.nareas (fault_count by_device result) paged.old paged.new }
     ensures count { IfOk result (λ areas. length areas.items ≡ map.now.head.nareas) }
     ensures areas { OnHonest paged.old.device (λ image.
         IfOk result (λ areas. areas.items ≡ map_areas image map.now)) }

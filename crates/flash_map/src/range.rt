@@ -23,9 +23,8 @@ impl Model for Region {
 impl Region {
     /// Returns a range, or `None` past `image_len`.
     pub fn within(start: u64, size: u64, image_len: u64) -> Option<Region>
-        ensures { MatchOption result (image_len < start + size)
-            (λ region. (region ≡ record { start = start; size = size })
-            × (start + size ≤ image_len)) }
+        ensures { MatchOption result (image_len < start + size) (λ region.
+            (region ≡ record { start = start; size = size }) × (start + size ≤ image_len)) }
     {
         if start > image_len || size > image_len - start {
             return None;

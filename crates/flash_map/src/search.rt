@@ -152,13 +152,11 @@ fn head_in(bytes: &[u8; FmapHead::LENGTH], left: u64) -> Option<FmapHead>
 
 /// Reads an area by its index from 0.
 pub fn area<F: Flash>(paged: &mut Paged<F>, map: &FoundMap, i: u16) -> Result<Area, FlashFault>
-    requires inside { map.now.at + map_len map.now.head
-        ≤ length paged.old.device.content }
+    requires inside { map.now.at + map_len map.now.head ≤ length paged.old.device.content }
     requires number { i < map.now.head.nareas }
 
     ensures after { HasAnswered 1 paged.old paged.new result }
-    ensures area { OnHonest paged.old.device (λ image.
-        IfOk result
+    ensures area { OnHonest paged.old.device (λ image. IfOk result
         (λ area. area ≡ area_of (drop (map.now.at + fmap_head_len + area_len * i) image))) }
 {
     let _len = paged.len();
@@ -173,8 +171,7 @@ fn area_named<F: Flash>(
     map: &FoundMap,
     name: &[u8],
 ) -> Result<Option<Area>, FlashFault>
-    requires inside { map.now.at + map_len map.now.head
-        ≤ length paged.old.device.content }
+    requires inside { map.now.at + map_len map.now.head ≤ length paged.old.device.content }
 
     ensures after { HasAnswered map.now.head.nareas paged.old paged.new result }
     ensures first { OnHonest paged.old.device

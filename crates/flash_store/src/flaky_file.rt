@@ -80,8 +80,7 @@ impl FlakyFile {
         ensures interrupted { 0 < self.old.left → self.old.before ≡ 0
             → (result ≡ Err StorageFault.Interrupted)
             × (self.new ≡ record self.old { left = self.old.left - 1; before = self.old.between }) }
-        ensures made { 0 < self.old.left → 0 < self.old.before → IsOk result
-            × (self.new
+        ensures made { 0 < self.old.left → 0 < self.old.before → IsOk result × (self.new
             ≡ record self.old { left = self.old.left - 1; before = self.old.before - 1 }) }
         ensures same { (self.new.content ≡ self.old.content)
             × (self.new.written_at ≡ self.old.written_at)

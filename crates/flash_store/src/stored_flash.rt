@@ -53,8 +53,7 @@ impl<S: Storage> StoredFlash<S> {
     fn counted(&mut self, answer: Result<(), StorageFault>) -> Result<(), FlashFault>
         ensures passed { OnOk answer
             (IsOk result × (self.new ≡ record self.old { calls = self.old.calls + 1 })) }
-        ensures refused { OnErr answer (IsErr result
-            × (self.new
+        ensures refused { OnErr answer (IsErr result × (self.new
             ≡ record self.old { calls = self.old.calls + 1; faults = self.old.faults + 1 })) }
     {
         self.calls.tick();

@@ -36,12 +36,10 @@ fn format_place<F: Flash>(paged: &mut Paged<F>, place: Region) -> Result<(), Ref
 fn format_all<F: Flash>(paged: &mut Paged<F>, mut places: &[Region]) -> Result<(), Refusal>
     requires { All (IsPlace (length paged.old.device.content)) places.now }
 
-    ensures calls { Calls
-        (length places.entry.now * (length paged.old.device.content / 4096 + 2))
+    ensures calls { Calls (length places.entry.now * (length paged.old.device.content / 4096 + 2))
         (refusals result) paged.old.device paged.new.device }
     ensures is { OnErr result (result ≡ Err Refusal.Device) }
-    ensures formatted { OnHonest paged.old.device (λ image.
-        OnOk result (paged.new.device.content
+    ensures formatted { OnHonest paged.old.device (λ image. OnOk result (paged.new.device.content
         ≡ fold (λ x place. with_edit place formatted x) image places.entry.now)) }
 {
     while let [place, rest @ ..] = places {

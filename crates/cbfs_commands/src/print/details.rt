@@ -114,9 +114,8 @@ fn print_hash<F: Flash, W: Sink>(
 ) -> Result<(), Refusal>
     requires { IsComponentOf region cell.now paged.old.device }
 
-    ensures { HasOutput W.contents W.faults (1 + cell.now.span / 3840)
-        paged.old paged.new out.old out.new result (λ image.
-        shows (hash_text (cell_bytes region cell.now image))) }
+    ensures { HasOutput W.contents W.faults (1 + cell.now.span / 3840) paged.old paged.new
+        out.old out.new result (λ image. shows (hash_text (cell_bytes region cell.now image))) }
 {
     let state = check_hash(paged, region, cell)?;
     set_hash_row(row, &state);
@@ -133,10 +132,9 @@ pub fn print_details<F: Flash, W: Sink>(
 ) -> Result<(), Refusal>
     requires { IsComponentOf region cell.now paged.old.device }
 
-    ensures { HasOutput W.contents W.faults
-        (cell.now.head.offset / 8 + (1 + cell.now.span / 3840))
-        paged.old paged.new out.old out.new result (λ image.
-        shows (details (cell_bytes region cell.now image))) }
+    ensures { HasOutput W.contents W.faults (cell.now.head.offset / 8
+        + (1 + cell.now.span / 3840)) paged.old paged.new out.old out.new result
+        (λ image. shows (details (cell_bytes region cell.now image))) }
 {
     print_attributes(paged, region, cell, row, out)?;
     print_hash(paged, region, cell, row, out)

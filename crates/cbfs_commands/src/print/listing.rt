@@ -49,9 +49,8 @@ fn print_row<F: Flash, W: Sink>(
 ) -> Result<(), Refusal>
     requires { IsCellOf region cell.now paged.old.device }
 
-    ensures { HasOutput W.contents W.faults (2 + cell.now.span / 3840)
-        paged.old paged.new out.old out.new result (λ image.
-        shows (cell_row cell.now.at (cell_bytes region cell.now image))) }
+    ensures { HasOutput W.contents W.faults (2 + cell.now.span / 3840) paged.old paged.new out.old
+        out.new result (λ image. shows (cell_row cell.now.at (cell_bytes region cell.now image))) }
 {
     set_cell_row(paged, region, cell, buffer)?;
     put_row(out, buffer)
@@ -68,9 +67,8 @@ fn print_cell<F: Flash, W: Sink>(
 ) -> Result<(), Refusal>
     requires { IsCellOf region cell.now paged.old.device }
 
-    ensures { HasOutput W.contents W.faults
-        (2 + cell.now.span / 3840 + (if verbose then details_reads cell.now.span else 0))
-        paged.old paged.new out.old out.new result
+    ensures { HasOutput W.contents W.faults (2 + cell.now.span / 3840 + (if verbose
+        then details_reads cell.now.span else 0)) paged.old paged.new out.old out.new result
         (λ image. shows (shown_cell verbose cell.now.at (cell_bytes region cell.now image))) }
 {
     cells_stand_in_their_image();
@@ -89,10 +87,9 @@ fn print_region<F: Flash, W: Sink>(
 ) -> Result<(), Refusal>
     requires { LiesOn region paged.old.device }
 
-    ensures { HasOutput W.contents W.faults
-        ((if verbose then region.size / 4 else region.size / 16) + 2)
-        paged.old paged.new out.old out.new result (λ image.
-        print_region (bytes_in region image) verbose) }
+    ensures { HasOutput W.contents W.faults ((if verbose then region.size / 4 else region.size / 16)
+        + 2) paged.old paged.new out.old out.new result
+        (λ image. print_region (bytes_in region image) verbose) }
 {
     let mut buffer = ArrayVec::new();
     let mut walk = Walk::new(region);
@@ -110,9 +107,8 @@ pub fn print<F: Flash, W: Sink>(
     out: &mut W,
 ) -> Result<(), Refusal>
     ensures { HasOutput W.contents W.faults
-        (2 * length paged.old.device.content + 64)
-        paged.old paged.new out.old out.new result (λ image.
-        printed_in image name.now (λ x. print_region x verbose)) }
+        (2 * length paged.old.device.content + 64) paged.old paged.new out.old out.new result
+        (λ image. printed_in image name.now (λ x. print_region x verbose)) }
 {
     let region = flash_map::region(paged, name)?;
     print_region(paged, region, verbose, out)

@@ -45,8 +45,7 @@ fn push_content_changes<F: Flash, G: Flash>(
     pairs: &[AreaPair],
     pair: &AreaPair,
 ) -> Result<(), ChangeFault>
-    ensures after { HasCompared (blocks_of (left.old - left.new))
-        images.old images.new result }
+    ensures after { HasCompared (blocks_of (left.old - left.new)) images.old images.new result }
     ensures left { left.new ≡ left_after left.old
         (same_size_regions (lengths images.old) pair.now) }
     ensures fewer { left.new ≤ left.old }
@@ -71,8 +70,7 @@ fn push_changes<F: Flash, G: Flash>(
     pairs: &[AreaPair],
 ) -> Result<(), ChangeFault>
     ensures after { HasCompared
-        (8 * (lengths images.old).new / 4096 + length pairs.now)
-        images.old images.new result }
+        (8 * (lengths images.old).new / 4096 + length pairs.now) images.old images.new result }
     ensures changes { OnBoth images.old (λ x y. OnOk result (changes.new.items
         ≡ changes.old.items ++ area_changes_in x y pairs.now (8 * length y) pairs.now)) }
 {
@@ -85,8 +83,7 @@ fn push_changes<F: Flash, G: Flash>(
 }
 
 fn different_blocks<F: Flash, G: Flash>(images: &mut Images<F, G>) -> Result<u32, ChangeFault>
-    ensures after { HasCompared
-        (blocks_of (lengths images.old).new) images.old images.new result }
+    ensures after { HasCompared (blocks_of (lengths images.old).new) images.old images.new result }
     ensures blocks { OnBoth images.old (λ x y.
         IfOk result (λ blocks. blocks ≡ different_blocks x y)) }
 {
@@ -121,9 +118,8 @@ pub fn image_changes<'a, F: Flash, G: Flash>(
     areas: Areas<'a>,
 ) -> Result<ImageChanges, ChangeFault>
     // On any devices.
-    ensures after { HasCompared
-        (9 * (lengths images.old).new / 4096 + length areas.entry.new.now + 1)
-        images.old images.new result }
+    ensures after { HasCompared (9 * (lengths images.old).new / 4096
+        + length areas.entry.new.now + 1) images.old images.new result }
 
     // On honest devices.
     ensures blocks { OnBoth images.old (λ x y.

@@ -67,8 +67,7 @@ fn push_changes_of<'a, F: Flash, G: Flash>(
     requires regions { LieOn images.old (listed_regions lists.now) }
     requires listed { IsListedIn lists.now.new.region.size listed.now }
 
-    ensures after { HasCompared (2 + listed.now.cell.span / 4096)
-        images.old images.new result }
+    ensures after { HasCompared (2 + listed.now.cell.span / 4096) images.old images.new result }
     ensures changes { OnBothIn images.old (listed_regions lists.now)
         (λ x y. OnOk result (changes.new.items ≡ changes.old.items
         ++ new_changes x y lists.now.old.all.now lists.now.new.all.now listed.now)) }
@@ -95,8 +94,7 @@ fn push_changes<'a, F: Flash, G: Flash>(
 ) -> Result<(), ChangeFault>
     requires regions { LieOn images.old (listed_regions lists.now) }
 
-    ensures after { HasCompared (spans lists.now.new.all.now / 24)
-        images.old images.new result }
+    ensures after { HasCompared (spans lists.now.new.all.now / 24) images.old images.new result }
     ensures changes { OnBothIn images.old (listed_regions lists.now)
         (λ x y. OnOk result (changes.new.items ≡ changes.old.items ++ flat_map
         (new_changes x y lists.now.old.all.now lists.now.new.all.now) lists.now.new.all.now)) }
@@ -128,9 +126,8 @@ fn push_removed<'a>(
     changes: &mut Vec<ComponentChange>,
     lists: &Listings<'a>,
 ) -> Result<(), AllocError>
-    ensures { OnOk result (changes.new.items ≡ changes.old.items
-        ++ flat_map (removal_of lists.now.old.all.now lists.now.new.all.now)
-        lists.now.old.all.now) }
+    ensures { OnOk result (changes.new.items ≡ changes.old.items ++ flat_map
+        (removal_of lists.now.old.all.now lists.now.new.all.now) lists.now.old.all.now) }
 {
     for listed in lists.old.all {
         push_if_removed(alloc, changes, lists, listed)?;

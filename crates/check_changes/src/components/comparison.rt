@@ -28,8 +28,7 @@ pub fn difference<F: Flash, G: Flash>(
     requires old { IsListedIn regions.old.size old.now }
     requires new { IsListedIn regions.new.size new.now }
 
-    ensures after { HasCompared (2 + new.now.cell.span / 4096)
-        images.old images.new result }
+    ensures after { HasCompared (2 + new.now.cell.span / 4096) images.old images.new result }
     ensures difference { OnBothIn images.old regions (λ x y.
         IfOk result (λ what. what ≡ difference x y old.now.cell new.now.cell)) }
 {
@@ -86,11 +85,9 @@ fn same_range<F: Flash, G: Flash>(
     requires old_order { old.start ≤ old.end }
     requires new_order { new.start ≤ new.end }
 
-    ensures after { HasCompared (1 + (new.end - new.start) / 4096)
-        images.old images.new result }
-    ensures same { OnBothIn images.old regions (λ x y.
-        IfOk result (λ same. same ≡ bytes_eq (slice_range x old.start old.end)
-        (slice_range y new.start new.end))) }
+    ensures after { HasCompared (1 + (new.end - new.start) / 4096) images.old images.new result }
+    ensures same { OnBothIn images.old regions (λ x y. IfOk result (λ same. same
+        ≡ bytes_eq (slice_range x old.start old.end) (slice_range y new.start new.end))) }
 {
     let lens = images.lengths();
     let n = old.end - old.start;
@@ -113,10 +110,8 @@ fn same_bytes<F: Flash, G: Flash>(
     requires regions { LieOn images.old regions }
     requires same_size { regions.old.size ≡ regions.new.size }
 
-    ensures after { HasCompared (1 + regions.new.size / 4096)
-        images.old images.new result }
-    ensures same { OnBothIn images.old regions (λ x y.
-        IfOk result (λ same. same ≡ bytes_eq x y)) }
+    ensures after { HasCompared (1 + regions.new.size / 4096) images.old images.new result }
+    ensures same { OnBothIn images.old regions (λ x y. IfOk result (λ same. same ≡ bytes_eq x y)) }
 {
     for number in 0..blocks_of(regions.new.size()) {
         if images.is_different(regions, number)? {

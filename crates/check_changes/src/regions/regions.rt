@@ -28,8 +28,7 @@ fn push_changes<'a, F: Flash, G: Flash>(
     finding: &'a ImageFinding,
 ) -> Result<(), ChangeFault>
     ensures fewer { left.new ≤ left.old }
-    ensures after { HasReadFor
-        ((left.old - left.new + sum_sizes (region_area finding.now)) / 24
+    ensures after { HasReadFor ((left.old - left.new + sum_sizes (region_area finding.now)) / 24
         + 2 * length (region_area finding.now)) (sum_sizes (region_area finding.now) / 12
         + 2 * length (region_area finding.now)) images.old images.new result }
     ensures changes { OnBoth images.old (λ x y. OnOk result
@@ -68,15 +67,11 @@ pub fn region_changes<'a, F: Flash, G: Flash>(
     old_areas: &'a [NumberedArea],
     findings: &'a [ImageFinding],
 ) -> Result<Vec<RegionChange>, ChangeFault>
-    requires total { sum_sizes (region_areas findings.now)
-        ≤ 8 * (lengths images.old).new }
+    requires total { sum_sizes (region_areas findings.now) ≤ 8 * (lengths images.old).new }
 
     // On any devices.
-    ensures after { HasReadFor
-        (((lengths images.old).old
-        + 8 * (lengths images.old).new) / 24
-        + 2 * length (region_areas findings.now))
-        (8 * (lengths images.old).new / 12
+    ensures after { HasReadFor (((lengths images.old).old + 8 * (lengths images.old).new) / 24
+        + 2 * length (region_areas findings.now)) (8 * (lengths images.old).new / 12
         + 2 * length (region_areas findings.now)) images.old images.new result }
 
     // On honest devices.

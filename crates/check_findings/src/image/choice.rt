@@ -23,8 +23,7 @@ pub fn cbfs_areas<F: Flash>(
     paged: &mut Paged<F>,
     areas: &[NumberedArea],
 ) -> Result<Vec<NumberedArea>, CheckFault>
-    ensures after { HasRead (length areas.now) (fault_count by_device result)
-        paged.old paged.new }
+    ensures after { HasRead (length areas.now) (fault_count by_device result) paged.old paged.new }
     ensures areas { OnHonest paged.old.device (λ image.
         IfOk result (λ found. found.items ≡ cbfs_areas image areas.now)) }
 {
@@ -39,8 +38,7 @@ pub fn wanted_areas<F: Flash>(
     expected: &NameSet,
     areas: &[NumberedArea],
 ) -> Result<Vec<NumberedArea>, CheckFault>
-    ensures after { HasRead (length areas.now) (fault_count by_device result)
-        paged.old paged.new }
+    ensures after { HasRead (length areas.now) (fault_count by_device result) paged.old paged.new }
     ensures inside { IfOk result (λ wanted.
         All (λ a. area_end a.area ≤ length paged.old.device.content) wanted.items) }
     ensures count { IfOk result (λ wanted. length wanted.items ≤ length areas.now) }
@@ -66,10 +64,9 @@ fn is_wanted<F: Flash>(
     ensures after { HasAnswered 1 paged.old paged.new result }
     ensures inside { IfOk result (λ wanted. IsTrue wanted →
         area_end area.now.area ≤ length paged.old.device.content) }
-    ensures wanted { OnHonest paged.old.device (λ image.
-        (names : List (List ℕ)) (areas : List NumberedArea) →
-        HasNames expected.now names → HasStarts starts.now areas →
-        IfOk result (λ wanted. wanted ≡ is_wanted image names areas area.now)) }
+    ensures wanted { OnHonest paged.old.device (λ image. (names : List (List ℕ))
+        (areas : List NumberedArea) → HasNames expected.now names → HasStarts starts.now areas
+        → IfOk result (λ wanted. wanted ≡ is_wanted image names areas area.now)) }
 {
     let start = u64::from(area.area.offset);
     let size = u64::from(area.area.size);

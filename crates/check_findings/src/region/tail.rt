@@ -36,8 +36,7 @@ fn find_filled<F: Flash>(
 ) -> Result<Option<u64>, FlashFault>
     requires { Reaches region at paged.old.device }
 
-    ensures after { HasAnswered ((region.size - at + 4095) / 4096)
-        paged.old paged.new result }
+    ensures after { HasAnswered ((region.size - at + 4095) / 4096) paged.old paged.new result }
     ensures found { OnHonestIn paged.old.device region (λ x.
         IfOk result (λ found. found ≡ position_from is_filled at (tail_bytes at x))) }
 {
@@ -64,9 +63,8 @@ fn push_entries<F: Flash>(
 
     ensures after { HasRead ((region.size - at) / 64) (fault_count by_device result)
         paged.old paged.new }
-    ensures found { OnHonestIn paged.old.device region (λ x.
-        OnOk result (findings.new.items
-        ≡ findings.old.items ++ entries_findings ((length x - at) / 64) at x)) }
+    ensures found { OnHonestIn paged.old.device region (λ x. OnOk result
+        (findings.new.items ≡ findings.old.items ++ entries_findings ((length x - at) / 64) at x)) }
 {
     let lines = (region.size() - at) / 64;
     for i in 0..lines {

@@ -65,8 +65,7 @@ impl<W: Sink + Drop> Printer<W> {
     /// Prints the part between the components and the rows.
     #[tactic(auto, unfolding(json::specs::Print::print_from, json::specs::Print::escape_byte))]
     pub fn between(&mut self) -> Result<(), WriteFault>
-        ensures { Prints W.contents W.faults result self.old self.new
-            (part self.old.form false []
+        ensures { Prints W.contents W.faults result self.old self.new (part self.old.form false []
             (end_array ∷ key (codes "rows") ∷ begin_array ∷ [])) false }
     {
         self.follows = false;

@@ -35,8 +35,7 @@ fn push_name(text: &mut Vec<u8>, name: &[u8]) -> Result<(), AllocError>
 }
 
 fn push_field(text: &mut Vec<u8>, field: Field<'_>) -> Result<(), AllocError>
-    ensures { OnOk result (text.new.items
-        ≡ text.old.items ++ field_text (seen_field field.entry)) }
+    ensures { OnOk result (text.new.items ≡ text.old.items ++ field_text (seen_field field.entry)) }
 {
     if matches!(field.1, Value::Absent | Value::Code(_)) {
         return Ok(());
