@@ -197,8 +197,7 @@ pub record HasApplied {F : Type 0} (n : ℕ) (change : Change)
   pub no_output : IsErrOf answer refusals.Output → ⊥
   pub spares : OnHonest old.device (λ image.
       SparesOutside (change.target image) image new.device.content)
-  pub refused : OnHonest old.device (λ image.
-      MayHaveWritten answer ⊎ (new.device.content ≡ image))
+  pub refused : OnHonest old.device (λ image. MayHaveWritten answer ⊎ (new.device.content ≡ image))
   pub left : OnHonest old.device (λ image. Serves (changes change) source
       → LeavesOr new.device.content answer (outcome (changes change) image source.content))
   pub stopped : OnHonest old.device (λ image. Serves (changes change) source
@@ -220,8 +219,7 @@ pub record HasRun {F S W : Type 0} (sources : S → Device)
       → IsTrue (writes_output d) × (faults out_old < faults out_new)
   pub spares : OnHonest old.device (λ image.
       SparesOutside ((change_of d).target image) image new.device.content)
-  pub refused : OnHonest old.device (λ image.
-      MayHaveWritten answer ⊎ (new.device.content ≡ image))
+  pub refused : OnHonest old.device (λ image. MayHaveWritten answer ⊎ (new.device.content ≡ image))
   pub outcome : OnHonest old.device (λ image.
       Serves d (sources source_old) → Meets d (contents out_old) (contents out_new) image
       (sources source_old).content new.device.content answer)

@@ -103,8 +103,7 @@ pub record RowsAreReadBack : Type 0 where
       → IsSameCell at x other y × (more ≡ rest)
   pub listings : (at other : ℕ) (cells others : List (List ℕ))
       → HaveNumbers at cells → HaveNumbers other others
-      → rows_from false at cells ≡ rows_from false other others
-      → AreSameCells at cells other others
+      → rows_from false at cells ≡ rows_from false other others → AreSameCells at cells other others
 
 pub record HasAreaNumbers (a : Area) : Type 0 where
   pub offset : a.offset < 2 ^ 64
@@ -141,9 +140,8 @@ pub record IsSameMap (q : ℕ) (h : FmapHead) (p : ℕ) (k : FmapHead) : Type 0 
 
 -- Different maps and areas have different lines, for any later text, and different layouts.
 pub record LinesAreReadBack : Type 0 where
-  pub maps : (q p : ℕ) (h k : FmapHead) (more rest : List ℕ) → HasMapNumbers q h
-      → HasMapNumbers p k → map_line q h ++ more ≡ map_line p k ++ rest
-      → IsSameMap q h p k × (more ≡ rest)
+  pub maps : (q p : ℕ) (h k : FmapHead) (more rest : List ℕ) → HasMapNumbers q h → HasMapNumbers p k
+      → map_line q h ++ more ≡ map_line p k ++ rest → IsSameMap q h p k × (more ≡ rest)
   pub areas : (a b : Area) (more rest : List ℕ) → HasAreaNumbers a → HasAreaNumbers b
       → area_line a ++ more ≡ area_line b ++ rest → IsSameArea a b × (more ≡ rest)
   pub all_areas : (areas others : List Area) → HaveAreaNumbers areas → HaveAreaNumbers others

@@ -22,9 +22,8 @@ pub record Outcome : Type 0 where
   pub image : List ℕ
 
 abbrev pub printed_in : List ℕ → List ℕ → (List ℕ → Printout) → Printout
-printed_in image name tell =
-    fault_or (λ fault. refuses (store_refusal fault)) (region_of image name)
-    (λ region. tell (bytes_in region image))
+printed_in image name tell = fault_or (λ fault. refuses (store_refusal fault))
+    (region_of image name) (λ region. tell (bytes_in region image))
 
 -- ---- print
 
@@ -48,9 +47,8 @@ printed_component c =
     if is_packed c.attributes then refuses refusals.Compressed else shows c.content
 
 abbrev pub extract_region : List ℕ → List ℕ → Printout
-extract_region x name =
-    fault_or (λ fault. refuses (walk_refusal fault)) (component_in x name) (λ found.
-    option_map_or printed_component found (refuses refusals.NotFound))
+extract_region x name = fault_or (λ fault. refuses (walk_refusal fault)) (component_in x name)
+    (λ found. option_map_or printed_component found (refuses refusals.NotFound))
 
 -- ---- the effect of a call
 

@@ -50,9 +50,8 @@ comparison stored computed =
 -- by the data of a hash attribute, if any
 abbrev pub state_by : Option (List ℕ) → List ℕ → HashState
 state_by None content = Absent
-state_by (Some contents) content =
-    option_map_or (λ stored. comparison stored (digest_like stored content))
-    (stored_digest contents) Unsupported
+state_by (Some contents) content = option_map_or
+    (λ stored. comparison stored (digest_like stored content)) (stored_digest contents) Unsupported
 
 -- by the first hash attribute
 abbrev pub hash_state : List Attribute → List ℕ → HashState

@@ -28,13 +28,11 @@ pub record Passes {F : Type 0} (region : Range) (at end refused : ℕ)
   pub read : HasRead (reads_over (end - at)) refused old new
 
 -- such reads by a call that fails if a read fails
-abbrev pub HasPassed : {F T E : Type 0} → Range → ℕ → ℕ → Pages F → Pages F
-    → Result T E → Type 0
+abbrev pub HasPassed : {F T E : Type 0} → Range → ℕ → ℕ → Pages F → Pages F → Result T E → Type 0
 HasPassed region at end old new result = Passes region at end (refusals result) old new
 
 -- on an honest device, success returns a function of the region's bytes
-abbrev pub ReadsAs : {F T E : Type 0} → Pages F → Range → Result T E
-    → (List ℕ → T) → Type 0
+abbrev pub ReadsAs : {F T E : Type 0} → Pages F → Range → Result T E → (List ℕ → T) → Type 0
 ReadsAs old region result answer =
     OnHonestIn old.device region (λ x. IfOk result (λ read. read ≡ answer x))
 
@@ -61,8 +59,7 @@ answer_by rest at (cell span) =
 
 -- the result after the checks of the head, given the bytes from the cell on
 abbrev pub answer_of : List ℕ → Cell → StepResult
-answer_of rest c =
-    answer_by rest c.at
+answer_of rest c = answer_by rest c.at
     (present c.head rest (Ok (record { content = c.head.offset; span = c.span })))
 
 unfoldable pub answer_at : List ℕ → ℕ → StepResult
@@ -78,8 +75,7 @@ StandsIn x c = answer_at x c.at ≡ Ok (steps.Cell c)
 -- on an honest device, success returns a function of the cell's bytes
 abbrev pub ReadsCellAs : {F T E : Type 0} → Pages F → Range → Cell → Result T E
     → (List ℕ → T) → Type 0
-ReadsCellAs old region c result answer =
-    OnHonestIn old.device region
+ReadsCellAs old region c result answer = OnHonestIn old.device region
     (λ x. StandsIn x c → IfOk result (λ read. read ≡ answer (cell_in x c)))
 
 abbrev pub by_device : WalkFault → ℕ

@@ -47,9 +47,8 @@ has_smaller areas a = list_any (begins_at a.area.offset a.area.size) areas
 -- the area lies inside the image, and has a name of the list, or begins with an entry and is the
 -- smallest at its offset
 abbrev pub is_wanted : List ℕ → List (List ℕ) → List NumberedArea → NumberedArea → Bool
-is_wanted image names areas a =
-    nat_le (area_end a.area) (length image) && (has_one_of names a
-    || (not (has_smaller areas a) && begins_with_entry (bytes_of image a)))
+is_wanted image names areas a = nat_le (area_end a.area) (length image)
+    && (has_one_of names a || (not (has_smaller areas a) && begins_with_entry (bytes_of image a)))
 
 abbrev pub wanted_areas : List ℕ → List (List ℕ) → List NumberedArea → List NumberedArea
 wanted_areas image names areas = filter (is_wanted image names areas) areas

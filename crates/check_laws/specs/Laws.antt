@@ -23,9 +23,8 @@ IsPrinted x = (verbose : Bool) → print_region x verbose ≡ shows (rows_from v
 
 -- `print` of the area by name lists all cells, and succeeds
 abbrev pub IsListed : List ℕ → NumberedArea → Type 0
-IsListed image a = (verbose : Bool)
-    → printed_in image (text_of a.area.name) (λ x. print_region x verbose)
-    ≡ shows (rows_from verbose 0 (cut (bytes_of image a)).cells)
+IsListed image a = (verbose : Bool) → printed_in image (text_of a.area.name)
+    (λ x. print_region x verbose) ≡ shows (rows_from verbose 0 (cut (bytes_of image a)).cells)
 
 -- `extract` by both names returns the content of each uncompressed component
 abbrev pub IsExtracted : List ℕ → NumberedArea → Type 0

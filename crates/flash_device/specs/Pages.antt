@@ -40,8 +40,7 @@ held_in buffer (code.Piece size) = Piece (take size buffer)
 
 -- a window lies inside the device, and equals an honest device's bytes
 abbrev pub IsTrueTo : Device → Held → Type 0
-IsTrueTo device (Window at bytes) =
-    (at + length bytes ≤ length device.content)
+IsTrueTo device (Window at bytes) = (at + length bytes ≤ length device.content)
     × (IsTrue device.honest → bytes ≡ slice_range device.content at (at + length bytes))
 IsTrueTo device _ = Unit {0}
 

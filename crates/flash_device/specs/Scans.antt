@@ -14,8 +14,7 @@ module _ {F : Type 0} where
   pub record HasScanned (start at : ℕ) (old new : Pages F) : Type 0 where
     pub spent : HasSpent start at 0 old new
     pub paid : (q n : ℕ) → at ≤ q → n ≤ 256 → q + n ≤ length old.device.content
-        → (Covers new.held q n → ⊥)
-        → new.device.calls ≤ old.device.calls + (q - start) / 3840
+        → (Covers new.held q n → ⊥) → new.device.calls ≤ old.device.calls + (q - start) / 3840
 
   -- from `at` to `end` without faults, after any earlier reads
   pub record ScansTo (at end : ℕ) (old new : Pages F) : Type 0 where

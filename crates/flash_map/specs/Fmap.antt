@@ -20,9 +20,8 @@ map_head_in bytes left =
 
 -- the lowest from an offset on
 abbrev pub found_from : ℕ → List ℕ → Option FoundMap
-found_from place image =
-    option_map (λ q. record { at = q; head = fmap_head_of (drop q image) })
-    (map_from place (drop place image))
+found_from place image = option_map
+    (λ q. record { at = q; head = fmap_head_of (drop q image) }) (map_from place (drop place image))
 
 abbrev pub found_in : List ℕ → Option FoundMap
 found_in image = found_from 0 image

@@ -43,8 +43,7 @@ pub record HasWrittenSome {E : Type 0} (at : ℕ) (bytes : List ℕ) (old new : 
   pub torn : IsTrue old.faithful → SameOutside at (length bytes) old.content new.content
   pub same : IsTrue old.faithful → overwritten old.content at bytes ≡ old.content
       → new.content ≡ old.content
-  pub whole : IsTrue old.faithful → length bytes ≤ header_length
-      → IsReserved at (length bytes) old
+  pub whole : IsTrue old.faithful → length bytes ≤ header_length → IsReserved at (length bytes) old
       → (new.content ≡ old.content) ⊎ (new.content ≡ overwritten old.content at bytes)
   pub room : IsTrue old.faithful → length bytes ≤ header_length
       → IfOk result (λ k. k ≡ length bytes → IsReserved at (length bytes) new)
