@@ -161,7 +161,7 @@ fn walk_on(
     start: usize,
     told: &mut Vec<u8>,
 ) -> Result<bool, AllocError>
-    requires { LiesOn walk.old.region (⟦<MemFlash as Flash>⟧.facts paged.old.device) }
+    requires { LiesOn walk.old.region paged.old.device }
 {
     loop {
         match walk.next(paged) {
