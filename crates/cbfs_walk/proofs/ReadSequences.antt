@@ -1,8 +1,8 @@
 -- Consecutive reads.
-use Rattle.std.proofs.Common.{◌≡◌, ◌⊎◌, inl, inr, ⊎_elim, ℕ, ◌+◌, ◌-◌, ◌*◌, ◌/◌, ◌<◌, ◌≤◌, Result, Ok, Err, ◌∙◌, refl, sym, subst, arith, le_refl}
+use Rattle.std.proofs.Common.{◌≡◌, ◌⊎◌, inl, inr, ⊎_elim, ℕ, ◌+◌, ◌-◌, ◌*◌, ◌<◌, ◌≤◌, Result, Ok, Err, ◌∙◌, refl, sym, subst, arith, le_refl}
 use Rattle.std.specs.Prelude.{IfOk, OnOk, length}
-use Rattle.flash_device.specs.Device.{Device, refusals}
-use Rattle.flash_device.specs.Pages.{Pages, Covers, HasRead, HasAnswered, HasSeen}
+use Rattle.flash_device.specs.Device.{refusals}
+use Rattle.flash_device.specs.Pages.{Pages, HasAnswered, HasSeen}
 use Rattle.flash_device.specs.Regions.{Range, LiesOn}
 use Rattle.flash_device.proofs.DeviceLemmas.{refusals-ok}
 use Rattle.flash_device.proofs.WindowLemmas.{HasRead-none, HasRead-then, HasRead-at_most, HasRead-within, ahead_covers, covered}
@@ -50,9 +50,9 @@ Passes-then {F} {r} {at} {p} {q} {next} {end} {last} {refused} {old} {mid} {new}
     let Spent = (new.device.calls ≤ old.device.calls) ⊎ ((s : ℕ) × (m : ℕ) × IsLoad old (r.start + at) s m × (3840 * new.device.calls + s ≤ 3840 * old.device.calls + r.start + last + 3840)) in
     let before = λ (s m : ℕ) (load : IsLoad mid (r.start + next) s m). first.paid refl s m (omega (arith, load.0, order), load.1, load.2, load.3) in
     let spent : Spent = ⊎_elim
-        (λ few. ⊎_elim (λ none. inl (omega (arith, few, none))) (λ s. inr (s.0, s.1, (omega (arith, s.2.0, low), s.2.1, s.2.2, s.2.3), omega (arith, few, s.3, order, high, second.order))) first.spent)
-        (λ s. let f = before s.0 s.1 s.2 in inr (f.0, f.1, (omega (arith, f.2.0, low), f.2.1, f.2.2, f.2.3), omega (arith, f.3, s.3, high)))
-        second.spent in
+    (λ few. ⊎_elim (λ none. inl (omega (arith, few, none))) (λ s. inr (s.0, s.1, (omega (arith, s.2.0, low), s.2.1, s.2.2, s.2.3), omega (arith, few, s.3, order, high, second.order))) first.spent)
+    (λ s. let f = before s.0 s.1 s.2 in inr (f.0, f.1, (omega (arith, f.2.0, low), f.2.1, f.2.2, f.2.3), omega (arith, f.3, s.3, high)))
+    second.spent in
     record {
       order = omega (arith, low, first.order, order, second.order, high);
       read = HasRead-at_most (reads_over (q - p) + reads_over (end - next)) (reads_over (last - at)) refused old new

@@ -1,16 +1,16 @@
 -- Reads through the window: effects and numbers of calls, for all crates which read devices.
-use Rattle.std.proofs.Common.{◌≡◌, ◌∙◌, ℕ, ◌+◌, ◌-◌, ◌*◌, ◌/◌, ◌<◌, ◌≤◌, IsTrue, List, length, take, min, sym, subst, arith, le_refl, ⊎_elim}
+use Rattle.std.proofs.Common.{◌≡◌, ◌∙◌, ℕ, ◌+◌, ◌-◌, ◌≤◌, IsTrue, List, length, take, min, sym, arith, ⊎_elim}
 use Rattle.std.proofs.Common.{length-take}
-use Rattle.std.specs.Prelude.{slice_range, Result, Ok, Err, IsOk}
+use Rattle.std.specs.Prelude.{slice_range}
 use Rattle.std.proofs.lemmas.Bool.{cases_lt}
 use Rattle.std.proofs.lemmas.List.{take-take}
 use Rattle.std.proofs.Math.Seq.{take-length}
-use Rattle.flash_device.specs.Device.{Device, refusals}
-use Rattle.flash_device.specs.Pages.{Held, Nothing, Window, Piece, Pages, IsTrueTo, Covers, held_in, HasRead, HasSeen}
+use Rattle.flash_device.specs.Device.{Device}
+use Rattle.flash_device.specs.Pages.{Held, Nothing, Window, Piece, Pages, IsTrueTo, Covers, held_in, HasRead}
 use Rattle.flash_device.specs.declared.paged.Buffered.{Buffered}
 use Rattle.flash_device.specs.declared.paged.Buffered.TheVariants as code
 use Rattle.flash_device.proofs.BytesLemmas.{part_of_window}
-use Rattle.flash_device.proofs.DeviceLemmas.{refusals-ok, Calls-at_most, Reads-none, Reads-then}
+use Rattle.flash_device.proofs.DeviceLemmas.{Calls-at_most, Reads-none, Reads-then}
 
 -- a part of a buffer with a window over the part
 pub part_read : (device : Device) (buffer : List ℕ) (held : Buffered) (from size at n : ℕ) → held ≡ code.Window from size → IsTrueTo device (held_in buffer held) → Covers (held_in buffer held) at n → IsTrue device.honest
