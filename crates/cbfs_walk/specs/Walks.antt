@@ -24,9 +24,9 @@ abbrev pub IsLoad : {F : Type 0} → Pages F → ℕ → ℕ → ℕ → Type 0
 IsLoad p at q n =
     (at ≤ q) × (n ≤ 256) × (q + n ≤ length p.device.content) × (Covers p.held q n → ⊥)
 
--- Ordered reads between two positions of a region, with the number of faults. A call loads 3840 bytes
--- or more for later reads: so the distance between a possible load before these reads and one after
--- them covers the calls (`paid`), all but the last call if a read fails (`spent`).
+-- Ordered reads between two positions of a region, with the number of faults. A call loads at least
+-- 3840 bytes for later reads. So the distance between a load before these reads and a load after
+-- them covers the calls (`paid`). Otherwise it covers all calls except the last one (`spent`).
 pub record Passes {F : Type 0} (region : Range) (at end refused : ℕ)
     (old new : Pages F) : Type 0 where
   pub order : at ≤ end
