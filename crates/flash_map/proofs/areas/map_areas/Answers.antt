@@ -1,4 +1,4 @@
-use Rattle.std.proofs.Common.{◌+◌, ◌∙◌, [], ◌∷◌, drop, length, ap, arith, length-append}
+use Rattle.std.proofs.Common.{◌+◌, ◌∙◌, [], ◌∷◌, drop, length, ap, arith, length-append, rules}
 use Rattle.flash_format.specs.Flashmap.{areas_from}
 use Rattle.flash_device.proofs.DeviceLemmas.{honest_still}
 use Rattle.flash_device.proofs.WindowLemmas.{HasRead-then}
@@ -20,7 +20,4 @@ loop-number-preserved g c =
     }
 
 pub returns-clause-areas : goal.returns-clause-areas
-returns-clause-areas g c = λ h.
-    let map = c.args.map.now in
-    let image = c.args.paged.now.device.content in
-    c.loop-number.invariant.areas h ∙ ap (λ n. numbered_from 0 (areas_from n (drop (map.at + 56) image))) {x = c.loop-number.number} {y = map.head.nareas} (omega arith)
+returns-clause-areas g c = grind arith
