@@ -8,7 +8,6 @@ use Rattle.flash_format.specs.declared.attribute.AttrHead.{AttrHead}
 use Rattle.flash_format.specs.Head.{be32, is_free}
 use Rattle.flash_format.specs.Entry.{Attribute, attribute, attributes, attr_head_of, data_of, least_len, COMPRESSION, name_end}
 use Rattle.flash_format.specs.Components.{packing, cell_attributes}
-use Rattle.flash_device.specs.Device.{Device}
 use Rattle.flash_device.specs.Pages.{Pages}
 use Rattle.flash_device.specs.Regions.{Range, LiesIn, LiesOn, bytes_in}
 use Rattle.cbfs_walk.specs.Walks.{Passes, StandsIn}

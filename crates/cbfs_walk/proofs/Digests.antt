@@ -14,7 +14,6 @@ use Rattle.flash_format.specs.Head.{be32}
 use Rattle.flash_format.specs.Entry.{data_of, HASH}
 use Rattle.flash_format.specs.Components.{cell_attributes, cell_content}
 use Rattle.std.proofs.lemmas.List.{take-append-drop}
-use Rattle.flash_device.specs.Device.{Device}
 use Rattle.flash_device.specs.Pages.{Pages}
 use Rattle.flash_device.specs.Regions.{Range, LiesIn, bytes_in}
 use Rattle.cbfs_walk.specs.Walks.{Passes, StandsIn}

@@ -6,7 +6,7 @@ use Rattle.flash_format.specs.declared.head.Head.{Head}
 use Rattle.flash_format.specs.Head.{head_of, is_free}
 use Rattle.flash_format.specs.Cut.{Cut}
 use Rattle.flash_format.specs.Components.{Component, cell_name, component_at, components_from}
-use Rattle.flash_device.specs.Device.{Device, fault_count}
+use Rattle.flash_device.specs.Device.{fault_count}
 use Rattle.flash_device.specs.Pages.{Pages, HasRead}
 use Rattle.flash_device.specs.Regions.{Range, LiesOn, bytes_in}
 use Rattle.cbfs_walk.specs.Walks.{reads_over, StepResult, Walking, walk_of, answer_at, StandsIn, GivesCell, reads_at, by_device, walk_after}

@@ -1,9 +1,8 @@
 -- Walks over the cells of a region, and ordered reads.
-use Rattle.std.specs.Prelude.{◌≡◌, ℕ, ◌+◌, ◌-◌, ◌/◌, List, Result, IfOk, length, drop, Option, Some, None, Ok, Err, ◌==◌, if◌then◌else◌, ⊤}
-use Rattle.flash_device.specs.Device.{Device, refusals}
-use Rattle.flash_device.specs.Pages.{Pages, HasRead, OnHonestIn}
+use Rattle.std.specs.Prelude.{◌≡◌, ◌⊎◌, ◌*◌, ◌≤◌, ℕ, ◌+◌, ◌-◌, ◌/◌, List, Result, IfOk, length, drop, Option, Some, None, Ok, Err, ◌==◌, if◌then◌else◌, ⊤}
+use Rattle.flash_device.specs.Device.{refusals}
+use Rattle.flash_device.specs.Pages.{Pages, Covers, HasRead, OnHonestIn}
 use Rattle.flash_device.specs.Regions.{Range}
-use Rattle.flash_device.specs.Scans.{ScansTo, SpendsTo}
 use Rattle.flash_format.specs.Head.{head_of}
 use Rattle.flash_format.specs.Entry.{Entry, absent, damaged, cell, entry, present}
 use Rattle.cbfs_walk.specs.Cells.{IsCellIn, cell_in}
@@ -20,12 +19,24 @@ use Rattle.flash_format.specs.declared.head.DamageKind.{DamageKind}
 abbrev pub reads_over : ℕ → ℕ
 reads_over n = 1 + n / 3840
 
--- ordered reads between two positions of a region, with the number of faults
+-- a read of n bytes at q, from `at` on, which needs a call
+abbrev pub IsLoad : {F : Type 0} → Pages F → ℕ → ℕ → ℕ → Type 0
+IsLoad p at q n =
+    (at ≤ q) × (n ≤ 256) × (q + n ≤ length p.device.content) × (Covers p.held q n → ⊥)
+
+-- Ordered reads between two positions of a region, with the number of faults. A call loads 3840 bytes
+-- or more for later reads: so the distance between a possible load before these reads and one after
+-- them covers the calls (`paid`), all but the last call if a read fails (`spent`).
 pub record Passes {F : Type 0} (region : Range) (at end refused : ℕ)
     (old new : Pages F) : Type 0 where
-  pub spends : SpendsTo (region.start + at) (region.start + end) refused old new
-  pub scans : refused ≡ 0 → ScansTo (region.start + at) (region.start + end) old new
+  pub order : at ≤ end
   pub read : HasRead (reads_over (end - at)) refused old new
+  pub paid : refused ≡ 0 → (q n : ℕ) → IsLoad new (region.start + end) q n
+      → (p : ℕ) × (m : ℕ) × IsLoad old (region.start + at) p m
+      × (3840 * new.device.calls + p ≤ 3840 * old.device.calls + q)
+  pub spent : (new.device.calls ≤ old.device.calls)
+      ⊎ ((p : ℕ) × (m : ℕ) × IsLoad old (region.start + at) p m
+      × (3840 * new.device.calls + p ≤ 3840 * old.device.calls + region.start + end + 3840))
 
 -- such reads by a call that fails if a read fails
 abbrev pub HasPassed : {F T E : Type 0} → Range → ℕ → ℕ → Pages F → Pages F → Result T E → Type 0

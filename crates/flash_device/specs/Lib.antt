@@ -5,4 +5,3 @@ pub mod Numbers
 pub mod Output
 pub mod Pages
 pub mod Regions
-pub mod Scans
