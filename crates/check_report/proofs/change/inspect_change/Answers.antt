@@ -7,3 +7,4 @@ use Rattle.check_report.proofs.change.inspect_change.Goals as goal
 
 pub returns-clause-inspection : goal.returns-clause-inspection
 returns-clause-inspection g c = grind arith
+
