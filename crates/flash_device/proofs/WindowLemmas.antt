@@ -1,5 +1,5 @@
 -- Reads through the window: effects and numbers of calls, for all crates which read devices.
-use Rattle.std.proofs.Common.{◌≡◌, ◌∙◌, ℕ, ◌+◌, ◌-◌, ◌≤◌, IsTrue, List, length, take, min, sym, arith, ⊎_elim}
+use Rattle.std.proofs.Common.{◌≡◌, ◌∙◌, ℕ, ◌+◌, ◌-◌, ◌≤◌, IsTrue, List, length, take, min, sym, arith, ⊎_elim, rules}
 use Rattle.std.proofs.Common.{length-take}
 use Rattle.std.specs.Prelude.{slice_range}
 use Rattle.std.proofs.lemmas.Bool.{cases_lt}
@@ -31,17 +31,11 @@ pub HasRead-none : {F : Type 0} (p : Pages F) → HasRead 0 0 p p
 HasRead-none p = record { device = Reads-none p.device; window = λ h. h }
 
 pub HasRead-then : {F : Type 0} (n k refused : ℕ) (old mid new : Pages F) → HasRead n 0 old mid → HasRead k refused mid new → HasRead (n + k) refused old new
-HasRead-then n k refused old mid new first second = record {
-  device = Reads-then n k refused _ _ _ first.device second.device;
-  window = λ h. second.window (first.window h);
-}
+HasRead-then n k refused old mid new first second = grind arith
 
 -- with a larger bound
 pub HasRead-at_most : {F : Type 0} (k n refused : ℕ) (old new : Pages F) → new.device.calls ≤ old.device.calls + n → HasRead k refused old new → HasRead n refused old new
-HasRead-at_most k n refused old new few read = record {
-  device = record { calls = Calls-at_most k n refused _ _ few read.device.calls; unchanged = read.device.unchanged };
-  window = read.window;
-}
+HasRead-at_most k n refused old new few read = grind arith
 
 pub HasRead-within : {F : Type 0} (n k refused : ℕ) (old new : Pages F) → n ≤ k → HasRead n refused old new → HasRead k refused old new
 HasRead-within n k refused old new le read = HasRead-at_most n k refused old new (omega (arith, read.device.calls.no_more, le)) read
