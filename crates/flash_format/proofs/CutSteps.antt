@@ -21,14 +21,7 @@ pub record IsChecked (h : Head) (left : ℕ) (e : Extent) : Type 0 where
 
 pub checked_ok : (h : Head) (left : ℕ) (e : Extent) → extent_of h left ≡ Ok e → IsChecked h left e
 unfolding extent_of
-checked_ok h left e ok =
-    record {
-      front = grind (arith, nat_tests);
-      placed = λ f. grind (arith, nat_tests);
-      inside = grind (arith, nat_tests);
-      content = grind (arith, nat_tests);
-      span = grind (arith, nat_tests);
-    }
+checked_ok h left e ok = grind (arith, nat_tests)
 
 -- the properties of a cell
 pub record IsCell (x : List ℕ) (span : ℕ) : Type 0 where
@@ -46,21 +39,11 @@ pub head_is : (x : List ℕ) (h : Head) → head_at x ≡ Some h → head_of x �
 head_is x h e = grind (arith, nat_tests)
 
 pub front_some : (x : List ℕ) (h : Head) → front x ≡ Some h → (24 ≤ length x) × (head_at x ≡ Some h) × (h ≡ head_of x)
-front_some x h e =
-    let long : 24 ≤ length x = grind (arith, nat_tests) in
-    let there = rw (le-ltb (length x) 24 long) at e in
-    (long, there, sym (head_is x h there))
+front_some x h e = grind (arith, nat_tests)
 
 pub cell_is : (x : List ℕ) (span : ℕ) → entry x ≡ cell span → IsCell x span
 unfolding entry
-cell_is x span e = go (front x) refl e
-  where
-    go : (o : Option Head) → front x ≡ o → option_map_or (λ h. present h x (extent_of h (length x))) o absent ≡ cell span → IsCell x span
-    go None f p = absurd cc
-    go (Some h) f p =
-        let s = front_some x h f in
-        let q = present_cell h x (extent_of h (length x)) span p in
-        record { long = s.0; head = s.1 ∙ ap (λ (y : Head). Some y) s.2; extent = q.0; checks = ap (λ (y : Head). extent_of y (length x)) (sym s.2) ∙ q.1; spans = q.2 }
+cell_is x span e = grind (arith, nat_tests, front_some, present_cell)
 
 pub cell_span : (x : List ℕ) (span : ℕ) → entry x ≡ cell span → IsSpan x span
 cell_span x span e =

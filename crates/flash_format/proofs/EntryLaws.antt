@@ -55,9 +55,7 @@ pub up : (n : ℕ) → n ≤ round64 n
 up n = omega arith
 
 content_within : (x : List ℕ) (span : ℕ) → IsCell x span → (head_of x).offset + (head_of x).len ≤ span
-content_within x span c =
-    let k = checked_ok (head_of x) (length x) c.extent c.checks in
-    omega (arith, up ((head_of x).offset + (head_of x).len), k.span, c.spans)
+content_within x span c = grind (arith, nat_tests, checked_ok, up)
 
 -- a cell with a checked head, free or not
 pub present_by : (free : Bool) (h : Head) (x : List ℕ) (e : Extent) → is_free h ≡ free → present h x (Ok e) ≡ cond free (cell e.span) (component h x e.span)

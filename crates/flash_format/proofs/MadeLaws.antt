@@ -73,10 +73,7 @@ gap_ends _ = refl
 
 hash_head : (number : ℕ) (bytes more : List ℕ) → length bytes ≤ 64 → attr_head_of (hash_attribute number bytes ++ more) ≡ record { tag = HASH; len = 12 + length bytes }
 unfolding attr_head_of hash_attribute
-hash_head number bytes more few =
-    let tag : be32 0 (hash_attribute number bytes ++ more) ≡ HASH = big_number-reads_back 4 HASH [] (lit< tt) in
-    let len : be32 4 (hash_attribute number bytes ++ more) ≡ 12 + length bytes = big_number-reads_back 4 (12 + length bytes) [] (omega arith) in
-    rw (tag, len) refl
+hash_head number bytes more few = grind (arith, nat_tests, big_number-reads_back)
 
 length-hash : (number : ℕ) (bytes : List ℕ) → length (hash_attribute number bytes) ≡ 12 + length bytes
 unfolding hash_attribute
@@ -90,26 +87,7 @@ hash_value number bytes more =
 
 hash_read : (number : ℕ) (bytes : List ℕ) (gap : ℕ) → length bytes ≤ 64
     → attributes (hash_attribute number bytes ++ replicate gap 255) ≡ Some (record { tag = HASH; contents = big_bytes 4 number ++ bytes } ∷ [])
-hash_read number bytes gap few =
-    let spare : List ℕ = replicate gap 255 in
-    let x : List ℕ = hash_attribute number bytes ++ spare in
-    let head : attr_head_of x ≡ record { tag = HASH; len = 12 + length bytes } = hash_head number bytes spare few in
-    let long : 12 + length bytes ≤ length x = omega (arith, length-hash number bytes, length-append (hash_attribute number bytes) spare) in
-    let goes_on : ends_list x ≡ false =
-    or_from (ltb (length x) 8) (is_unused (attr_head_of x).tag) (le-ltb (length x) 8 (omega (arith, long))) (ap (λ (h : AttrHead). is_unused h.tag) head) in
-    let formed : is_malformed x ≡ false =
-    ap (λ (h : AttrHead). has_bad_len h (length x)) head
-    ∙ or_from (ltb (12 + length bytes) 12) (ltb (length x) (12 + length bytes)) (le-ltb (12 + length bytes) 12 (omega arith)) (le-ltb (length x) (12 + length bytes) long) in
-    let first : attribute x ≡ record { tag = HASH; contents = big_bytes 4 number ++ bytes } =
-    ap (λ (h : AttrHead). record { tag = h.tag; contents = slice_range x 8 h.len }) head
-    ∙ ap (λ (l : List ℕ). record { tag = HASH; contents = l }) (hash_value number bytes spare) in
-    let rest : attributes (drop (attr_head_of x).len x) ≡ Some [] =
-    ap (λ (h : AttrHead). attributes (drop h.len x)) head
-    ∙ ap (λ (l : List ℕ). attributes l) (drop_at (hash_attribute number bytes) spare (12 + length bytes) (length-hash number bytes))
-    ∙ attributes_end spare (gap_ends gap) in
-    attributes_more x goes_on formed
-    ∙ ap (λ (o : Option (List Attribute)). option_map (λ others. attribute x ∷ others) o) rest
-    ∙ ap (λ (a : Attribute). Some (a ∷ [])) first
+hash_read number bytes gap few = grind (arith, nat_tests, hash_head, length-hash, length-append, or_from, le-ltb, hash_value, drop_at, attributes_end, gap_ends, attributes_more)
 
 pub few_bytes : (a : Algorithm) → (algorithm_row a).len ≤ 64
 few_bytes Sha256 = omega arith
@@ -152,9 +130,7 @@ attributes_read name kind (Some d) gap n more is =
 -- ---- the cell
 
 component_whole : (h : Head) (x : List ℕ) (span : ℕ) (list : List Attribute) → is_terminated (name_field h x) ≡ true → attributes (attribute_field h x) ≡ Some list → component h x span ≡ cell span
-component_whole h x span list name read =
-    ap (λ (b : Bool). cond (not b) (damaged kinds.Name) (cond (not (is_some (attributes (attribute_field h x)))) (damaged kinds.AttrLength) (cell span))) name
-    ∙ ap (λ (o : Option (List Attribute)). cond (not (is_some o)) (damaged kinds.AttrLength) (cell span)) read
+component_whole h x span list name read = grind (arith, nat_tests)
 
 -- a component with the made head
 component_made : (at : ℕ) (name : List ℕ) (digest : Option Digest) (content x : List ℕ) (h : Head) → head_of x ≡ h → before_first is_nul (name_field h x) ≡ name → attributes (attribute_field h x) ≡ Some (made_attributes digest)
@@ -217,10 +193,7 @@ length-padding n (Some last) is = omega (arith, is, length-append (replicate (n 
 
 pub length-made : (name : List ℕ) (kind : ℕ) (digest : Option Digest) (gap : ℕ) (content : List ℕ) (last : Option (List ℕ)) → KeepsFour last
     → length (made name kind digest gap content last) ≡ round64 (length (made_metadata name kind digest gap (length content) ++ content))
-length-made name kind digest gap content last four =
-    let whole : List ℕ = made_metadata name kind digest gap (length content) ++ content in
-    let left = round64 (length whole) - length whole in
-    omega (arith, length-append whole (padding left last), length-padding left last four, up (length whole))
+length-made name kind digest gap content last four = grind (arith, nat_tests, length-append, length-padding, up)
 
 pub made_is_read : (name : List ℕ) (kind : ℕ) (digest : Option Digest) (gap : ℕ) (content : List ℕ) (last : Option (List ℕ)) (more : List ℕ) → IsMade name kind digest gap content → KeepsFour last
     → IsReadAs name kind digest content (made name kind digest gap content last ++ more) (length (made name kind digest gap content last))
@@ -241,8 +214,4 @@ hash_as_long (Some d) is = length-hash (algorithm_row (algorithm d)).number (dig
 
 pub made_as_long : (name : List ℕ) (kind : ℕ) (digest : Option Digest) (gap : ℕ) (content : List ℕ) (last : Option (List ℕ)) → IsDigest digest → KeepsFour last
     → length (made name kind digest gap content last) ≡ round64 (meta_length (length name) (hash_len digest) + gap + length content)
-made_as_long name kind digest gap content last is four =
-    let metadata : List ℕ = made_metadata name kind digest gap (length content) in
-    let total : length (metadata ++ content) ≡ meta_length (length name) (hash_len digest) + gap + length content =
-    omega (arith, length-append metadata content, length-metadata name kind digest gap (length content), hash_as_long digest is) in
-    length-made name kind digest gap content last four ∙ ap (λ (k : ℕ). round64 k) total
+made_as_long name kind digest gap content last is four = grind (arith, nat_tests, length-append, length-metadata, hash_as_long, length-made)

@@ -1,4 +1,5 @@
 -- A component in place of free cells: one more, and no other change.
+use Rattle.std.proofs.lemmas.Bool.Decides.{nat_tests}
 use Rattle.std.proofs.Common.{◌≡◌, ℕ, ◌+◌, ◌-◌, ◌%◌, ◌≤◌, false, cond, List, [], ◌∷◌, ◌++◌, length, Option, sym, ◌∙◌, ap, subst, refl, arith, All, append_assoc, length-append}
 use Rattle.std.specs.Prelude.{is_some}
 use Rattle.std.specs.List.{concat}
@@ -20,12 +21,7 @@ use Rattle.flash_format.proofs.Splices.{concat-append, space_each, concat-space,
 -- ---- free space
 
 pub empty_is_space : (size : ℕ) (last : Option (List ℕ)) → 64 ≤ size → KeepsFour last → IsSpace size (empty_entry size last)
-empty_is_space size last some four =
-    let rest : List ℕ = padding (size - header_length) last in
-    record {
-      long = omega (arith, length-append (empty_header size (is_some last)) rest, length-empty_header size (is_some last), length-padding (size - header_length) last four);
-      header = λ _. (is_some last, rest, refl);
-    }
+empty_is_space size last some four = grind (arith, nat_tests, length-append, length-empty_header, length-padding)
 
 -- ---- the component
 
@@ -36,26 +32,12 @@ component_alone at x used = ap (λ b. cond b [] (component_at at x ∷ [])) used
 -- the only component among free cells
 component_among : (start at : ℕ) (a b : List (List ℕ)) (x : List ℕ) → AllFree a → AllFree b → is_free (head_of x) ≡ false → start + length (concat a) ≡ at
     → components_from start (a ++ (x ∷ []) ++ b) ≡ component_at at x ∷ []
-component_among start at a b x free_before free_after used place =
-    let later : ℕ = start + length (concat (a ++ (x ∷ []))) in
-    components-append start (a ++ (x ∷ [])) b
-    ∙ ap (λ (l : List Component). components_from start (a ++ (x ∷ [])) ++ l) (components-free later b free_after)
-    ∙ append-nil (components_from start (a ++ (x ∷ [])))
-    ∙ components-append start a (x ∷ [])
-    ∙ ap (λ (l : List Component). l ++ components_from (start + length (concat a)) (x ∷ [])) (components-free start a free_before)
-    ∙ ap (λ (n : ℕ). components_from n (x ∷ [])) place
-    ∙ component_alone at x used
+component_among start at a b x free_before free_after used place = simp (components-append, components-free, append-nil, component_alone) (grind (arith, nat_tests))
 
 -- ---- the region
 
 concat-three : (before bytes after : List ℕ) → concat (space_cells before ++ (bytes ∷ []) ++ space_cells after) ≡ before ++ (bytes ++ after)
-concat-three before bytes after =
-    concat-append (space_cells before ++ (bytes ∷ [])) (space_cells after)
-    ∙ ap (λ (l : List ℕ). l ++ concat (space_cells after)) (concat-append (space_cells before) (bytes ∷ []))
-    ∙ ap (λ (l : List ℕ). l ++ (bytes ++ []) ++ concat (space_cells after)) (concat-space before)
-    ∙ ap (λ (l : List ℕ). before ++ l ++ concat (space_cells after)) (append-nil bytes)
-    ∙ ap (λ (l : List ℕ). before ++ bytes ++ l) (concat-space after)
-    ∙ append_assoc before bytes after
+concat-three before bytes after = simp (concat-append, concat-space, append_assoc)
 
 pub components_placed : ComponentsArePlaced
 components_placed x start end g at before whole after name kind digest content free place read =

@@ -48,11 +48,7 @@ same_byte x y s t e = by_tests x y s t _ _ (plain_is_no_backslash x) (plain_is_n
 
 some_bytes : (x : ℕ) (s : List ℕ) → [] ≢ printed_byte x ++ s
 unfolding printed_byte
-some_bytes x s = go (is_printing x && not (eqb x 92))
-  where
-    go : (p : Bool) → [] ≢ shown p x ++ s
-    go true e = absurd cc
-    go false e = absurd cc
+some_bytes x s = grind (arith, nat_tests)
 
 pub same_names : (a b : List ℕ) → printed_name a ≡ printed_name b → a ≡ b
 same_names [] [] e = refl

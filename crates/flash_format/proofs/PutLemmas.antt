@@ -1,4 +1,5 @@
 -- Consecutive writes.
+use Rattle.std.proofs.lemmas.Grind.{common_steps}
 use Rattle.std.proofs.Common.{◌≡◌, ℕ, ◌+◌, ◌-◌, ◌≤◌, List, ◌++◌, length, take, drop, sym, ap, ◌∙◌, arith, append_assoc, length-append, drop-drop, take-append-drop}
 use Rattle.std.proofs.lemmas.List.{take_at, drop_at, length-take-le}
 use Rattle.std.proofs.lemmas.Slice.{take-put_mid, drop-put_mid}
@@ -20,13 +21,4 @@ then x y z a b p q r to_q to_r room first second =
 
 -- one write into a part
 pub put_part : (x piece bytes : List ℕ) (at size : ℕ) → piece ≡ bytes → length bytes ≡ size → at + size ≤ length x → put_mid at (at + size - at) x piece ≡ splice x at (at + size) bytes
-put_part x piece bytes at size is long room =
-    let y = put_mid at (at + size - at) x piece in
-    let as_long : length piece ≡ length bytes = ap (λ (l : List ℕ). length l) is in
-    let front : take (at + size) y ≡ take at x ++ piece = take-put_mid at (at + size - at) x piece (at + size) (omega (arith, as_long, long)) (omega (arith, room)) in
-    let back : drop (at + size) y ≡ drop (at + size) x = drop-put_mid at (at + size - at) x piece (at + size) (omega arith) (omega (arith, room)) (omega (arith, as_long, long)) in
-    sym (take-append-drop (at + size) y)
-    ∙ ap (λ (l : List ℕ). l ++ drop (at + size) y) front
-    ∙ ap (λ (l : List ℕ). (take at x ++ piece) ++ l) back
-    ∙ ap (λ (l : List ℕ). (take at x ++ l) ++ drop (at + size) x) is
-    ∙ append_assoc (take at x) bytes (drop (at + size) x)
+put_part x piece bytes at size is long room = grind (arith, common_steps)

@@ -46,8 +46,7 @@ component_at at x = record {
 -- the components of neighbouring cells from a position on
 unfoldable pub components_from : ℕ → List (List ℕ) → List Component
 components_from at [] = []
-components_from at (x ∷ cells) =
-    let others = components_from (at + length x) cells in
+components_from at (x ∷ cells) = let others = components_from (at + length x) cells in
     if is_free (head_of x) then others else component_at at x ∷ others
 
 -- positions increased by n

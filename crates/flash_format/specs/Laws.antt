@@ -34,8 +34,7 @@ pub record CutsGoOn : Type 0 where
       → take at x ≡ concat cells → at ≤ length x
       → components x ≡ components_from 0 cells ++ shifted_by at (components (drop at x))
   -- two lists of cells
-  pub joined : (at : ℕ) (cells more : List (List ℕ))
-      → components_from at (cells ++ more)
+  pub joined : (at : ℕ) (cells more : List (List ℕ)) → components_from at (cells ++ more)
       ≡ components_from at cells ++ components_from (at + length (concat cells)) more
   -- a position is the sum of cell lengths
   pub places : (x : List ℕ) (at : ℕ) (cells : List (List ℕ)) → take at x ≡ concat cells
@@ -81,10 +80,8 @@ pub record MadeCellsAreReadAsMade (name : List ℕ) (kind : ℕ) (digest : Optio
 
 -- a cell between free space, in place of free cells, adds exactly one component
 abbrev pub ComponentsArePlaced : Type 0
-ComponentsArePlaced =
-    (x : List ℕ) (start end : ℕ) (g : CellsBetween x start end) (at : ℕ)
-    (before whole after : List ℕ) (name : List ℕ) (kind : ℕ) (digest : Option Digest)
-    (content : List ℕ)
+ComponentsArePlaced = (x : List ℕ) (start end : ℕ) (g : CellsBetween x start end) (at : ℕ)
+    (before whole after name : List ℕ) (kind : ℕ) (digest : Option Digest) (content : List ℕ)
     → AllFree g.group → IsPlacing start end at before whole after
     → IsReadAs name kind digest content whole (length whole)
     → HasOneMore x start end g (space_cells before ++ (whole ∷ []) ++ space_cells after)
@@ -97,8 +94,7 @@ NoMapBelow image q = (k : ℕ) → k < q → is_map (drop k image) ≢ true
 
 -- the lowest valid map; without a position, no map
 abbrev pub IsMapOf : List ℕ → Option ℕ → Type 0
-IsMapOf image found =
-    MatchOption found (NoMapBelow image (length image))
+IsMapOf image found = MatchOption found (NoMapBelow image (length image))
     (λ q. (is_map (drop q image) ≡ true) × NoMapBelow image q)
 
 -- the fields fit their bytes
@@ -128,8 +124,7 @@ pub record IsReadAsMap (h : FmapHead) (areas : List Area) (x : List ℕ) : Type 
   pub all : areas_from h.nareas (drop fmap_head_len x) ≡ areas
 
 abbrev pub MapsAreReadBack : Type 0
-MapsAreReadBack =
-    (h : FmapHead) (areas : List Area) (more : List ℕ) → IsMapInBytes h areas
+MapsAreReadBack = (h : FmapHead) (areas : List Area) (more : List ℕ) → IsMapInBytes h areas
     → IsReadAsMap h areas (map_bytes h areas ++ more)
 
 abbrev pub NamesAreReadBack : Type 0

@@ -27,13 +27,9 @@ header_length = 24 + name_padding
 
 -- For a cell of the given size. With `kept`, the free space excludes the last four bytes.
 unfoldable pub empty_header : ℕ → Bool → List ℕ
-empty_header size kept =
-    head_bytes (record {
-      len = size - header_length - (if kept then 4 else 0);
-      kind = 0xffffffff;
-      attributes_offset = 0;
-      offset = header_length;
-    })
+empty_header size kept = let n = size - header_length - (if kept then 4 else 0) in
+    head_bytes
+    (record { len = n; kind = 0xffffffff; attributes_offset = 0; offset = header_length })
     ++ replicate (header_length - 24) 0
 
 -- n bytes 0xff, except preserved last bytes
@@ -67,11 +63,10 @@ abbrev pub algorithms : List Algorithm
 algorithms = Sha256 ∷ Sha512 ∷ []
 
 abbrev pub algorithm_numbered : ℕ → Option Algorithm
-algorithm_numbered number =
-    find (λ algorithm. (algorithm_row algorithm).number == number) algorithms
+algorithm_numbered number = find (λ a. (algorithm_row a).number == number) algorithms
 
 abbrev pub algorithm_named : List ℕ → Option Algorithm
-algorithm_named name = find (λ algorithm. bytes_eq (algorithm_row algorithm).name name) algorithms
+algorithm_named name = find (λ a. bytes_eq (algorithm_row a).name name) algorithms
 
 abbrev pub digest_with : Algorithm → List ℕ → Digest
 digest_with Sha256 bytes = digests.Sha256 bytes
@@ -125,11 +120,9 @@ made name kind digest gap content last =
     component ++ padding (round64 (length component) - length component) last
 
 abbrev pub made_attributes : Option Digest → List Attribute
-made_attributes digest =
-    option_map_or (λ d. record {
-      tag = HASH;
-      contents = big_bytes 4 (algorithm_row (algorithm d)).number ++ digest_bytes d;
-    } ∷ []) digest []
+made_attributes digest = option_map_or (λ d.
+    let value = big_bytes 4 (algorithm_row (algorithm d)).number ++ digest_bytes d in
+    record { tag = HASH; contents = value } ∷ []) digest []
 
 -- ---- decoding of made cells
 

@@ -36,10 +36,8 @@ word place bytes = record { place = place; bytes = bytes }
 -- flag is set inside a sequence.
 abbrev pub words_from : ℕ → Bool → List ℕ → List Word
 words_from place inside [] = []
-words_from place inside (b ∷ bs) =
-    let others = words_from (suc place) (is_plain b) bs in
-    if is_blank b then others
-    else (if not (is_plain b) then word place (b ∷ []) ∷ others
+words_from place inside (b ∷ bs) = let others = words_from (suc place) (is_plain b) bs in
+    if is_blank b then others else (if not (is_plain b) then word place (b ∷ []) ∷ others
     else (if inside then others else word place (take_while is_plain (b ∷ bs)) ∷ others))
 
 unfoldable pub words : List ℕ → List Word
@@ -48,8 +46,7 @@ words text = words_from 0 false (without_comments false text)
 -- the kind of a token, by the first byte; the end is empty
 abbrev pub kind_of : List ℕ → Kind
 kind_of [] = End
-kind_of (b ∷ bs) =
-    if nat_eq b 40 then OpenParen
+kind_of (b ∷ bs) = if nat_eq b 40 then OpenParen
     else (if nat_eq b 41 then CloseParen
     else (if nat_eq b 64 then At
     else (if nat_eq b 123 then OpenBrace
