@@ -10,8 +10,7 @@ use Rattle.flash_format.proofs.CutSteps.{cell_span, cut_empty, cut_step, cut_cel
 use Rattle.flash_format.proofs.EntryLaws.{entry_alike}
 
 cell_before : (c z : List ℕ) → IsCell c → entry (c ++ z) ≡ cell (length c)
-cell_before c z is =
-    entry_alike c (c ++ z) (length c) is (omega arith) (omega (arith, length-append c z)) (take_all (length c) c (omega arith) ∙ sym (take_at c z (length c) refl))
+cell_before c z is = grind (arith, entry_alike, length-append, take_all, take_at)
 
 -- the prefix of a cell's length is the cell
 front_cell : (x : List ℕ) (span : ℕ) → entry x ≡ cell span → span ≤ length x → IsCell (take span x)

@@ -66,9 +66,7 @@ some_nul name z m short room =
 
 gap_ends : (gap : ℕ) → ends_list (replicate gap 255) ≡ true
 unfolding attr_head_of
-gap_ends (suc (suc (suc (suc gap)))) =
-    let x : List ℕ = replicate (suc (suc (suc (suc gap)))) 255 in
-    or_right (ltb (length x) 8) (is_unused (attr_head_of x).tag) refl
+gap_ends (suc (suc (suc (suc gap)))) = grind (arith, nat_tests, or_right)
 gap_ends _ = refl
 
 hash_head : (number : ℕ) (bytes more : List ℕ) → length bytes ≤ 64 → attr_head_of (hash_attribute number bytes ++ more) ≡ record { tag = HASH; len = 12 + length bytes }
@@ -105,27 +103,13 @@ padded_is : (name : List ℕ) → padded_name name ≡ name ++ (0 ∷ replicate 
 padded_is name = ap (λ (l : List ℕ). name ++ l) (zeros_begin (name_room (length name) - length name) (omega arith))
 
 range_of : (a b c : List ℕ) (from to : ℕ) → length a ≡ from → from + length b ≡ to → slice_range (a ++ (b ++ c)) from to ≡ b
-range_of a b c from to begins ends =
-    ap (λ (l : List ℕ). take (to - from) l) (drop_at a (b ++ c) from begins) ∙ take_at b c (to - from) (omega (arith, ends))
+range_of a b c from to begins ends = grind (arith, drop_at, take_at)
 
 attributes_read : (name : List ℕ) (kind : ℕ) (digest : Option Digest) (gap n : ℕ) (more : List ℕ) → IsDigest digest
     → attributes (attribute_field (made_head name kind digest gap n) (made_metadata name kind digest gap n ++ more)) ≡ Some (made_attributes digest)
 unfolding attributes_after
 attributes_read name kind None gap n more is = refl
-attributes_read name kind (Some d) gap n more is =
-    let h = made_head name kind (Some d) gap n in
-    let at = 24 + name_room (length name) in
-    let hash : List ℕ = hash_bytes (Some d) in
-    let before : List ℕ = head_bytes h ++ padded_name name in
-    let list : List ℕ = hash ++ replicate gap 255 in
-    let x : List ℕ = made_metadata name kind (Some d) gap n ++ more in
-    let shape : x ≡ before ++ (list ++ more) = ap (λ (l : List ℕ). l ++ more) (append_assoc before hash (replicate gap 255)) ∙ append_assoc before list more in
-    let field : attribute_field h x ≡ list =
-    ap (λ (b : Bool). cond b [] (slice_range x at h.offset)) (ne_eqb at 0 (λ z. omega (arith, z)))
-    ∙ ap (λ (l : List ℕ). slice_range l at h.offset) shape
-    ∙ range_of before list more at h.offset (omega (arith, length-append (head_bytes h) (padded_name name), length-head_bytes h, length-padded name))
-    (omega (arith, length-append hash (replicate gap 255), length-replicate {A = ℕ} gap 255)) in
-    ap (λ (l : List ℕ). attributes l) field ∙ hash_read (algorithm_row (algorithm d)).number (digest_bytes d) gap (omega (arith, is, few_bytes (algorithm d)))
+attributes_read name kind (Some d) gap n more is = grind (arith, nat_tests, append_assoc, ne_eqb, range_of, length-append, length-head_bytes, length-padded, length-replicate, hash_read, few_bytes)
 
 -- ---- the cell
 

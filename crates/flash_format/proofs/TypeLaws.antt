@@ -1,5 +1,5 @@
 -- Names of types and compressions determine their numbers.
-use Rattle.std.proofs.Common.{◌≡◌, ℕ, Bool, true, false, nat_eq, nat_le, List, [], ◌∷◌, Option, Some, None, refl, sym, ap, eqb, ◌&&◌}
+use Rattle.std.proofs.Common.{◌≡◌, ℕ, Bool, true, false, nat_eq, nat_le, List, [], ◌∷◌, Option, Some, None, refl, sym, ap, eqb, ◌&&◌, arith}
 use Rattle.std.specs.List.{list_all}
 use Rattle.std.specs.Map.{lookup}
 use Rattle.std.proofs.lemmas.Bool.{eqb-true, and_parts}
@@ -32,13 +32,11 @@ some_is n (Some m) e = ap (λ (k : ℕ). Some k) (sym (eqb-true n m e))
 
 pub read_back : (kind : ℕ) (name : List ℕ) → name_of_type kind ≡ Some name → type_of_text name ≡ Some kind
 unfolding name_of_type type_of_text
-read_back kind name is =
-    some_is kind _ (found_passes (λ row. is_some_of row.0 (type_of_text row.1)) type_table kind name refl is)
+read_back kind name is = some_is kind _ (found_passes (λ row. is_some_of row.0 (type_of_text row.1)) type_table kind name refl is)
 
 pub compression_back : (n : ℕ) (name : List ℕ) → name_of_compression n ≡ Some name → number_for compression_table name ≡ Some n
 unfolding name_of_compression
-compression_back n name is =
-    some_is n _ (found_passes (λ row. is_some_of row.0 (number_for compression_table row.1)) compression_table n name refl is)
+compression_back n name is = grind (arith, some_is, found_passes)
 
 -- ---- the names as fields
 
