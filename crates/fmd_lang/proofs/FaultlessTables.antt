@@ -1,4 +1,5 @@
 -- The numbers and areas of a text without a fault fit into the fields of the table.
+use Rattle.std.proofs.lemmas.Bool.Decides.{nat_tests}
 use Rattle.std.proofs.Common.{◌≡◌, ℕ, ◌^◌, ◌<◌, All, List, [], ◌∷◌, ◌++◌, length, Option, Some, None, sym, ◌∙◌, ap, subst, arith}
 use Rattle.std.specs.Prelude.{nat_lt, unwrap_or}
 use Rattle.std.specs.Result.{result_err}
@@ -22,9 +23,7 @@ abbrev pub Fits : Word → Type 0
 Fits w = (n : ℕ) → HasValue n w → n < 2 ^ 32
 
 number_fits : (depth : ℕ) (w : Word) → token_fault (kind_of w.bytes) depth w ≡ None → Fits w
-number_fits depth w fine n (is, value) =
-    let small : result_err (number_at w.place (Some n)) ≡ None = ap (λ o. result_err (number_at w.place o)) (sym value) ∙ rw is at fine in
-    grind arith
+number_fits depth w fine n (is, value) = grind (arith, nat_tests)
 
 all_fit : (ws : List Word) (s : Stage) (depth end : ℕ) → fault_from (s, depth) end ws ≡ None → All Fits ws
 all_fit [] s depth end fine = All-nil Fits
@@ -37,9 +36,7 @@ all_fit (w ∷ ws) s depth end fine =
 
 pub numbers_fit : (text : List ℕ) → first_fault text ≡ None → All Fits (words text)
 unfolding first_fault
-numbers_fit text fine =
-    let ws = words text in
-    all_fit ws start 0 (length text) (cond-none (nat_lt text_limit (length text)) faults.TextTooLong (fault_from (start, 0) (length text) ws) fine)
+numbers_fit text fine = grind (arith, nat_tests, all_fit, cond-none)
 
 pub size_fits : (size : Option ℕ) (n : ℕ) (number after : List Word) → size ≡ Some n → IsSize size number →
     All Fits (number ++ after) → n < 2 ^ 32

@@ -1,4 +1,5 @@
 -- Annotations and sections, by token and by section.
+use Rattle.std.proofs.lemmas.Bool.Decides.{nat_tests}
 use Rattle.std.proofs.Common.{◌≡◌, ℕ, ◌<◌, Bool, true, false, List, [], ◌∷◌, ◌++◌, length, map, Some, None, option_map, refl, sym, ◌∙◌, ap, subst, arith, append_assoc}
 use Rattle.std.proofs.lemmas.List.{append-nil, map-append}
 use Rattle.std.proofs.lemmas.List.Elements.{All-contains}
@@ -40,9 +41,7 @@ flags-snoc before flags flag v (front, back, split, all, (w, one, is)) =
 -- A test of all annotations holds for each annotation.
 pub each-annotation : (test : List ℕ × ℕ → Bool) → list_all test annotations ≡ true → (bytes : List ℕ) (flag : ℕ) →
     annotation_flag bytes ≡ Some flag → test (bytes, flag) ≡ true
-each-annotation test all bytes flag known =
-    let listed = Contains-from_lookup (λ a b. (bytes_eq-Decides a b).0) bytes flag annotations known in
-    All-contains (λ row. test row ≡ true) annotations (bytes, flag) (AllPass-from_list_all test annotations all) listed
+each-annotation test all bytes flag known = grind (arith, nat_tests, bytes_eq-Decides)
 
 abbrev is_name : Kind → Bool
 is_name Name = true
