@@ -98,12 +98,10 @@ abbrev pub hash_len : Option Digest → ℕ
 hash_len digest = option_map_or (λ d. 12 + digest_len d) digest 0
 
 abbrev pub made_head : List ℕ → ℕ → Option Digest → ℕ → ℕ → Head
-made_head name kind digest gap n = record {
-  len = n;
-  kind = kind;
-  attributes_offset = if is_some digest then 24 + name_room (length name) else 0;
-  offset = meta_length (length name) (length (hash_bytes digest)) + gap;
-}
+made_head name kind digest gap n =
+    let attributes = if is_some digest then 24 + name_room (length name) else 0 in
+    let offset = meta_length (length name) (length (hash_bytes digest)) + gap in
+    record { len = n; kind = kind; attributes_offset = attributes; offset = offset }
 
 abbrev pub padded_name : List ℕ → List ℕ
 padded_name name = name ++ replicate (name_room (length name) - length name) 0

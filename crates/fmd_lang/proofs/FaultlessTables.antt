@@ -59,5 +59,4 @@ offset_fits (Some n) place after (front, back, shape, (mark, first, is_mark), (w
 pub few_areas : (t : Tree) (size : ℕ) (areas : List Area) → layout_fault t ≡ None → AreasBelow 0 0 size t areas →
     length areas < 2 ^ 16
 unfolding layout_fault
-few_areas t size areas fine are =
-    omega (arith, few-sections t (or-none (names_fault (names t)) _ fine).0, (areas-filled t 0 0 size areas are).1)
+few_areas t size areas fine are = grind (arith, nat_tests, few-sections, or-none, areas-filled)

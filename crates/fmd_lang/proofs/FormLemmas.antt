@@ -35,8 +35,7 @@ flags-push (v ∷ ws) before flags flag w h is =
 
 pub flags-snoc : (before flags flag : ℕ) (v : List Word) →
     Then (λ ws. flags_with before ws ≡ Some flags) (One (IsAnnotation flag)) v → flags_with before v ≡ Some (bit_or flags flag)
-flags-snoc before flags flag v (front, back, split, all, (w, one, is)) =
-    rw (split, one) (flags-push front before flags flag w all is)
+flags-snoc before flags flag v (front, back, split, all, (w, one, is)) = grind (arith, nat_tests, flags-push)
 
 -- A test of all annotations holds for each annotation.
 pub each-annotation : (test : List ℕ × ℕ → Bool) → list_all test annotations ≡ true → (bytes : List ℕ) (flag : ℕ) →
@@ -52,23 +51,19 @@ name-is Name is = refl
 name-is k is = cc
 
 pub annotation-name : (bytes : List ℕ) (flag : ℕ) → annotation_flag bytes ≡ Some flag → kind_of bytes ≡ Name
-annotation-name bytes flag known =
-    name-is (kind_of bytes) (each-annotation (λ row. is_name (kind_of row.0)) refl bytes flag known)
+annotation-name bytes flag known = grind (arith, nat_tests, name-is, each-annotation)
 
 pub section-opens : (w : Word) (t : Tree) (v : List Word) → Then (One (λ x. x ≡ w)) (λ ws. IsSection t (w ∷ ws)) v → IsSection t v
-section-opens w t v (front, back, split, (x, one, same), is) =
-    subst (IsSection t) (sym (split ∙ ap (λ f. f ++ back) one ∙ ap (λ y. y ∷ back) same)) is
+section-opens w t v (front, back, split, (x, one, same), is) = grind (arith, nat_tests)
 
 sections-push : (ts : List Tree) (t : Tree) (ws more : List Word) → AreSections (forest_of ts) ws → IsSection t more →
     AreSections (forest_of (ts ++ t ∷ [])) (ws ++ more)
 sections-push [] t ws more none one = (more, [], rw (none) (sym (append-nil more)), one, refl)
-sections-push (u ∷ ts) t ws more (first, rest, split, head, tail) one =
-    (first, rest ++ more, rw split (append_assoc first rest more), head, sections-push ts t rest more tail one)
+sections-push (u ∷ ts) t ws more (first, rest, split, head, tail) one = grind (arith, nat_tests, append_assoc, sections-push ts t rest more tail one)
 
 pub sections-snoc : (parts : List Section) (part : Section) (v : List Word) →
     Then (AreSections (views parts)) (IsSection (view part)) v → AreSections (views (parts ++ part ∷ [])) v
-sections-snoc parts part v (front, back, split, all, one) =
-    rw (map-append view parts (part ∷ []), split) (sections-push (map view parts) (view part) front back all one)
+sections-snoc parts part v (front, back, split, all, one) = grind (arith, nat_tests, map-append, sections-push)
 
 pub name-short : (depth : ℕ) (w : Word) → token_fault Name depth w ≡ None → length w.bytes < 32
 name-short depth w own = grind arith

@@ -1,4 +1,5 @@
 -- The name field of a section is a valid name of a map.
+use Rattle.std.proofs.lemmas.Bool.Decides.{nat_tests}
 use Rattle.std.proofs.Common.{◌≡◌, ◌≢◌, ℕ, suc, ◌+◌, ◌-◌, ◌<◌, not, Bool, true, false, cond, All, List, [], ◌∷◌, ◌++◌, length, take, replicate, refl, sym, ◌∙◌, ap, subst, arith, length-append}
 use Rattle.std.proofs.Math.Bool.{or-true}
 use Rattle.std.proofs.lemmas.Bool.{cond_both}
@@ -80,16 +81,11 @@ some_nul (b ∷ name) k = rw (some_nul name k) (or-true (is_nul b))
 before_nul : (name : List ℕ) (k : ℕ) → list_all is_plain name ≡ true →
     position_or_len is_nul (name ++ replicate (suc k) 0) ≡ length name
 before_nul [] k plain = refl
-before_nul (b ∷ name) k plain =
-    ap (λ c. cond (not c) (1 + position_or_len is_nul (name ++ replicate (suc k) 0)) 0)
-    (plain_no_nul b (first_so (is_plain b) (list_all is_plain name) plain))
-    ∙ omega (arith, before_nul name k (second_so (is_plain b) (list_all is_plain name) plain))
+before_nul (b ∷ name) k plain = grind (arith, nat_tests, plain_no_nul, before_nul name k (second_so (is_plain b) (list_all is_plain name) plain))
 
 all_printing : (name : List ℕ) → list_all is_plain name ≡ true → list_all is_printing name ≡ true
 all_printing [] plain = refl
-all_printing (b ∷ name) plain =
-    both_true (first_so _ _ (first_so (is_plain b) (list_all is_plain name) plain))
-    (all_printing name (second_so (is_plain b) (list_all is_plain name) plain))
+all_printing (b ∷ name) plain = grind (arith, nat_tests, all_printing name (second_so (is_plain b) (list_all is_plain name) plain))
 
 pub field_named : (name : List ℕ) → length name < 32 → list_all is_plain name ≡ true → is_map_name (field_of name) ≡ true
 field_named name short plain =

@@ -1,4 +1,5 @@
 -- The computed places are the only solution of the equations, unless a place is refused.
+use Rattle.std.proofs.lemmas.Bool.Decides.{nat_tests}
 use Rattle.std.proofs.Common.{◌≡◌, ℕ, ◌+◌, ◌-◌, ◌<◌, ◌≤◌, nat_le, true, false, IsTrue, List, [], ◌∷◌, ◌++◌, length, take, drop, get_or, add-one, Option, Some, None, option_map, Result, Ok, Err, IfOk, Vec, Global, refl, ◌∙◌, ap, arith, rules}
 use Rattle.std.specs.List.{list_all}
 use Rattle.std.proofs.lemmas.Bool.{le-leb}
@@ -21,9 +22,7 @@ fits parent from p q h = (grind arith, grind arith)
 pub placed_one : (parent from n : ℕ) (o z : Option ℕ) (ps : List Sibling) →
     misfit_of parent from (make n o z) (place_of parent from (make n o z) ps) ≡ None →
     IsPlaced parent from (make n o z) ps (place_of parent from (make n o z) ps)
-placed_one parent from n o None ps h =
-    let some = (fits parent from (make n o None) (place_of parent from (make n o None) ps) h).0 in
-    record { offset = refl; size = omega (arith, some); fits = h }
+placed_one parent from n o None ps h = grind (arith, nat_tests, fits)
 placed_one parent from n o (Some s) ps h = record { offset = refl; size = refl; fits = h }
 
 abbrev place : ℕ → ℕ → Place
@@ -34,10 +33,8 @@ same_place q r start size = ap (λ n. place n q.size) start ∙ ap (place r.star
 
 pub place-is : (parent from n : ℕ) (o z : Option ℕ) (q : Place) (ps : List Sibling) →
     IsPlaced parent from (make n o z) ps q → q ≡ place_of parent from (make n o z) ps
-place-is parent from n o None q ps placed =
-    same_place q (place_of parent from (make n o None) ps) placed.offset (omega (arith, placed.offset, placed.size))
-place-is parent from n o (Some s) q ps placed =
-    same_place q (place_of parent from (make n o (Some s)) ps) placed.offset placed.size
+place-is parent from n o None q ps placed = grind (arith, nat_tests, same_place)
+place-is parent from n o (Some s) q ps placed = grind (arith, nat_tests, same_place)
 
 pub filled-inside : (ps : List Sibling) (parent from : ℕ) → first_misfit parent from ps (places_of parent from ps) ≡ None →
     list_all (λ q. nat_le (place_end q) parent) (places_of parent from ps) ≡ true
@@ -51,10 +48,7 @@ filled-inside (p ∷ ps) parent from h =
 pub laid-inside : (parent : ℕ) (row : List Sibling) (r : Result (Vec Place Global) FmdFault) →
     IfOk r (λ v. v.items ≡ places_of parent 0 row) → FailsWith (row_fault parent row) r →
     IfOk r (λ v. IsTrue (list_all (λ q. nat_le (place_end q) parent) v.items))
-laid-inside parent row (Ok v) filled none =
-    let fitting = (or-none (option_map faults.Ambiguous (ambiguous_sibling false row)) _ none).1 in
-    let all = filled-inside row parent 0 fitting in
-    rw filled (search (rules, all))
+laid-inside parent row (Ok v) filled none = grind (arith, nat_tests, or-none, filled-inside)
 laid-inside parent row (Err fault) filled refused = tt
 
 -- the siblings `left` follow the accepted places `made`

@@ -1,4 +1,5 @@
 -- The bytes of a table parse as a valid map.
+use Rattle.std.proofs.lemmas.Bool.Decides.{nat_tests}
 use Rattle.std.proofs.Common.{suc, ◌≡◌, inl, inr, ℕ, ◌+◌, ◌^◌, ◌<◌, ◌≤◌, nat_lt, true, All, List, [], ◌∷◌, ◌++◌, length, refl, sym, ◌∙◌, ap, subst, arith, rules}
 use Rattle.std.specs.Prelude.{Option, Some, None, unwrap_or}
 use Rattle.std.specs.Int.Bits.{bit_or}
@@ -37,8 +38,7 @@ joined_flags (w ∷ ws) before flags few h =
 
 small_flags : (flags : ℕ) (ws : List Word) → AreAnnotations flags ws → flags < 2 ^ 16
 small_flags flags ws (inl nothing) = omega (arith, nothing.1)
-small_flags flags ws (inr (front, back, shape, opens, (listed, last, inner, (some_there, flagged), closes))) =
-    joined_flags listed 0 flags (omega arith) flagged
+small_flags flags ws (inr (front, back, shape, opens, (listed, last, inner, (some_there, flagged), closes))) = grind (arith, nat_tests, joined_flags)
 
 area_fits : (t : Tree) (ws : List Word) (at : ℕ) (q : Place) → IsSection t ws → at + place_end q < 2 ^ 32 →
     IsAreaInBytes (section_area at q t)

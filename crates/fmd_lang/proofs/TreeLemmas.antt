@@ -122,8 +122,7 @@ more-make before flags depth end (w ∷ ws) c r o z parts ls h close more =
 annotations-add : (flags : ℕ) (o z : Option ℕ) (parts : Forest) (ls : List Forest) (depth end : ℕ) →
     Adds (AreAnnotations flags) 1 2 depth end (has 0 o z parts ls) (has flags o z parts ls)
 annotations-add flags o z parts ls depth end ws r (inl (empty, unset)) more n few = rw (empty, unset) (more n (omega arith))
-annotations-add flags o z parts ls depth end ws r (inr (a, b, split, first, ([], c, inner, flagged, closes))) more n few =
-    absurd (omega (arith, flagged.0))
+annotations-add flags o z parts ls depth end ws r (inr (a, b, split, first, ([], c, inner, flagged, closes))) more n few = grind (arith, nat_tests)
 annotations-add flags o z parts ls depth end ws r (inr (a, b, split, marked, (w ∷ v, d, inner, flagged, closes))) more n few =
     let (m, first, opens) = marked in
     let (c, second, close) = closes in

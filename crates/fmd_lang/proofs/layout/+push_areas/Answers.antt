@@ -1,3 +1,4 @@
+use Rattle.std.proofs.lemmas.Grind.{common_steps}
 use Rattle.std.proofs.Common.{ap, length, arith, rules, inl, inr}
 use Rattle.std.proofs.lemmas.Result.{err_from_is_err_and}
 use Rattle.fmd_lang.specs.declared.section.Section.{out-Section}
@@ -32,8 +33,7 @@ pub index-place-requires : goal.index-place-requires
 index-place-requires t c = omega (arith, c.in_ok-places.ensures.len, ap length c.deref-part-items.ensures.value)
 
 pub overflow_add-start : goal.overflow_add-start
-overflow_add-start t c =
-    omega (arith, place-inside c.args.size c.in_ok-places.places.items c.loop-index.index c.index-place.result.now c.in_ok-places.ensures.inside (omega (arith, c.in_ok-places.ensures.len, ap length c.deref-part-items.ensures.value)) c.index-place.ensures)
+overflow_add-start t c = grind (arith, common_steps, place-inside)
 
 pub returns : goal.returns
 returns t c =

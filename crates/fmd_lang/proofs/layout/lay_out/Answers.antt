@@ -1,3 +1,4 @@
+use Rattle.std.proofs.lemmas.Bool.Decides.{nat_tests}
 use Rattle.std.proofs.Common.{◌∙◌, sym, ap, rules, arith, length}
 use Rattle.fmd_lang.specs.Tree.{view}
 use Rattle.fmd_lang.proofs.LayoutLemmas.{few-sections, root-laid, table-is, view-size}
@@ -18,5 +19,4 @@ returns c =
     }
 
 pub push_areas-requires-clause-count : goal.push_areas-requires-clause-count
-push_areas-requires-clause-count c =
-    omega (arith, ap length c.new-areas.ensures.items, few-sections (view c.args.root.now) c.in_ok-check_names_of.ensures)
+push_areas-requires-clause-count c = grind (arith, nat_tests, few-sections)
