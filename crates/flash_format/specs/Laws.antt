@@ -123,14 +123,6 @@ pub record IsReadAsMap (h : FmapHead) (areas : List Area) (x : List ℕ) : Type 
   pub head : fmap_head_of x ≡ h
   pub all : areas_from h.nareas (drop fmap_head_len x) ≡ areas
 
-abbrev pub MapsAreReadBack : Type 0
-MapsAreReadBack = (h : FmapHead) (areas : List Area) (more : List ℕ) → IsMapInBytes h areas
-    → IsReadAsMap h areas (map_bytes h areas ++ more)
-
-abbrev pub NamesAreReadBack : Type 0
-NamesAreReadBack =
-    (kind : ℕ) (name : List ℕ) → name_of_type kind ≡ Some name → type_of_text name ≡ Some kind
-
 -- different names, and different numbers of 64 bits, have different, valid texts
 pub record PrintedTextsAreReadBack : Type 0 where
   pub names : (a b : List ℕ) → printed_name a ≡ printed_name b → a ≡ b

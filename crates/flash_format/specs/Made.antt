@@ -97,32 +97,13 @@ hash_bytes digest =
 abbrev pub hash_len : Option Digest → ℕ
 hash_len digest = option_map_or (λ d. 12 + digest_len d) digest 0
 
-abbrev pub made_head : List ℕ → ℕ → Option Digest → ℕ → ℕ → Head
-made_head name kind digest gap n =
-    let attributes = if is_some digest then 24 + name_room (length name) else 0 in
-    let offset = meta_length (length name) (length (hash_bytes digest)) + gap in
-    record { len = n; kind = kind; attributes_offset = attributes; offset = offset }
-
 abbrev pub padded_name : List ℕ → List ℕ
 padded_name name = name ++ replicate (name_room (length name) - length name) 0
-
-abbrev pub made_metadata : List ℕ → ℕ → Option Digest → ℕ → ℕ → List ℕ
-made_metadata name kind digest gap n =
-    head_bytes (made_head name kind digest gap n) ++ padded_name name ++ hash_bytes digest
-    ++ replicate gap 0xff
-
--- a component's cell, up to a multiple of 64; may preserve its last four bytes
-abbrev pub made : List ℕ → ℕ → Option Digest → ℕ → List ℕ → Option (List ℕ) → List ℕ
-made name kind digest gap content last =
-    let component = made_metadata name kind digest gap (length content) ++ content in
-    component ++ padding (round64 (length component) - length component) last
 
 abbrev pub made_attributes : Option Digest → List Attribute
 made_attributes digest = option_map_or (λ d.
     let value = big_bytes 4 (algorithm_row (algorithm d)).number ++ digest_bytes d in
     record { tag = HASH; contents = value } ∷ []) digest []
-
--- ---- decoding of made cells
 
 abbrev pub IsDigest : Option Digest → Type 0
 IsDigest digest = IfSome digest (λ d. length (digest_bytes d) ≡ digest_len d)
@@ -131,14 +112,31 @@ IsDigest digest = IfSome digest (λ d. length (digest_bytes d) ≡ digest_len d)
 abbrev pub KeepsFour : Option (List ℕ) → Type 0
 KeepsFour last = IfSome last (λ bytes. length bytes ≡ 4)
 
-pub record IsMade (name : List ℕ) (kind : ℕ) (digest : Option Digest) (gap : ℕ)
-    (content : List ℕ) : Type 0 where
-  pub name_short : length name ≤ 127
-  pub name_plain : list_any is_nul name ≡ false
-  pub kind_small : kind < 2 ^ 32
-  pub kind_used : (kind == 0 || kind == 0xffffffff) ≡ false
-  pub digest_long : IsDigest digest
-  pub small : length (made_metadata name kind digest gap (length content)) + length content < 2 ^ 32
+-- ---- a component
+
+module _ (name : List ℕ) (kind : ℕ) (digest : Option Digest) (gap : ℕ) where
+  abbrev pub made_head : ℕ → Head
+  made_head n = let attributes = if is_some digest then 24 + name_room (length name) else 0 in
+      let offset = meta_length (length name) (length (hash_bytes digest)) + gap in
+      record { len = n; kind = kind; attributes_offset = attributes; offset = offset }
+
+  abbrev pub made_metadata : ℕ → List ℕ
+  made_metadata n = head_bytes (made_head n) ++ padded_name name ++ hash_bytes digest
+      ++ replicate gap 0xff
+
+  -- a component's cell, up to a multiple of 64; may preserve its last four bytes
+  abbrev pub made : List ℕ → Option (List ℕ) → List ℕ
+  made content last = let component = made_metadata (length content) ++ content in
+      component ++ padding (round64 (length component) - length component) last
+
+  -- the conditions under which a made cell decodes to its component
+  pub record IsMade (content : List ℕ) : Type 0 where
+    pub name_short : length name ≤ 127
+    pub name_plain : list_any is_nul name ≡ false
+    pub kind_small : kind < 2 ^ 32
+    pub kind_used : (kind == 0 || kind == 0xffffffff) ≡ false
+    pub digest_long : IsDigest digest
+    pub small : length (made_metadata (length content)) + length content < 2 ^ 32
 
 -- ---- from a description
 

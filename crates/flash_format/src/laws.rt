@@ -1,13 +1,14 @@
 //! Laws of the definitions: contracts without code.
 
-ghost use Rattle.std.specs.Prelude.{◌≡◌, ℕ, ◌+◌, ◌%◌, ◌<◌, ◌≤◌, true, List, length, drop, Option, Some};
+ghost use Rattle.std.specs.Prelude.{◌≡◌, ℕ, ◌+◌, ◌++◌, ◌%◌, ◌<◌, ◌≤◌, true, List, length, drop, Option, Some};
 ghost use Rattle.flash_format.specs.declared.digest.Digest.{Digest};
 ghost use Rattle.flash_format.specs.Made.{name_padding, header_length, empty_entry, KeepsFour, name_room};
 ghost use Rattle.flash_format.specs.Cut.{End, cut, IsCut};
 ghost use Rattle.flash_format.specs.Splices.{CellsBetween};
 ghost use Rattle.flash_format.specs.Placings.{IsSpace};
+ghost use Rattle.flash_format.specs.TypeNames.{name_of_type, type_of_text};
 ghost use Rattle.flash_format.specs.Flashmap.{fmap_head_len, area_len, is_map, map_of};
-ghost use Rattle.flash_format.specs.Laws.{EntriesAreReadAlike, CutsGoOn, EmptyHeadersAreFreeCells, GroupsAreReplaced, MadeCellsAreReadAsMade, ComponentsArePlaced, NoMapBelow, IsMapOf, MapsAreReadBack, NamesAreReadBack, PrintedTextsAreReadBack};
+ghost use Rattle.flash_format.specs.Laws.{EntriesAreReadAlike, CutsGoOn, EmptyHeadersAreFreeCells, GroupsAreReplaced, MadeCellsAreReadAsMade, ComponentsArePlaced, NoMapBelow, IsMapOf, IsMapInBytes, IsReadAsMap, map_bytes, PrintedTextsAreReadBack};
 
 use crate::flashmap::{Area, FmapHead};
 use crate::head::HEADER_LENGTH;
@@ -73,12 +74,14 @@ pub fn maps_are_the_lowest()
 
 /// Proves that a valid encoded map decodes to its head and areas, whatever follows.
 pub fn maps_are_read_back()
-    ensures { MapsAreReadBack }
+    ensures { (h : FmapHead) (areas : List Area) (more : List ℕ) → IsMapInBytes h areas
+        → IsReadAsMap h areas (map_bytes h areas ++ more) }
 {}
 
 /// Proves that a type's name decodes to the type.
 pub fn type_names_are_read_back()
-    ensures { NamesAreReadBack }
+    ensures { (kind : ℕ) (name : List ℕ) → name_of_type kind ≡ Some name
+        → type_of_text name ≡ Some kind }
 {}
 
 /// Proves that different names and numbers have different texts without tabs.

@@ -1,7 +1,8 @@
 -- The value of a number. The suffixes are coreboot's (Documentation/lib/flashmap.md), the rest is
 -- this project's own.
 use Rattle.std.specs.Prelude.{ℕ, ◌-◌, ◌*◌, ◌^◌, nat_eq, nat_lt, if◌then◌else◌, List, ◌∷◌, length}
-use Rattle.std.specs.Prelude.{take, slice_index, Option, Some, None, Result, Ok, Err, option_map}
+use Rattle.std.specs.Map.{lookup}
+use Rattle.std.specs.Prelude.{[], unwrap_or, take, slice_index, Option, Some, None, Result, Ok, Err, option_map}
 use Rattle.flash_format.specs.Numbers.{digits_value}
 use Rattle.fmd_lang.specs.declared.fault.FmdFault.{FmdFault}
 use Rattle.fmd_lang.specs.declared.fault.FmdFault.TheVariants as faults
@@ -15,8 +16,7 @@ plain_value bytes = digits_value 10 bytes
 
 -- the factor of a unit, or 1
 abbrev pub unit_value : ℕ → ℕ
-unit_value b = if nat_eq b 75 then 1024
-    else (if nat_eq b 77 then 1048576 else (if nat_eq b 71 then 1073741824 else 1))
+unit_value b = unwrap_or (lookup (nat_eq b) ((75, 1024) ∷ (77, 1048576) ∷ (71, 1073741824) ∷ [])) 1
 
 abbrev pub last_byte : List ℕ → ℕ
 last_byte bytes = slice_index bytes (length bytes - 1)
