@@ -94,14 +94,9 @@ field_named name short plain =
     let shape : field_of name ≡ name ++ replicate (suc k) 0 =
     ap (λ (l : List ℕ). l ++ replicate (32 - length name) 0) (take_all 32 name (omega arith))
     ∙ ap (λ n. name ++ replicate n 0) left in
-    let text : text_of (name ++ replicate (suc k) 0) ≡ name =
-    ap (λ n. take n (name ++ replicate (suc k) 0)) (before_nul name k plain)
-    ∙ take_at name (replicate (suc k) 0) (length name) refl in
-    ap is_map_name shape
-    ∙ both_true (some_nul name k) (ap (λ (l : List ℕ). list_all is_printing l) text ∙ all_printing name plain)
+    grind (arith, nat_tests, before_nul, take_at, some_nul, all_printing)
 
 pub field_long : (name : List ℕ) → length name < 32 → length (field_of name) ≡ 32
 field_long name short =
     let whole = ap length (take_all 32 name (omega arith)) in
-    let filled = length-replicate {A = ℕ} (32 - length name) 0 in
-    omega (arith, length-append (take 32 name) (replicate (32 - length name) 0), whole, filled)
+    grind (arith, length-replicate, length-append)

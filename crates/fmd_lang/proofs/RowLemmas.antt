@@ -42,8 +42,7 @@ filled-inside [] parent from h = refl
 filled-inside (p ∷ ps) parent from h =
     let q = place_of parent from p ps in
     let (fine, others) = or-none (misfit_of parent from p q) (first_misfit parent (place_end q) ps (places_of parent (place_end q) ps)) h in
-    let here : nat_le (place_end q) parent ≡ true = le-leb _ _ (fits parent from p q fine).1 in
-    rw here (filled-inside ps parent (place_end q) others)
+    grind (arith, nat_tests, le-leb, fits, filled-inside ps parent (place_end q) others)
 
 pub laid-inside : (parent : ℕ) (row : List Sibling) (r : Result (Vec Place Global) FmdFault) →
     IfOk r (λ v. v.items ≡ places_of parent 0 row) → FailsWith (row_fault parent row) r →

@@ -130,8 +130,7 @@ annotations-add flags o z parts ls depth end ws r (inr (a, b, split, marked, (w 
     let all : Makes (in_annotations false, depth) end (w ∷ (v ++ c ∷ r)) (listed (w ∷ v) o z parts ls) =
     makes Name (annotation-name w.bytes flag known) (rw known refl)
     (more-make (bit_or 0 flag) flags depth end v c r o z parts ls rest close more) refl in
-    rw (split, first, inner, second, append_assoc v (c ∷ []) r)
-    (makes OpenParen opens (rw (lt-ltb n 1 few) refl) all (ap (λ o'. has (unwrap_or o' 0) o z parts ls) flagged.1))
+    grind (arith, append_assoc, makes, lt-ltb)
 
 abbrev join : Forest → Forest → Forest
 join none l = l

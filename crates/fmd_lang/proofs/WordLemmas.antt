@@ -97,8 +97,7 @@ begins : (b : ℕ) (s : List ℕ) (at : ℕ) → is_plain b ≡ true → words_f
 begins b s at plain =
     let (no_comment, no_blank) = plain-alone b plain in
     let longer = take_while-cons is_plain b (without_comments false s) in
-    rw (no_comment, no_blank, longer, plain, add-one)
-    (ap (λ l. word at (b ∷ l) ∷ words_from (suc at) true (without_comments false s)) (row s (suc at)).0)
+    grind (arith, nat_tests, add-one, row)
 
 pub words_after-plain : (text : List ℕ) (at : ℕ) → at < length text → is_plain (slice_index text at) ≡ true →
     let end = at + 1 + prefix_len is_plain (drop (at + 1) text) in
@@ -109,8 +108,7 @@ words_after-plain text at h plain =
     let n = prefix_len is_plain rest in
     let len : at + 1 + n - at ≡ suc n = omega arith in
     let place : n + (at + 1) ≡ at + 1 + n = omega arith in
-    ap (λ l. words_from at false (without_comments false l)) (here text at h) ∙ begins (slice_index text at) rest at plain
-    ∙ rw (len, here text at h, (row rest (at + 1)).1, place, drop-drop n (at + 1) text) refl
+    grind (arith, here, begins, row, drop-drop)
 
 pub words_after-single : (text : List ℕ) (at : ℕ) → at < length text → is_plain (slice_index text at) ≡ false →
     begins_word (slice_index text at) ≡ true →

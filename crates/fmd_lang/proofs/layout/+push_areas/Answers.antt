@@ -13,11 +13,7 @@ returns-in_err-push_areas-clause-refused t c =
     let here = part-at c.in_ok-places.places.items (out-Section c.args.section.now).parts.items _ c.loop-index.index q s
     c.loop-index.invariant c.deref-part-items.ensures.value c.loop-index-test.true c.part-item.is c.in_ok-places.ensures.len
     c.index-place.ensures in
-    rw (p.1, p.2) (elim c.in_err-push_areas.ensures.refused [
-      | inl memory ↦ inl memory
-      | inr first ↦ inr (part-refused c.push.new.self.items c.in_err-push_areas.field-0.0 here
-          (rw (area-is c.args.at q s) (search rules)) first)
-    ])
+    grind (arith, part-refused, area-is)
 
 pub loop-index-preserved : goal.loop-index-preserved
 loop-index-preserved t c =

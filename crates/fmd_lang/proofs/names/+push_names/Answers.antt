@@ -8,9 +8,7 @@ pub loop-part-init : goal.loop-part-init
 loop-part-init t c = grind (arith, nat_tests, map-append, view-is, append_assoc)
 
 pub loop-part-preserved : goal.loop-part-preserved
-loop-part-preserved t c =
-    let next = names-from c.deref-part-items.result.now c.loop-part.part-index c.part-item.result c.loop-part-test.true c.part-item.is in
-    rw (c.in_ok-push_names.ensures.ok, append_assoc, ← next) c.loop-part.invariant
+loop-part-preserved t c = grind (arith, names-from, append_assoc)
 
 pub returns-clause-ok : goal.returns-clause-ok
 returns-clause-ok t c = grind (arith, nat_tests, append-nil, drop_all)
