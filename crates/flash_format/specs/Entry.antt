@@ -61,8 +61,7 @@ attributes x = attributes_after 0 x
 
 -- the first attribute with the tag
 abbrev pub data_of : ℕ → List Attribute → Option (List ℕ)
-data_of tag all =
-    option_map (λ (a : Attribute). a.contents) (find (λ (a : Attribute). a.tag == tag) all)
+data_of tag all = option_map (λ (a : Attribute). a.contents) (find (λ a. a.tag == tag) all)
 
 -- the start of the attributes, if any, or of the content
 abbrev pub name_end : Head → ℕ

@@ -40,14 +40,6 @@ pub record CutsGoOn : Type 0 where
   pub places : (x : List ℕ) (at : ℕ) (cells : List (List ℕ)) → take at x ≡ concat cells
       → at ≤ length x → at ≡ sum_by length cells
 
--- whatever follows the header
-abbrev pub EmptyHeadersAreFreeCells : Type 0
-EmptyHeadersAreFreeCells =
-    (size : ℕ) (kept : Bool) (more : List ℕ) → 64 ≤ size → size % 64 ≡ 0 → size < 2 ^ 32
-    → header_length + length more ≡ size
-    → (entry (empty_header size kept ++ more) ≡ cell size)
-    × (is_free (head_of (empty_header size kept ++ more)) ≡ true)
-
 pub record GroupsAreReplaced (x : List ℕ) (start end : ℕ)
     (g : CellsBetween x start end) : Type 0 where
   -- unchanged outside the group

@@ -85,8 +85,7 @@ digest_len digest = (algorithm_row (algorithm digest)).len
 
 -- `struct cbfs_file_attr_hash`
 unfoldable pub hash_attribute : ℕ → List ℕ → List ℕ
-hash_attribute number bytes =
-    big_bytes 4 HASH ++ big_bytes 4 (12 + length bytes) ++ big_bytes 4 number ++ bytes
+hash_attribute number d = big_bytes 4 HASH ++ big_bytes 4 (12 + length d) ++ big_bytes 4 number ++ d
 
 abbrev pub hash_bytes : Option Digest → List ℕ
 hash_bytes digest =

@@ -1,14 +1,16 @@
 //! Laws of the definitions: contracts without code.
 
-ghost use Rattle.std.specs.Prelude.{◌≡◌, ℕ, ◌+◌, ◌++◌, ◌%◌, ◌<◌, ◌≤◌, true, List, length, drop, Option, Some};
+ghost use Rattle.std.specs.Prelude.{◌≡◌, ℕ, Bool, ◌+◌, ◌++◌, ◌^◌, ◌%◌, ◌<◌, ◌≤◌, true, List, length, drop, Option, Some};
 ghost use Rattle.flash_format.specs.declared.digest.Digest.{Digest};
-ghost use Rattle.flash_format.specs.Made.{name_padding, header_length, empty_entry, KeepsFour, name_room};
+ghost use Rattle.flash_format.specs.Made.{name_padding, header_length, empty_header, empty_entry, KeepsFour, name_room};
+ghost use Rattle.flash_format.specs.Head.{head_of, is_free};
+ghost use Rattle.flash_format.specs.Entry.{cell, entry};
 ghost use Rattle.flash_format.specs.Cut.{End, cut, IsCut};
 ghost use Rattle.flash_format.specs.Splices.{CellsBetween};
 ghost use Rattle.flash_format.specs.Placings.{IsSpace};
 ghost use Rattle.flash_format.specs.TypeNames.{name_of_type, type_of_text};
 ghost use Rattle.flash_format.specs.Flashmap.{fmap_head_len, area_len, is_map, map_of};
-ghost use Rattle.flash_format.specs.Laws.{EntriesAreReadAlike, CutsGoOn, EmptyHeadersAreFreeCells, GroupsAreReplaced, MadeCellsAreReadAsMade, ComponentsArePlaced, NoMapBelow, IsMapOf, IsMapInBytes, IsReadAsMap, map_bytes, PrintedTextsAreReadBack};
+ghost use Rattle.flash_format.specs.Laws.{EntriesAreReadAlike, CutsGoOn, GroupsAreReplaced, MadeCellsAreReadAsMade, ComponentsArePlaced, NoMapBelow, IsMapOf, IsMapInBytes, IsReadAsMap, map_bytes, PrintedTextsAreReadBack};
 
 use crate::flashmap::{Area, FmapHead};
 use crate::head::HEADER_LENGTH;
@@ -41,7 +43,10 @@ pub fn cuts_go_on()
 
 /// Proves that an empty entry is a free cell, whatever follows its header.
 pub fn empty_headers_are_free_cells()
-    ensures { EmptyHeadersAreFreeCells }
+    ensures { (size : ℕ) (kept : Bool) (more : List ℕ) → 64 ≤ size → size % 64 ≡ 0
+        → size < 2 ^ 32 → header_length + length more ≡ size
+        → let x = empty_header size kept ++ more in
+        (entry x ≡ cell size) × (is_free (head_of x) ≡ true) }
 {}
 
 /// Proves that replaced cells change no other component, and that an empty entry adds no component.

@@ -9,9 +9,8 @@ use Rattle.fmd_lang.specs.declared.fault.FmdFault.TheVariants as faults
 
 -- decimal digits without a leading zero, a single `0`, or `0x` and hexadecimal digits
 abbrev pub plain_value : List ℕ → Option ℕ
-plain_value (b ∷ x ∷ digits) =
-    if nat_eq b 48 then (if nat_eq x 120 then digits_value 16 digits else None)
-    else digits_value 10 (b ∷ x ∷ digits)
+plain_value (b ∷ x ∷ ds) = if nat_eq b 48 then (if nat_eq x 120 then digits_value 16 ds else None)
+    else digits_value 10 (b ∷ x ∷ ds)
 plain_value bytes = digits_value 10 bytes
 
 -- the factor of a unit, or 1
@@ -23,13 +22,11 @@ last_byte bytes = slice_index bytes (length bytes - 1)
 
 -- the bytes before the unit
 abbrev pub front_of : List ℕ → List ℕ
-front_of bytes =
-    if nat_eq (unit_value (last_byte bytes)) 1 then bytes else take (length bytes - 1) bytes
+front_of text = if nat_eq (unit_value (last_byte text)) 1 then text else take (length text - 1) text
 
 -- the value of a number with at most a single unit
 unfoldable pub literal_value : List ℕ → Option ℕ
-literal_value bytes =
-    option_map (λ n. n * unit_value (last_byte bytes)) (plain_value (front_of bytes))
+literal_value text = option_map (λ n. n * unit_value (last_byte text)) (plain_value (front_of text))
 
 -- the value below 2^32, or the fault
 abbrev pub number_at : ℕ → Option ℕ → Result ℕ FmdFault
