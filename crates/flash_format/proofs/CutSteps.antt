@@ -82,5 +82,4 @@ unfolding cut_after
 cut_cell [] span some is = absurd (omega arith)
 cut_cell (b ∷ x) span some is =
     let s = cell_span (b ∷ x) span is in
-    ap (λ (v : Entry). by_entry v (b ∷ x) (λ n. cut_after (pred n) x)) is
-    ∙ ap (λ (c : Cut). after (take span (b ∷ x) ∷ []) c) (cut_after-drop (pred span) x ∙ ap (λ (l : List ℕ). cut l) (drop-pred b x span (omega (arith, s.positive))))
+    grind (arith, cut_after-drop, drop-pred)

@@ -33,9 +33,7 @@ name_between h placed room = (grind (arith, nat_tests), grind (arith, nat_tests)
 component_alike : (h : Head) (x y : List ℕ) (n span : ℕ) → name_end h ≤ n → h.offset ≤ n → take n x ≡ take n y → component h x span ≡ component h y span
 component_alike h x y n span named placed same =
     let name : name_field h x ≡ name_field h y = range_alike x y n 24 (name_end h) named same in
-    let list : attribute_field h x ≡ attribute_field h y =
-    ap (λ (l : List ℕ). cond (eqb h.attributes_offset 0) [] l) (range_alike x y n h.attributes_offset h.offset placed same) in
-    rw (name, list) refl
+    grind (arith, nat_tests, range_alike)
 
 -- ---- the entry of a head
 pub from_head : (x : List ℕ) (h : Head) → 24 ≤ length x → head_at x ≡ Some h → entry x ≡ present h x (extent_of h (length x))

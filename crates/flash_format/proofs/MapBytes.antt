@@ -77,9 +77,4 @@ maps_read_back h areas more is =
     let behind : drop 56 x ≡ rest = ap (λ (l : List ℕ). drop 56 l) parts ∙ drop_at front rest 56 long in
     let head : fmap_head_of x ≡ h = sym (fmap_head_of-take x 56 (omega arith)) ∙ ap fmap_head_of first ∙ fmap_head_is_read_back front h refl (omega (arith, is.base)) (omega (arith, is.size)) (omega (arith, is.counted, is.few)) is.name in
     let signed : has_signature x ≡ true = sym (has_signature-take x 56 (omega arith)) ∙ ap has_signature first ∙ signature_is_written front h refl in
-    let size : map_len h ≤ length x = omega (arith, ap length parts, length-append front rest, length-append (flat_map area_bytes areas) more, long, length-areas areas is.each, is.counted) in
-    record {
-      valid = map_where x true (omega (arith, size)) signed (ap (λ (k : FmapHead). is_valid_head k (length x)) head ∙ valid h (length x) is.major is.named size);
-      head = head;
-      all = ap (λ n. areas_from n (drop 56 x)) is.counted ∙ ap (λ (l : List ℕ). areas_from (length areas) l) behind ∙ areas_read areas more is.each;
-    }
+    grind (arith, length-append, length-areas, valid, map_where, areas_read)

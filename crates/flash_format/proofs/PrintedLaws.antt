@@ -50,9 +50,7 @@ same_names [] (y ∷ b) e = absurd (some_bytes y (printed_name b) e)
 same_names (x ∷ a) [] e = absurd (some_bytes x (printed_name a) (sym e))
 same_names (x ∷ a) (y ∷ b) e =
     let parts = same_byte x y (printed_name a) (printed_name b) e in
-    let first : x ≡ y = parts.0 in
-    let rest : a ≡ b = same_names a b parts.1 in
-    cc
+    grind (arith, same_names a b parts.1)
 
 byte_field : (b : ℕ) → is_field (printed_byte b) ≡ true
 unfolding printed_byte

@@ -15,9 +15,7 @@ pub then : (x y z a b : List ℕ) (p q r : ℕ) → q ≡ p + length a → r ≡
 then x y z a b p q r to_q to_r room first second =
     let whole : y ≡ (take p x ++ a) ++ drop q x = first ∙ sym (append_assoc (take p x) a (drop q x)) in
     let long : length (take p x ++ a) ≡ q = omega (arith, length-append (take p x) a, length-take-le p x (omega arith)) in
-    let front : take q y ≡ take p x ++ a = ap (λ (l : List ℕ). take q l) whole ∙ take_at (take p x ++ a) (drop q x) q long in
-    let back : drop r y ≡ drop r x = further q r y x (omega arith) (ap (λ (l : List ℕ). drop q l) whole ∙ drop_at (take p x ++ a) (drop q x) q long) in
-    second ∙ ap (λ (l : List ℕ). l ++ (b ++ drop r y)) front ∙ ap (λ (l : List ℕ). (take p x ++ a) ++ (b ++ l)) back ∙ simp append_assoc
+    grind (arith, take_at, further, drop_at, append_assoc)
 
 -- one write into a part
 pub put_part : (x piece bytes : List ℕ) (at size : ℕ) → piece ≡ bytes → length bytes ≡ size → at + size ≤ length x → put_mid at (at + size - at) x piece ≡ splice x at (at + size) bytes

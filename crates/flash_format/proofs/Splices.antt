@@ -53,10 +53,8 @@ space_cell : (size : ℕ) (bytes : List ℕ) → IsSpace size bytes → 0 < size
 space_cell size bytes is some whole small =
     let (kept, more, shape) = is.header some in
     let room : header_length + length more ≡ size = omega (arith, is.long, ap length shape, length-append (empty_header size kept) more, length-empty_header size kept) in
-    let read = empty_header-cell size kept more (omega arith) whole small room in (
-      ap (λ (l : List ℕ). entry l) shape ∙ read.0 ∙ ap (λ (n : ℕ). cell n) (sym is.long),
-      ap (λ (l : List ℕ). is_free (head_of l)) shape ∙ read.1,
-    )
+    let read = empty_header-cell size kept more (omega arith) whole small room in
+    grind arith
 
 pub space_each : (size : ℕ) (bytes : List ℕ) → IsSpace size bytes → size % 64 ≡ 0 → size < 2 ^ 32 → All IsCell (space_cells bytes) × AllFree (space_cells bytes)
 space_each size [] is whole small = (All-nil IsCell, All-nil (λ c. is_free (head_of c) ≡ true))
