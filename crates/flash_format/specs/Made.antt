@@ -88,9 +88,8 @@ unfoldable pub hash_attribute : ℕ → List ℕ → List ℕ
 hash_attribute number d = big_bytes 4 HASH ++ big_bytes 4 (12 + length d) ++ big_bytes 4 number ++ d
 
 abbrev pub hash_bytes : Option Digest → List ℕ
-hash_bytes digest =
-    option_map_or (λ d. hash_attribute (algorithm_row (algorithm d)).number (digest_bytes d))
-    digest []
+hash_bytes digest = option_map_or
+    (λ d. hash_attribute (algorithm_row (algorithm d)).number (digest_bytes d)) digest []
 
 -- the attribute's length, or 0
 abbrev pub hash_len : Option Digest → ℕ

@@ -6,7 +6,7 @@ use Rattle.flash_format.specs.Head.{head_bytes}
 use Rattle.flash_format.specs.Made.{padded_name, hash_bytes, described_head}
 use Rattle.flash_format.specs.Splices.{splice}
 use Rattle.flash_format.proofs.EmptyEntryLaws.{length-head_bytes}
-use Rattle.flash_format.proofs.MadeLaws.{length-padded}
+use Rattle.flash_format.proofs.MadeLaws.{hash_as_long, length-padded}
 use Rattle.flash_format.proofs.PutLemmas.{then}
 use Rattle.flash_format.proofs.meta.write_meta.Goals as goal
 
@@ -30,7 +30,7 @@ returns c =
     subst (λ (l : List ℕ). c.put-at.new.out ≡ splice c.args.out.now 0 c.put-at.result l) head c.put-at.ensures.puts in
     let to_p : c.put-at.result ≡ length (head_bytes (described_head m)) = omega (arith, length-head_bytes (described_head m)) in
     let to_q : c.put_name-at.result ≡ c.put-at.result + length (padded_name m.name.now) = omega (arith, length-padded m.name.now) in
-    let to_r : c.put_hash-at.result ≡ c.put_name-at.result + length hash = omega (arith, c.put_hash-at.ensures.end, c.head_of-head.ensures.hash) in
+    let to_r : c.put_hash-at.result ≡ c.put_name-at.result + length hash = omega (arith, c.put_hash-at.ensures.end, hash_as_long (option_copied m.digest) c.head_of-head.ensures.digest) in
     let to_s : c.fill.result ≡ c.put_hash-at.result + length (replicate {A = ℕ} m.gap 255) = omega (arith, length-replicate {A = ℕ} m.gap 255) in
     let all = in_a_row c.args.out.now c.put-at.new.out c.put_name-at.new.out c.put_hash-at.new.out c.fill.new.out (head_bytes (described_head m)) (padded_name m.name.now) hash (replicate m.gap 255)
     c.put-at.result c.put_name-at.result c.put_hash-at.result c.fill.result to_p to_q to_r to_s (omega arith) one c.put_name-at.ensures.puts c.put_hash-at.ensures.puts c.fill.ensures.puts in
