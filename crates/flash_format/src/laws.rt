@@ -51,8 +51,7 @@ pub fn empty_headers_are_free_cells()
 
 /// Proves that replaced cells change no other component, and that an empty entry adds no component.
 pub fn groups_are_replaced()
-    ensures { (x : List ℕ) (start end : ℕ) (g : CellsBetween x start end)
-        → GroupsAreReplaced x start end g }
+    ensures { (x : List ℕ) (a b : ℕ) (g : CellsBetween x a b) → GroupsAreReplaced x a b g }
 {}
 
 /// Proves that a written cell decodes to its component, whatever follows.
@@ -85,8 +84,7 @@ pub fn maps_are_read_back()
 
 /// Proves that a type's name decodes to the type.
 pub fn type_names_are_read_back()
-    ensures { (kind : ℕ) (name : List ℕ) → name_of_type kind ≡ Some name
-        → type_of_text name ≡ Some kind }
+    ensures { (n : ℕ) (name : List ℕ) → name_of_type n ≡ Some name → type_of_text name ≡ Some n }
 {}
 
 /// Proves that different names and numbers have different texts without tabs.
