@@ -90,8 +90,9 @@ pub data Entry : Type 0 where
 
 -- the checks after the head
 abbrev pub component : Head → List ℕ → ℕ → Entry
-component h x span = if not (is_terminated (name_field h x)) then damaged kinds.Name else
-    (if is_some (attributes (attribute_field h x)) then cell span else damaged kinds.AttrLength)
+component h x span = if not (is_terminated (name_field h x)) then damaged kinds.Name
+    else (if not (is_some (attributes (attribute_field h x))) then damaged kinds.AttrLength
+    else cell span)
 
 abbrev pub present : Head → List ℕ → Result Extent DamageKind → Entry
 present h x (Err kind) = damaged kind
