@@ -50,12 +50,7 @@ cell_span x span e =
     let c = cell_is x span e in
     let k = checked_ok (head_of x) (length x) c.extent c.checks in
     let s : span ≡ round64 ((head_of x).offset + (head_of x).len) = sym c.spans ∙ k.span in
-    let some : 24 ≤ (head_of x).offset + (head_of x).len = omega (arith, k.front) in
-    let r = rounds (length x) ((head_of x).offset + (head_of x).len) some k.inside in
-    rw s (record { positive = r.0; whole = r.1; inside = r.2 })
-  where
-    rounds : (left n : ℕ) → 24 ≤ n → n ≤ left → (64 ≤ round64 n) × (round64 n % 64 ≡ 0) × (left % 64 ≡ 0 → round64 n ≤ left)
-    rounds left n some le = (omega arith, omega arith, λ h. omega arith)
+    record { positive = omega (arith, k.front); whole = omega arith; inside = λ h. omega (arith, k.front, k.inside) }
 
 -- ---- the equations of `cut`
 

@@ -84,6 +84,5 @@ entry_free x y span e free same in_y =
     let c = cell_is x span e in
     let large = (cell_span x span e).positive in
     let ends = content_within x span c in
-    as_under x y span c (omega arith) (sym (same_head_at x y 24 (omega arith) same)) (omega (arith, ends))
-    ∙ present_by true (head_of x) y c.extent free
-    ∙ ap (λ (n : ℕ). cell n) c.spans
+    let there = as_under x y span c (omega arith) (sym (same_head_at x y 24 (omega arith) same)) (omega (arith, ends)) in
+    grind (arith, present_by)

@@ -162,11 +162,8 @@ metadata_is_read name kind digest gap content more is =
           ∙ present_by false h x e is.kind_used
           ∙ component_whole h x e.span (made_attributes digest) named list
           ∙ ap (λ (k : ℕ). cell k) span;
-      is_used = ap (λ (k : Head). is_free k) head_there ∙ is.kind_used;
-      component = λ at. component_made at name digest content x h head_there
-          (ap (λ (l : List ℕ). before_first is_nul l) field ∙ first_nul name rest (name_end h - 24) is.name_plain room)
-          list
-          (ap (λ (l : List ℕ). slice_range l h.offset (h.offset + n)) (append_assoc metadata content more) ∙ range_of metadata content more h.offset (h.offset + n) size refl);
+      is_used = grind (arith, nat_tests);
+      component = λ at. grind (arith, component_made, first_nul, range_of, append_assoc);
     }
 
 -- ---- the whole cell

@@ -59,17 +59,9 @@ components_placed x start end g at before whole after name kind digest content f
     let here : components_from start cells ≡ component ∷ [] =
     component_among start at (space_cells before) (space_cells after) whole first.1 last.1 read.is_used there
     ∙ ap (λ (c : Component). c ∷ []) (read.component at) in
-    let Y : List ℕ → List ℕ = λ l. splice x start end l in
     record {
-      is_cut = subst (λ (l : List ℕ). IsCut (Y l) (g.before ++ cells ++ g.after) g.rest g.ending) joined (splice-cut x start end g cells each size);
-      same_end = ap (λ (l : List ℕ). (cut (Y l)).end) (sym joined) ∙ splice-end x start end g cells each size;
-      old_components =
-          group-components x start end g
-          ∙ ap (λ (l : List Component). components_from 0 g.before ++ l ++ components_from end g.after) (components-free start g.group free)
-          ∙ ap (λ (l : List Component). l ++ components_from end g.after) (append-nil (components_from 0 g.before));
-      new_components =
-          ap (λ (l : List ℕ). components (Y l)) (sym joined)
-          ∙ splice-components x start end g cells each size
-          ∙ ap (λ (l : List Component). components_from 0 g.before ++ l ++ components_from end g.after) here
-          ∙ append_assoc (components_from 0 g.before) (component ∷ []) (components_from end g.after);
+      is_cut = rw joined at (splice-cut x start end g cells each size);
+      same_end = rw joined at (splice-end x start end g cells each size);
+      old_components = rw (components-free start g.group free, append-nil) at (group-components x start end g);
+      new_components = rw (joined, here, append_assoc (components_from 0 g.before)) at (splice-components x start end g cells each size);
     }

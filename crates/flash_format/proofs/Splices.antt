@@ -89,10 +89,7 @@ module _ (x : List ℕ) (start end : ℕ) (g : CellsBetween x start end) where
   -- the cut with other cells in the group's place
   pub splice-cut : (new : List (List ℕ)) → All IsCell new → start + length (concat new) ≡ end → IsCut (splice x start end (concat new)) (g.before ++ new ++ g.after) g.rest g.ending
   splice-cut new each size = record {
-    whole =
-        ap (λ (l : List ℕ). l ++ (concat new ++ drop end x)) group-prefix
-        ∙ ap (λ (l : List ℕ). concat g.before ++ (concat new ++ l)) group-later
-        ∙ sym (concat-three g.before new g.after g.rest);
+    whole = rw (group-prefix, group-later) (sym (concat-three g.before new g.after g.rest));
     each =
         All-append IsCell (g.before ++ new) g.after
         (All-append IsCell g.before new cells-before each)

@@ -10,17 +10,7 @@ use Rattle.flash_format.specs.TypeNames.{compression_table, name_of_compression,
 found_passes : (test : ℕ × List ℕ → Bool) (rows : List (ℕ × List ℕ)) (n : ℕ) (name : List ℕ) → list_all test rows ≡ true
     → lookup (nat_eq n) rows ≡ Some name → test (n, name) ≡ true
 found_passes test [] n name all is = absurd cc
-found_passes test (row ∷ rows) n name all is =
-    let parts = and_parts (test row) (list_all test rows) all in
-    go parts.0 (found_passes test rows n name parts.1) (nat_eq n row.0) refl is
-  where
-    go : test row ≡ true → (lookup (nat_eq n) rows ≡ Some name → test (n, name) ≡ true) → (same : Bool)
-        → nat_eq n row.0 ≡ same → lookup (nat_eq n) (row ∷ rows) ≡ Some name → test (n, name) ≡ true
-    go here later true same is =
-        let whole : Some row.1 ≡ Some name = rw same at is in
-        let first : row.1 ≡ name = cc in
-        rw (eqb-true n row.0 same, ← first) here
-    go here later false same is = later (rw same at is)
+found_passes test (row ∷ rows) n name all is = grind (arith, found_passes test rows n name)
 
 abbrev is_some_of : ℕ → Option ℕ → Bool
 is_some_of n None = false
