@@ -26,8 +26,7 @@ returns c =
     let m = c.args.meta.now in
     let hash = hash_bytes (option_copied m.digest) in
     let head : c.write.result ≡ head_bytes (described_head m) = c.write.ensures.bytes ∙ ap (λ (h : Head). head_bytes h) c.head_of-head.ensures.head in
-    let one : c.put-at.new.out ≡ splice c.args.out.now 0 c.put-at.result (head_bytes (described_head m)) =
-    subst (λ (l : List ℕ). c.put-at.new.out ≡ splice c.args.out.now 0 c.put-at.result l) head c.put-at.ensures.puts in
+    let one = rw head at c.put-at.ensures.puts in
     let to_p : c.put-at.result ≡ length (head_bytes (described_head m)) = omega (arith, length-head_bytes (described_head m)) in
     let to_q : c.put_name-at.result ≡ c.put-at.result + length (padded_name m.name.now) = omega (arith, length-padded m.name.now) in
     let to_r : c.put_hash-at.result ≡ c.put_name-at.result + length hash = omega (arith, c.put_hash-at.ensures.end, hash_as_long (option_copied m.digest) c.head_of-head.ensures.digest) in
