@@ -1,15 +1,16 @@
 -- Single tokens, expected and unexpected.
 use Rattle.std.proofs.lemmas.Bool.Decides.{nat_tests}
-use Rattle.std.proofs.Common.{◌≡◌, ◌≢◌, ℕ, ◌<◌, ◌≤◌, List, [], ◌∷◌, ◌++◌, length, Some, None, Result, Ok, Err, refl, sym, ◌∙◌, ap, subst, arith, inl, inr, append_assoc}
+use Rattle.std.proofs.Common.{true, ◌≡◌, ◌≢◌, ℕ, ◌<◌, ◌≤◌, List, [], ◌∷◌, ◌++◌, length, Some, None, Result, Ok, Err, refl, sym, ◌∙◌, ap, subst, arith, inl, inr, append_assoc}
 use Rattle.std.proofs.lemmas.List.{append-nil}
 use Rattle.fmd_lang.specs.Words.{Word, words_after, kind_of}
 use Rattle.fmd_lang.specs.Grammar.{One, Then, IsA, HasValue, annotation_flag}
-use Rattle.fmd_lang.specs.Faults.{Stage, Standing, token_fault, next_standing, fault_after, fault_from, wanted_at}
+use Rattle.fmd_lang.specs.Faults.{Stage, Standing, in_annotations, token_fault, next_standing, fault_after, fault_from, wanted_at}
+use Rattle.fmd_lang.proofs.FormLemmas.{IsAnnotation, annotation-name}
 use Rattle.fmd_lang.specs.Tokens.{word_of, piece_end}
 use Rattle.fmd_lang.specs.ParserResults.{ParsesFront, Parses, IsNext}
 use Rattle.fmd_lang.specs.declared.parser.Token.{Token}
 use Rattle.fmd_lang.specs.declared.word.Kind.{Kind}
-use Rattle.fmd_lang.specs.declared.word.Kind.TheVariants.{End, Number}
+use Rattle.fmd_lang.specs.declared.word.Kind.TheVariants.{End, Name, Number}
 use Rattle.fmd_lang.specs.declared.fault.FmdFault.{FmdFault}
 use Rattle.fmd_lang.specs.declared.fault.FmdFault.TheVariants as faults
 
@@ -64,6 +65,14 @@ pub token-number : {text : List ℕ} {from depth to : ℕ} {token : Token} {n : 
     next_standing s depth Number (annotation_flag token.word.bytes.now) ≡ Some after →
     Takes (HasValue n) (s, depth) after text from to
 token-number {token = token} {n = n} s after next end number stands = grind (arith, nat_tests, token-takes)
+
+pub token-annotation : {text : List ℕ} {from depth to : ℕ} {token : Token} {flag : ℕ} (s : Stage) → IsNext text from depth token →
+    to ≡ piece_end token.word → annotation_flag token.word.bytes.now ≡ Some flag →
+    next_standing s depth Name (Some flag) ≡ Some (in_annotations true, depth) →
+    Takes (IsAnnotation flag) (s, depth) (in_annotations true, depth) text from to
+token-annotation {depth = depth} {token = token} {flag = flag} s next end known stands =
+    let name = sym next.kind ∙ annotation-name token.word.bytes.now flag known in
+    token-takes (IsAnnotation flag) s (in_annotations true, depth) Name next end name (λ e. cc) (rw known stands) known
 
 -- an unexpected token
 pub token-refuses : {text : List ℕ} {from depth : ℕ} {token : Token} (s : Stage) → IsNext text from depth token →
