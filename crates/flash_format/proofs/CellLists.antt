@@ -4,9 +4,8 @@ use Rattle.std.specs.List.{concat, sum_by}
 use Rattle.std.proofs.lemmas.Bool.Decides.{nat_tests}
 use Rattle.std.proofs.lemmas.List.{length-take-le}
 use Rattle.std.proofs.lemmas.List.Concat.{concat_is, length-flat_map}
-use Rattle.flash_format.specs.Head.{head_of, is_free}
 use Rattle.flash_format.specs.Cut.{Cut, cut, after, IsCell}
-use Rattle.flash_format.specs.Components.{Component, component_at, components_from, components, shifted_by}
+use Rattle.flash_format.specs.Components.{Component, components_from, components, shifted_by}
 use Rattle.flash_format.proofs.CutLaws.{cut_joined}
 
 pub cut_goes_on : (x : List ℕ) (at : ℕ) (cells : List (List ℕ)) → All IsCell cells → take at x ≡ concat cells → cut x ≡ after cells (cut (drop at x))

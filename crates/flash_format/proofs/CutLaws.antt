@@ -1,9 +1,9 @@
 -- A region has one division into cells and a rest.
 use Rattle.std.proofs.lemmas.Bool.Decides.{nat_tests}
-use Rattle.std.proofs.Common.{◌≡◌, ℕ, zero, suc, ◌%◌, ◌<◌, ◌≤◌, List, [], ◌∷◌, ◌++◌, length, take, drop, sym, ◌∙◌, ap, subst, refl, arith, All, append_assoc, length-append, length-drop, take-append-drop}
+use Rattle.std.proofs.Common.{◌≡◌, ℕ, zero, suc, ◌%◌, ◌<◌, ◌≤◌, List, [], ◌∷◌, ◌++◌, length, take, drop, ◌∙◌, ap, refl, arith, All, append_assoc, length-append, length-drop, take-append-drop}
 use Rattle.std.specs.List.{concat}
 use Rattle.std.proofs.lemmas.List.{take_at, drop_at, append-nil, take-take, take_all, length-take-le}
-use Rattle.std.proofs.lemmas.List.Elements.{All-nil, All-cons, All-head, All-tail}
+use Rattle.std.proofs.lemmas.List.Elements.{All-nil, All-head, All-tail}
 use Rattle.flash_format.specs.Entry.{Entry, absent, damaged, cell, entry}
 use Rattle.flash_format.specs.Cut.{Cut, End, complete, tail, damage, ends, after, cut, IsCell, EndsAt, IsCut}
 use Rattle.flash_format.proofs.CutSteps.{cell_span, cut_empty, cut_step, cut_cell}

@@ -1,15 +1,13 @@
 -- The steps of a cut, for any bound of its recursion.
-use Rattle.std.proofs.Common.{◌≡◌, ℕ, zero, suc, pred, ◌+◌, ◌%◌, ◌<◌, ◌≤◌, false, List, [], ◌∷◌, length, take, drop, Option, Some, None, Result, Ok, Err, refl, sym, ap, ◌∙◌, arith}
-use Rattle.std.specs.Option.{option_map_or}
-use Rattle.std.proofs.lemmas.Bool.{le-ltb}
+use Rattle.std.proofs.Common.{◌≡◌, ℕ, zero, suc, pred, ◌+◌, ◌<◌, ◌≤◌, false, List, [], ◌∷◌, length, take, drop, Some, Result, Ok, Err, refl, sym, ap, ◌∙◌, arith}
 use Rattle.std.proofs.lemmas.Bool.Decides.{nat_tests}
 use Rattle.flash_format.specs.declared.head.Head.{Head}
 use Rattle.flash_format.specs.declared.head.Extent.{Extent}
 use Rattle.flash_format.specs.declared.head.DamageKind.{DamageKind}
 use Rattle.flash_format.specs.Head.{head_of, head_at, is_free, attributes_misplaced, extent_of, round64}
-use Rattle.flash_format.specs.Entry.{Entry, absent, cell, entry, present, front}
+use Rattle.flash_format.specs.Entry.{Entry, cell, entry, present, front}
 use Rattle.flash_format.proofs.Fronts.{drop-pred}
-use Rattle.flash_format.specs.Cut.{Cut, complete, ends, after, by_entry, cut, cut_after, IsSpan}
+use Rattle.flash_format.specs.Cut.{complete, ends, after, by_entry, cut, cut_after, IsSpan}
 
 -- the results of passed checks of a head
 pub record IsChecked (h : Head) (left : ℕ) (e : Extent) : Type 0 where

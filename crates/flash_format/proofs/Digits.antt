@@ -1,5 +1,5 @@
 -- Hexadecimal digits, written from the last to the first.
-use Rattle.std.proofs.Common.{◌≡◌, ℕ, zero, suc, ◌+◌, ◌-◌, ◌/◌, ◌%◌, ◌^◌, ◌<◌, ◌≤◌, false, List, [], ◌∷◌, length, drop, set, refl, sym, ap, ◌∙◌, arith, eqb, add-one}
+use Rattle.std.proofs.Common.{◌≡◌, ℕ, zero, suc, ◌+◌, ◌-◌, ◌/◌, ◌%◌, ◌^◌, ◌<◌, ◌≤◌, false, List, [], ◌∷◌, length, drop, set, sym, ap, ◌∙◌, arith, add-one}
 use Rattle.std.proofs.Math.Nat.{pow-suc}
 use Rattle.std.proofs.lemmas.List.{drop-set, drop-set-lt, length-set, nil_from_length, length-drop}
 use Rattle.std.proofs.lemmas.Grind.{common_steps}

@@ -1,8 +1,7 @@
 -- Made cells decode to their components.
-use Rattle.std.proofs.Common.{◌≡◌, ℕ, zero, suc, ◌+◌, ◌-◌, ◌%◌, ◌^◌, ◌<◌, ◌≤◌, Bool, true, false, cond, List, [], ◌∷◌, ◌++◌, length, take, drop, replicate, Option, Some, None, Result, refl, sym, ap, ◌∙◌, subst, arith, ltb, not, append_assoc, length-append, length-drop, lit<}
-use Rattle.std.specs.Prelude.{slice_range, is_some}
+use Rattle.std.proofs.Common.{◌≡◌, ℕ, zero, suc, ◌+◌, ◌-◌, ◌%◌, ◌^◌, ◌<◌, ◌≤◌, Bool, true, false, List, [], ◌∷◌, ◌++◌, length, take, drop, replicate, Option, Some, None, Result, refl, sym, ap, ◌∙◌, subst, arith, not, append_assoc, length-append, length-drop}
+use Rattle.std.specs.Prelude.{slice_range}
 use Rattle.std.specs.List.{list_any, before_first, prefix_len}
-use Rattle.std.specs.Option.{option_map}
 use Rattle.std.proofs.lemmas.Bool.{le-ltb, ne_eqb, or_from, or_parts, or_right}
 use Rattle.std.proofs.lemmas.Bool.Decides.{nat_tests}
 use Rattle.std.proofs.lemmas.List.Folds.{list_any-append}
@@ -13,14 +12,12 @@ use Rattle.byteorder.specs.Numbers.{big_number-reads_back}
 use Rattle.flash_format.specs.declared.head.Head.{Head}
 use Rattle.flash_format.specs.declared.head.Extent.{Extent}
 use Rattle.flash_format.specs.declared.head.DamageKind.{DamageKind}
-use Rattle.flash_format.specs.declared.head.DamageKind.TheVariants as kinds
 use Rattle.flash_format.specs.declared.digest.Digest.{Digest}
 use Rattle.flash_format.specs.declared.digest.Algorithm.{Algorithm}
 use Rattle.flash_format.specs.declared.digest.Algorithm.TheVariants.{Sha256, Sha512}
-use Rattle.flash_format.specs.declared.attribute.AttrHead.{AttrHead}
-use Rattle.flash_format.specs.Head.{head_of, head_at, head_bytes, is_free, round64, be32}
+use Rattle.flash_format.specs.Head.{head_of, head_at, head_bytes, round64}
 use Rattle.flash_format.specs.Made.{name_padding, padding, IsDigest, IsMade, KeepsFour, name_room, meta_length, algorithm_row, algorithm, digest_bytes, hash_attribute, hash_bytes, hash_len, made_head, padded_name, made_metadata, made, made_attributes}
-use Rattle.flash_format.specs.Entry.{Attribute, attr_head_of, attributes, attributes_after, attribute, ends_list, is_malformed, is_unused, has_bad_len, HASH, damaged, cell, present, component, is_nul, name_end, name_field, is_terminated, attribute_field}
+use Rattle.flash_format.specs.Entry.{Attribute, attr_head_of, attributes, attributes_after, ends_list, HASH, cell, present, component, is_nul, name_end, name_field, is_terminated, attribute_field}
 use Rattle.flash_format.specs.Components.{component_at}
 use Rattle.flash_format.specs.Placings.{IsReadAs, made_component}
 use Rattle.flash_format.proofs.AttributeSteps.{attributes_end, attributes_more}

@@ -1,15 +1,14 @@
 -- A component in place of free cells: one more, and no other change.
 use Rattle.std.proofs.lemmas.Bool.Decides.{nat_tests}
-use Rattle.std.proofs.Common.{◌≡◌, ℕ, ◌+◌, ◌-◌, ◌%◌, ◌≤◌, false, cond, List, [], ◌∷◌, ◌++◌, length, Option, sym, ◌∙◌, ap, subst, refl, arith, All, append_assoc, length-append}
-use Rattle.std.specs.Prelude.{is_some}
+use Rattle.std.proofs.Common.{◌≡◌, ℕ, ◌+◌, ◌-◌, ◌%◌, ◌≤◌, false, cond, List, [], ◌∷◌, ◌++◌, length, Option, ◌∙◌, ap, arith, All, append_assoc, length-append}
 use Rattle.std.specs.List.{concat}
 use Rattle.std.proofs.lemmas.List.{append-nil}
 use Rattle.std.proofs.lemmas.List.Elements.{All-nil, All-cons, All-append}
 use Rattle.flash_format.specs.Head.{head_of, is_free}
-use Rattle.flash_format.specs.Made.{header_length, empty_header, empty_entry, padding, KeepsFour}
-use Rattle.flash_format.specs.Cut.{cut, IsCell, IsCut}
-use Rattle.flash_format.specs.Components.{Component, component_at, components_from, components}
-use Rattle.flash_format.specs.Splices.{AllFree, splice}
+use Rattle.flash_format.specs.Made.{empty_entry, KeepsFour}
+use Rattle.flash_format.specs.Cut.{IsCell}
+use Rattle.flash_format.specs.Components.{Component, component_at, components_from}
+use Rattle.flash_format.specs.Splices.{AllFree}
 use Rattle.flash_format.specs.Placings.{IsSpace, space_cells, made_component}
 use Rattle.flash_format.specs.Laws.{ComponentsArePlaced}
 use Rattle.flash_format.proofs.CutSteps.{cell_span}

@@ -6,11 +6,10 @@ use Rattle.std.proofs.lemmas.List.{take_at, drop_at, append-nil}
 use Rattle.std.proofs.lemmas.List.Elements.{All-nil, All-cons, All-head, All-tail, All-append}
 use Rattle.flash_format.specs.Head.{head_of, is_free}
 use Rattle.flash_format.specs.Made.{header_length, empty_header}
-use Rattle.flash_format.specs.Entry.{cell, entry}
 use Rattle.flash_format.specs.Placings.{IsSpace, space_cells}
 use Rattle.flash_format.proofs.EmptyEntryLaws.{empty_header-cell, length-empty_header}
-use Rattle.flash_format.specs.Cut.{Cut, cut, IsCell, IsCut}
-use Rattle.flash_format.specs.Components.{Component, component_at, components_from, components}
+use Rattle.flash_format.specs.Cut.{cut, IsCell, IsCut}
+use Rattle.flash_format.specs.Components.{component_at, components_from, components}
 use Rattle.flash_format.specs.Splices.{CellsBetween, splice}
 pub use Rattle.std.proofs.lemmas.List.Folds.{concat-append}
 pub use Rattle.flash_format.specs.Splices.{AllFree}

@@ -1,5 +1,5 @@
 -- Laws of the definitions.
-use Rattle.std.specs.Prelude.{◌≡◌, ◌≢◌, ℕ, ◌+◌, ◌-◌, ◌%◌, ◌^◌, ◌<◌, ◌≤◌, Bool, true, List, [], ◌∷◌, ◌++◌, length, take, drop, All, MatchOption, Some, Option}
+use Rattle.std.specs.Prelude.{◌≡◌, ◌≢◌, ℕ, ◌+◌, ◌-◌, ◌^◌, ◌<◌, ◌≤◌, Bool, true, List, [], ◌∷◌, ◌++◌, length, take, drop, All, MatchOption, Option}
 use Rattle.std.specs.List.{concat, flat_map, sum_by}
 use Rattle.flash_format.specs.declared.digest.Digest.{Digest}
 use Rattle.flash_format.specs.Head.{head_of, is_free, round64}
@@ -13,7 +13,6 @@ use Rattle.flash_format.specs.Flashmap.{area_bytes, areas_from, fmap_head_bytes,
 use Rattle.flash_format.specs.declared.flashmap.Area.{Area}
 use Rattle.flash_format.specs.declared.flashmap.FmapHead.{FmapHead}
 use Rattle.flash_format.specs.Texts.{hexadecimal, is_field, printed_name}
-use Rattle.flash_format.specs.TypeNames.{name_of_type, type_of_text}
 
 pub record EntriesAreReadAlike : Type 0 where
   -- a multiple of 64, inside the region

@@ -1,16 +1,14 @@
 -- The numbers and areas of a text without a fault fit into the fields of the table.
 use Rattle.std.proofs.lemmas.Bool.Decides.{nat_tests}
-use Rattle.std.proofs.Common.{◌≡◌, ℕ, ◌^◌, ◌<◌, All, List, [], ◌∷◌, ◌++◌, length, Option, Some, None, sym, ◌∙◌, ap, subst, arith}
-use Rattle.std.specs.Prelude.{nat_lt, unwrap_or}
-use Rattle.std.specs.Result.{result_err}
-use Rattle.fmd_lang.specs.Numbers.{number_at}
+use Rattle.std.proofs.Common.{◌≡◌, ℕ, ◌^◌, ◌<◌, All, List, [], ◌∷◌, ◌++◌, length, Option, Some, None, ◌∙◌, ap, subst, arith}
+use Rattle.std.specs.Prelude.{unwrap_or}
 use Rattle.std.proofs.lemmas.List.Elements.{All-nil, All-cons, All-head, All-tail}
 use Rattle.flash_format.specs.declared.flashmap.Area.{Area}
 use Rattle.fmd_lang.specs.Words.{Word, kind_of, words}
-use Rattle.fmd_lang.specs.Tree.{Tree, names}
+use Rattle.fmd_lang.specs.Tree.{Tree}
 use Rattle.fmd_lang.specs.Grammar.{HasValue, IsOffset, IsSize, annotation_flag}
-use Rattle.fmd_lang.specs.Faults.{Stage, start, first_fault, fault_from, next_standing, token_fault, text_limit, wanted_at}
-use Rattle.fmd_lang.specs.LayoutFaults.{layout_fault, names_fault}
+use Rattle.fmd_lang.specs.Faults.{Stage, first_fault, fault_from, next_standing, token_fault, wanted_at}
+use Rattle.fmd_lang.specs.LayoutFaults.{layout_fault}
 use Rattle.fmd_lang.proofs.LayoutLemmas.{few-sections}
 use Rattle.fmd_lang.proofs.PlaceLemmas.{areas-filled}
 use Rattle.fmd_lang.specs.Table.{AreasBelow}

@@ -1,5 +1,4 @@
 -- A valid layout has the computed places, and no fault.
-use Rattle.std.proofs.lemmas.Bool.Decides.{nat_tests}
 use Rattle.std.proofs.Common.{◌≡◌, ℕ, suc, ◌+◌, List, [], ◌∷◌, ◌++◌, length, length-append, None, refl, sym, ◌∙◌, ap, arith}
 use Rattle.fmd_lang.specs.Tree.{Tree, section, Forest, none, some, section_count, names, names_of}
 use Rattle.fmd_lang.specs.Layout.{places_of, place_end, sibling, siblings, first_misfit}

@@ -1,15 +1,14 @@
 -- The computed places are the only solution of the equations, unless a place is refused.
 use Rattle.std.proofs.lemmas.Bool.Decides.{nat_tests}
-use Rattle.std.proofs.Common.{◌≡◌, ℕ, ◌+◌, ◌-◌, ◌<◌, ◌≤◌, nat_le, true, false, IsTrue, List, [], ◌∷◌, ◌++◌, length, take, drop, get_or, add-one, Option, Some, None, option_map, Result, Ok, Err, IfOk, Vec, Global, refl, ◌∙◌, ap, arith, rules}
+use Rattle.std.proofs.Common.{◌≡◌, ℕ, ◌+◌, ◌-◌, ◌<◌, ◌≤◌, nat_le, true, IsTrue, List, [], ◌∷◌, ◌++◌, length, take, drop, get_or, add-one, Option, Some, None, Result, Ok, Err, IfOk, Vec, Global, refl, ◌∙◌, ap, arith}
 use Rattle.std.specs.List.{list_all}
 use Rattle.std.proofs.lemmas.Bool.{le-leb}
 use Rattle.std.proofs.lemmas.List.{take_rest}
 use Rattle.std.proofs.Math.Seq.{drop-cons}
 use Rattle.fmd_lang.specs.Faults.{FailsWith}
-use Rattle.fmd_lang.specs.Layout.{ambiguous_sibling, place_of, places_of, place_end, IsPlaced, first_misfit, misfit_of, row_fault}
+use Rattle.fmd_lang.specs.Layout.{place_of, places_of, place_end, IsPlaced, first_misfit, misfit_of, row_fault}
 use Rattle.fmd_lang.proofs.OptionLemmas.{or-none}
 use Rattle.fmd_lang.specs.declared.fault.FmdFault.{FmdFault}
-use Rattle.fmd_lang.specs.declared.fault.FmdFault.TheVariants as faults
 use Rattle.fmd_lang.specs.declared.row.Sibling.{Sibling}
 use Rattle.fmd_lang.specs.declared.row.Place.{Place}
 

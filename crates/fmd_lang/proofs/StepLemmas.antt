@@ -4,7 +4,7 @@ use Rattle.std.proofs.Common.{true, ◌≡◌, ◌≢◌, ℕ, ◌<◌, ◌≤�
 use Rattle.std.proofs.lemmas.List.{append-nil}
 use Rattle.fmd_lang.specs.Words.{Word, words_after, kind_of}
 use Rattle.fmd_lang.specs.Grammar.{One, Then, IsA, HasValue, annotation_flag}
-use Rattle.fmd_lang.specs.Faults.{Stage, Standing, in_annotations, token_fault, next_standing, fault_after, fault_from, wanted_at}
+use Rattle.fmd_lang.specs.Faults.{Stage, Standing, in_annotations, token_fault, next_standing, fault_from, wanted_at}
 use Rattle.fmd_lang.proofs.FormLemmas.{IsAnnotation, annotation-name}
 use Rattle.fmd_lang.specs.Tokens.{word_of, piece_end}
 use Rattle.fmd_lang.specs.ParserResults.{ParsesFront, Parses, IsNext}

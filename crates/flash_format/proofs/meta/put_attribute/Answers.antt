@@ -1,6 +1,5 @@
-use Rattle.std.proofs.Common.{◌≡◌, ◌≤◌, ◌++◌, length, ap, arith, subst, List, ℕ}
+use Rattle.std.proofs.Common.{◌≤◌, length, ap, arith, List, ℕ}
 use Rattle.flash_format.specs.Made.{hash_attribute}
-use Rattle.flash_format.specs.Splices.{splice}
 use Rattle.flash_format.proofs.PutLemmas.{then}
 use Rattle.flash_format.proofs.meta.put_attribute.Goals as goal
 

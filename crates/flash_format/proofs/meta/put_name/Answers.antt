@@ -1,7 +1,6 @@
-use Rattle.std.proofs.Common.{◌≡◌, ℕ, ◌+◌, ◌-◌, length, replicate, subst, arith}
+use Rattle.std.proofs.Common.{◌≡◌, ℕ, ◌+◌, ◌-◌, length, replicate, arith}
 use Rattle.std.proofs.lemmas.List.{length-replicate}
 use Rattle.flash_format.specs.Made.{name_room}
-use Rattle.flash_format.specs.Splices.{splice}
 use Rattle.flash_format.proofs.PutLemmas.{then}
 use Rattle.flash_format.proofs.meta.put_name.Goals as goal
 

@@ -1,5 +1,5 @@
 use Rattle.std.proofs.lemmas.Grind.{common_steps}
-use Rattle.std.proofs.Common.{ap, length, arith, rules, inl, inr}
+use Rattle.std.proofs.Common.{ap, length, arith, rules}
 use Rattle.std.proofs.lemmas.Result.{err_from_is_err_and}
 use Rattle.fmd_lang.specs.declared.section.Section.{out-Section}
 use Rattle.fmd_lang.proofs.LayoutLemmas.{all-pushed, area-is, part-at, part-pushed, part-refused, place-inside}

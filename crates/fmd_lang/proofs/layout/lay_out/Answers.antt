@@ -1,5 +1,5 @@
 use Rattle.std.proofs.lemmas.Bool.Decides.{nat_tests}
-use Rattle.std.proofs.Common.{◌∙◌, sym, ap, rules, arith, length}
+use Rattle.std.proofs.Common.{arith}
 use Rattle.fmd_lang.specs.Tree.{view}
 use Rattle.fmd_lang.proofs.LayoutLemmas.{few-sections, root-laid, table-is, view-size}
 use Rattle.fmd_lang.proofs.layout.lay_out.Goals as goal

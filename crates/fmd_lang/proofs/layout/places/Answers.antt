@@ -1,9 +1,5 @@
 use Rattle.std.proofs.lemmas.Bool.Decides.{nat_tests}
-use Rattle.std.proofs.Common.{◌≡◌, ◌∙◌, ap, arith, length, rules, suc}
-use Rattle.std.proofs.lemmas.Result.{IfOk-weaker}
-use Rattle.fmd_lang.specs.Layout.{places_of, siblings}
-use Rattle.fmd_lang.specs.Tree.{views}
-use Rattle.fmd_lang.specs.declared.section.Section.{out-Section}
+use Rattle.std.proofs.Common.{arith}
 use Rattle.fmd_lang.proofs.LayoutLemmas.{length-siblings, length-le-count, length-filled, view-count}
 use Rattle.fmd_lang.proofs.RowLemmas.{laid-inside}
 use Rattle.fmd_lang.proofs.layout.places.Goals as goal

@@ -1,5 +1,5 @@
 use Rattle.std.proofs.lemmas.Bool.Decides.{nat_tests}
-use Rattle.std.proofs.Common.{◌∙◌, sym, arith}
+use Rattle.std.proofs.Common.{arith}
 use Rattle.std.proofs.lemmas.List.{append-nil, drop_all}
 use Rattle.fmd_lang.proofs.LayoutLemmas.{count-from, sibling-pushed}
 use Rattle.fmd_lang.proofs.layout.siblings.Goals as goal

@@ -1,5 +1,5 @@
 use Rattle.std.proofs.lemmas.Bool.Decides.{nat_tests}
-use Rattle.std.proofs.Common.{◌∙◌, ℕ, List, Bor, sym, append_assoc, arith}
+use Rattle.std.proofs.Common.{append_assoc, arith}
 use Rattle.std.proofs.lemmas.List.{append-nil, drop_all, map-append}
 use Rattle.fmd_lang.proofs.LayoutLemmas.{names-from, view-is}
 use Rattle.fmd_lang.proofs.names.+push_names.Goals as goal

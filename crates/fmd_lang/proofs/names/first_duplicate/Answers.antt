@@ -1,6 +1,6 @@
 use Rattle.std.proofs.lemmas.Bool.Decides.{nat_tests}
 use Rattle.std.proofs.lemmas.Grind.{common_steps}
-use Rattle.std.proofs.Common.{◌∙◌, sym, refl, rules, true, false, get_or, arith}
+use Rattle.std.proofs.Common.{◌∙◌, sym, refl, rules, false, get_or, arith}
 use Rattle.std.proofs.lemmas.Bool.{not-false, not-true}
 use Rattle.std.proofs.lemmas.List.{drop_all}
 use Rattle.fmd_lang.proofs.NameLemmas.{has, no_name, duplicate-at, has-more}

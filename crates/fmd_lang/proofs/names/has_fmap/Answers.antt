@@ -1,5 +1,5 @@
 use Rattle.std.proofs.lemmas.Grind.{common_steps}
-use Rattle.std.proofs.Common.{◌∙◌, sym, refl, true, false, arith}
+use Rattle.std.proofs.Common.{◌∙◌, sym, refl, arith}
 use Rattle.std.proofs.lemmas.List.{drop_all}
 use Rattle.fmd_lang.proofs.NameLemmas.{any-from}
 use Rattle.fmd_lang.proofs.names.has_fmap.Goals as goal

@@ -1,8 +1,8 @@
-use Rattle.std.proofs.Common.{◌≡◌, refl, sym, ◌∙◌, Some, true, false}
+use Rattle.std.proofs.Common.{◌≡◌, refl, sym, ◌∙◌, Some, false}
 use Rattle.fmd_lang.specs.Faults.{in_annotations}
 use Rattle.fmd_lang.specs.Grammar.{HaveFlags, Until, flags_with}
-use Rattle.fmd_lang.specs.declared.word.Kind.TheVariants.{CloseParen, Name}
-use Rattle.fmd_lang.proofs.FormLemmas.{IsAnnotation, annotation-name, flags-cons}
+use Rattle.fmd_lang.specs.declared.word.Kind.TheVariants.{CloseParen}
+use Rattle.fmd_lang.proofs.FormLemmas.{flags-cons}
 use Rattle.fmd_lang.proofs.StepLemmas.{parses-after, token-annotation}
 use Rattle.fmd_lang.proofs.parser.first_annotation.Goals as goal
 

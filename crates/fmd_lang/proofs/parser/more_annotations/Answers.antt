@@ -1,8 +1,8 @@
 use Rattle.std.proofs.Common.{◌≡◌, ◌≢◌, ℕ, None, refl, sym, ◌∙◌, arith, inr, true}
 use Rattle.fmd_lang.specs.Faults.{in_annotations, next_standing, past}
 use Rattle.fmd_lang.specs.declared.word.Kind.{Kind}
-use Rattle.fmd_lang.specs.declared.word.Kind.TheVariants.{CloseParen, Name}
-use Rattle.fmd_lang.proofs.FormLemmas.{IsAnnotation, annotation-name, flags-snoc}
+use Rattle.fmd_lang.specs.declared.word.Kind.TheVariants.{CloseParen}
+use Rattle.fmd_lang.proofs.FormLemmas.{flags-snoc}
 use Rattle.fmd_lang.proofs.StepLemmas.{reads-as, reads-then, token-annotation, token-mark, token-refuses}
 use Rattle.fmd_lang.proofs.parser.more_annotations.Goals as goal
 

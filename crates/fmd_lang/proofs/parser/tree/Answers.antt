@@ -1,6 +1,5 @@
 use Rattle.std.proofs.lemmas.Bool.Decides.{nat_tests}
-use Rattle.std.proofs.Common.{ap, ◌∙◌, length, arith}
-use Rattle.fmd_lang.specs.Faults.{fault_from, past}
+use Rattle.std.proofs.Common.{arith}
 use Rattle.fmd_lang.proofs.StepLemmas.{reads-all, token-over}
 use Rattle.fmd_lang.proofs.parser.tree.Goals as goal
 

@@ -1,9 +1,8 @@
 use Rattle.std.proofs.lemmas.Grind.{common_steps}
 use Rattle.std.proofs.lemmas.Bool.Decides.{nat_tests}
-use Rattle.std.proofs.Common.{◌∙◌, ◌++◌, sym, ap, inr, arith}
+use Rattle.std.proofs.Common.{arith}
 use Rattle.std.proofs.lemmas.List.{append-nil, drop_all}
 use Rattle.std.proofs.lemmas.Result.{err_from_is_err_and}
-use Rattle.fmd_lang.specs.Layout.{places_of}
 use Rattle.fmd_lang.proofs.RowLemmas.{one-refused}
 use Rattle.fmd_lang.proofs.row.lay_row.Goals as goal
 

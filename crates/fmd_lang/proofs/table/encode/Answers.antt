@@ -1,5 +1,5 @@
 use Rattle.std.proofs.lemmas.Bool.Decides.{nat_tests}
-use Rattle.std.proofs.Common.{◌≡◌, arith, length, refl, rules}
+use Rattle.std.proofs.Common.{arith, length, refl}
 use Rattle.std.proofs.lemmas.Bool.{le-ltb}
 use Rattle.fmd_lang.specs.Table.{area_limit}
 use Rattle.fmd_lang.proofs.table.encode.Goals as goal

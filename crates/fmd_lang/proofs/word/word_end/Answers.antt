@@ -1,7 +1,5 @@
 use Rattle.std.proofs.lemmas.Bool.Decides.{nat_tests}
-use Rattle.std.proofs.Common.{◌∙◌, ◌+◌, ap, sym, arith}
-use Rattle.std.specs.List.{prefix_len}
-use Rattle.fmd_lang.specs.Words.{is_plain}
+use Rattle.std.proofs.Common.{arith}
 use Rattle.fmd_lang.proofs.WordLemmas.{tail, words_after-plain, words_after-single}
 use Rattle.fmd_lang.proofs.word.word_end.Goals as goal
 
