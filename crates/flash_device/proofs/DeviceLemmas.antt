@@ -1,5 +1,5 @@
 -- Consecutive calls of a device, for all crates which read devices.
-use Rattle.std.proofs.Common.{◌≡◌, ℕ, ◌+◌, ◌≤◌, Bool, IsTrue, refl, sym, ◌∙◌, subst, arith, ◌-◌, ◌++◌, take, drop, rules}
+use Rattle.std.proofs.Common.{◌≡◌, ℕ, ◌+◌, ◌≤◌, Bool, IsTrue, refl, sym, ◌∙◌, subst, arith, ◌-◌, ◌++◌, take, drop}
 use Rattle.std.specs.Prelude.{List, length, Result, Ok, Err, IsOk}
 use Rattle.std.proofs.Common.{length-take, length-drop}
 use Rattle.flash_device.specs.Regions.{Range, LiesIn, LiesOn, bytes_in}

@@ -1,5 +1,5 @@
 -- Reads through the window: effects and numbers of calls, for all crates which read devices.
-use Rattle.std.proofs.Common.{◌≡◌, ◌∙◌, ℕ, ◌+◌, ◌-◌, ◌≤◌, IsTrue, List, length, take, min, sym, arith, ⊎_elim, rules}
+use Rattle.std.proofs.Common.{◌≡◌, ◌∙◌, ℕ, ◌+◌, ◌-◌, ◌≤◌, IsTrue, List, length, take, min, sym, arith, ⊎_elim}
 use Rattle.std.proofs.Common.{length-take}
 use Rattle.std.specs.Prelude.{slice_range}
 use Rattle.std.proofs.lemmas.Bool.{cases_lt}
@@ -10,7 +10,7 @@ use Rattle.flash_device.specs.Pages.{Held, Nothing, Window, Piece, Pages, IsTrue
 use Rattle.flash_device.specs.declared.paged.Buffered.{Buffered}
 use Rattle.flash_device.specs.declared.paged.Buffered.TheVariants as code
 use Rattle.flash_device.proofs.BytesLemmas.{part_of_window}
-use Rattle.flash_device.proofs.DeviceLemmas.{Calls-at_most, Reads-none, Reads-then}
+use Rattle.flash_device.proofs.DeviceLemmas.{Reads-none}
 
 -- a part of a buffer with a window over the part
 pub part_read : (device : Device) (buffer : List ℕ) (held : Buffered) (from size at n : ℕ) → held ≡ code.Window from size → IsTrueTo device (held_in buffer held) → Covers (held_in buffer held) at n → IsTrue device.honest

@@ -1,15 +1,14 @@
 -- The search for a map, piece by piece.
 use Rattle.std.specs.Option.{option_map}
-use Rattle.std.proofs.Common.{⊎_elim, le_refl, zero, suc, ◌≡◌, ◌∙◌, ℕ, ◌+◌, ◌-◌, ◌/◌, ◌<◌, ◌≤◌, IsTrue, List, Option, Some, None, length, take, drop, sym, ap, subst, arith, rules}
+use Rattle.std.proofs.Common.{⊎_elim, le_refl, zero, suc, ◌≡◌, ◌∙◌, ℕ, ◌+◌, ◌-◌, ◌/◌, ◌<◌, ◌≤◌, IsTrue, List, Option, Some, None, length, take, drop, sym, ap, subst, arith}
 use Rattle.std.specs.Prelude.{slice_range, slice_index}
-use Rattle.std.proofs.lemmas.Bool.{and_parts, cases_lt, cases_eq, eqb-false}
+use Rattle.std.proofs.lemmas.Bool.{and_parts, cases_lt, cases_eq}
 use Rattle.std.proofs.lemmas.Slice.Eq.{bytes_eq-Decides}
 use Rattle.std.proofs.lemmas.List.{get_or-take, get_or-drop, length-take}
 use Rattle.std.proofs.lemmas.List.Prefix.{at_from_reads}
 use lib.Chars.{codes}
 use lib.Dec.{eqb}
 use Rattle.memchr.specs.Find.{Nowhere, IsFirst, OccursAt, FindsNeedle}
-use Rattle.flash_device.specs.Device.{Device}
 use Rattle.flash_device.specs.Pages.{Pages, HasRead}
 use Rattle.flash_map.specs.Fmap.{HasSignatureAt, map_head, map_head_in, found_from}
 use Rattle.flash_format.specs.declared.flashmap.FmapHead.{FmapHead}

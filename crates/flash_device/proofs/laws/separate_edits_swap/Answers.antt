@@ -1,5 +1,5 @@
 -- Edits of two separate regions.
-use Rattle.std.proofs.Common.{◌≡◌, ◌⊎◌, inl, inr, ℕ, ◌+◌, ◌≤◌, List, length, sym, ◌∙◌, ap, arith, rules}
+use Rattle.std.proofs.Common.{◌≡◌, ◌⊎◌, inl, inr, ℕ, ◌+◌, ◌≤◌, List, length, sym, ◌∙◌, ap, arith}
 use Rattle.flash_device.specs.Device.{overwritten}
 use Rattle.flash_device.specs.Regions.{Range, LiesIn, bytes_in}
 use Rattle.flash_device.specs.Laws.{LieApart, with_edit}

@@ -1,8 +1,6 @@
-use Rattle.std.proofs.Common.{◌+◌, ◌∙◌, [], ◌∷◌, drop, length, ap, arith, length-append, rules}
-use Rattle.flash_format.specs.Flashmap.{areas_from}
+use Rattle.std.proofs.Common.{◌+◌, [], ◌∷◌, length, ap, arith, length-append}
 use Rattle.flash_device.proofs.DeviceLemmas.{honest_still}
 use Rattle.flash_device.proofs.WindowLemmas.{HasRead-then}
-use Rattle.flash_map.specs.Areas.{numbered_from}
 use Rattle.flash_map.proofs.MapAreas.{areas-more}
 use Rattle.flash_map.proofs.areas.map_areas.Goals as goal
 

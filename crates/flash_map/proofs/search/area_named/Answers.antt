@@ -1,4 +1,4 @@
-use Rattle.std.proofs.Common.{◌∙◌, ◌+◌, ◌*◌, arith, ap, rules}
+use Rattle.std.proofs.Common.{◌∙◌, ◌+◌, ◌*◌, arith, ap}
 use Rattle.std.proofs.Common.{◌≡◌, ◌-◌}
 use Rattle.flash_device.proofs.DeviceLemmas.{honest_still}
 use Rattle.flash_map.proofs.AreaLemmas.{named_from, area_found, area_more, area_none}

@@ -1,4 +1,4 @@
-use Rattle.std.proofs.Common.{◌+◌, ◌≤◌, length, arith, rules}
+use Rattle.std.proofs.Common.{◌+◌, ◌≤◌, length, arith}
 use Rattle.flash_map.proofs.FmapLemmas.{SearchedTo-part, SearchedTo-signature, SearchedTo-table, found_none, head_none}
 use Rattle.flash_map.proofs.search.find_fmap_from.Goals as goal
 

@@ -1,4 +1,4 @@
-use Rattle.std.proofs.Common.{arith, length-drop, ◌≤◌, ◌-◌, ◌+◌, rules}
+use Rattle.std.proofs.Common.{arith, length-drop, ◌≤◌, ◌-◌, ◌+◌}
 use Rattle.std.proofs.lemmas.Grind.{common_steps}
 use Rattle.flash_map.proofs.FmapLemmas.{head_read, map_head-short}
 use Rattle.flash_map.proofs.search.map_head_at.Goals as goal

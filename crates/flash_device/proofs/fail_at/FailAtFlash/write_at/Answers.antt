@@ -1,4 +1,4 @@
-use Rattle.std.proofs.Common.{rules, arith}
+use Rattle.std.proofs.Common.{rules}
 use Rattle.flash_device.proofs.BytesLemmas.{torn_part}
 use Rattle.flash_device.proofs.fail_at.FailAtFlash.write_at.Goals as goal
 

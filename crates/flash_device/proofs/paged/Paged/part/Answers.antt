@@ -1,4 +1,3 @@
-use Rattle.std.proofs.Common.{arith, rules}
 use Rattle.flash_device.proofs.WindowLemmas.{part_read}
 use Rattle.flash_device.proofs.paged.Paged.part.Goals as goal
 
