@@ -1,5 +1,5 @@
 -- The kinds, counts and shown rows after another row.
-use Rattle.std.proofs.Common.{◌≡◌, ◌∙◌, ℕ, ◌+◌, ◌<◌, ◌≤◌, length, take, drop, get_or, set, nat_lt, List, [], ◌∷◌, ◌++◌, map, append-nil, add-one, Bool, true, false, refl, ap, ap₂, sym, arith, append_assoc, take-append-drop, rules}
+use Rattle.std.proofs.Common.{◌≡◌, ◌∙◌, ℕ, ◌+◌, ◌<◌, ◌≤◌, length, take, drop, get_or, set, nat_lt, List, [], ◌∷◌, ◌++◌, map, append-nil, add-one, Bool, true, false, refl, ap, ap₂, sym, arith, append_assoc, take-append-drop}
 use Rattle.std.specs.Prelude.{◌&&◌, ◌||◌, ◌==◌, count_by, if◌then◌else◌}
 use Rattle.std.specs.List.{list_any}
 use Rattle.std.specs.Str.{bytes_eq}

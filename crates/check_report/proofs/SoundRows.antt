@@ -1,5 +1,5 @@
 -- A writer after another row, and at the end.
-use Rattle.std.proofs.Common.{◌≡◌, ◌∙◌, ℕ, arith, nat_lt, List, [], ◌∷◌, ◌++◌, map, Bool, true, false, refl, ap, sym, append-nil, append_assoc, rules}
+use Rattle.std.proofs.Common.{◌≡◌, ◌∙◌, ℕ, arith, nat_lt, List, [], ◌∷◌, ◌++◌, map, Bool, true, false, refl, ap, sym, append-nil, append_assoc}
 use Rattle.std.specs.Prelude.{◌||◌, count_by, if◌then◌else◌, Option, Result, Ok, Err, IfOk, OnOk}
 use Rattle.std.specs.List.{flat_map, list_any}
 use Rattle.std.specs.Io.KnownBytes.{Appends}

@@ -1,5 +1,5 @@
 -- The table or the fault of a text, from the three steps and the bytes read.
-use Rattle.std.proofs.Common.{◌≡◌, ℕ, ◌<◌, ◌≤◌, nat_lt, false, ◌⊎◌, List, length, take, Option, Some, None, Result, Ok, Err, Vec, Global, refl, sym, ap, ◌∙◌, subst, arith, inl, inr, IfErr, IfSome, rules}
+use Rattle.std.proofs.Common.{◌≡◌, ℕ, ◌<◌, ◌≤◌, nat_lt, false, ◌⊎◌, List, length, take, Option, Some, None, Result, Ok, Err, Vec, Global, refl, sym, ap, ◌∙◌, subst, arith, inl, inr, IfErr, IfSome}
 use Rattle.std.proofs.lemmas.Bool.{cases_lt, le-ltb, lt-ltb}
 use Rattle.std.proofs.lemmas.List.{length-take-le, take_all}
 use Rattle.fmd_lang.specs.Faults as fmd

@@ -1,5 +1,5 @@
 -- A search finds a written table.
-use Rattle.std.proofs.Common.{List, ℕ, sym, subst, arith, rules}
+use Rattle.std.proofs.Common.{List, ℕ, sym, subst}
 use Rattle.flash_device.specs.Device.{overwritten}
 use Rattle.flash_map.specs.Laws.{FindsMap, NoMapBelow}
 use Rattle.flash_map.proofs.WrittenMaps.{maps_found}

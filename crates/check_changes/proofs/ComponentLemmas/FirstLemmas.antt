@@ -1,5 +1,5 @@
 -- The first component of each name, from the last component on.
-use Rattle.std.proofs.Common.{◌≡◌, ℕ, ◌+◌, ◌<◌, ◌≤◌, Bool, true, false, cond, List, [], ◌∷◌, length, drop, get_or, Option, Some, None, refl, sym, subst, arith, add-one, suc, Bor, rules}
+use Rattle.std.proofs.Common.{◌≡◌, ℕ, ◌+◌, ◌<◌, ◌≤◌, Bool, true, false, cond, List, [], ◌∷◌, length, drop, get_or, Option, Some, None, refl, sym, subst, arith, add-one, suc, Bor}
 use Rattle.std.specs.Prelude.{IfSome, All, option_copied}
 use Rattle.std.specs.List.{find}
 use Rattle.std.specs.Str.{bytes_eq}

@@ -1,4 +1,4 @@
-use Rattle.std.proofs.Common.{rules, tests, ◌≡◌, ◌∙◌, ap, sym, refl, List, [], ◌∷◌, map, Bool, arith}
+use Rattle.std.proofs.Common.{rules, tests, ◌≡◌, ◌∙◌, ap, sym, refl, List, [], ◌∷◌, map, Bool}
 use Rattle.std.specs.Prelude.{◌||◌}
 use Rattle.std.specs.List.{list_any}
 use Rattle.std.proofs.lemmas.Iterator.{YieldsList-from_slice}

@@ -1,4 +1,4 @@
-use Rattle.std.proofs.Common.{◌≡◌, [], rules, arith}
+use Rattle.std.proofs.Common.{◌≡◌, [], rules}
 use Rattle.check_report.specs.Reports.{components_in}
 use Rattle.check_report.proofs.PrinterEffects.{prints_none, prints_then}
 use Rattle.check_report.proofs.list.list_components.Goals as goal

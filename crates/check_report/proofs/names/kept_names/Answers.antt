@@ -1,4 +1,4 @@
-use Rattle.std.proofs.Common.{rules, tests, arith}
+use Rattle.std.proofs.Common.{rules, tests}
 use Rattle.std.specs.Prelude.{◌&&◌}
 use Rattle.std.proofs.lemmas.Iterator.{YieldsList-from_map_by, YieldsList-from_slice}
 use Rattle.std.proofs.lemmas.Iterator.Consumers.{YieldsList-at, YieldsList-from_chain, YieldsList-from_filter, map_from_collect}

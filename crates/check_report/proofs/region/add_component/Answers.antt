@@ -1,4 +1,4 @@
-use Rattle.std.proofs.Common.{◌≡◌, ◌∙◌, ap, rules, arith}
+use Rattle.std.proofs.Common.{◌≡◌, ◌∙◌, ap, rules}
 use Rattle.std.specs.Prelude.{is_none}
 use Rattle.flash_format.specs.TypeNames.{name_of_type}
 use Rattle.check_report.specs.Rows.Rows.{at_component, with_number}

@@ -1,4 +1,4 @@
-use Rattle.std.proofs.Common.{◌∙◌, arith, rules}
+use Rattle.std.proofs.Common.{◌∙◌}
 use Rattle.flash_store.proofs.StoringLemmas.{there-again, faithful_still}
 use Rattle.flash_store.proofs.transfer.make_room.Goals as goal
 

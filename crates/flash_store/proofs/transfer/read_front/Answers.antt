@@ -1,4 +1,4 @@
-use Rattle.std.proofs.Common.{subst, arith, length, take, ◌≡◌, rules}
+use Rattle.std.proofs.Common.{subst, arith, length, take, ◌≡◌}
 use Rattle.std.proofs.lemmas.List.{length-take-le}
 use Rattle.flash_store.specs.Files.{HasReadSome}
 use Rattle.flash_store.proofs.StoringLemmas.{front_read}

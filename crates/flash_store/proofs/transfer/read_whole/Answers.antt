@@ -1,4 +1,4 @@
-use Rattle.std.proofs.Common.{◌≡◌, ◌∙◌, ◌-◌, ap, length, arith, rules}
+use Rattle.std.proofs.Common.{◌≡◌, ◌∙◌, ◌-◌, ap, length, arith}
 use Rattle.flash_store.proofs.StoringLemmas.{Read-more, length-ended, length-rest, faithful_still, SameBytes-trans}
 use Rattle.flash_store.proofs.transfer.read_whole.Goals as goal
 

@@ -1,4 +1,4 @@
-use Rattle.std.proofs.Common.{inl, inr, rules, arith}
+use Rattle.std.proofs.Common.{inl, inr, rules}
 use Rattle.std.proofs.lemmas.Result.{err_from_is_err_and}
 use Rattle.std.proofs.KnownBytes.{Keeps-refl}
 use Rattle.fmap_compiler.proofs.Compilations.{HasTable-prefix, Refuses-known}

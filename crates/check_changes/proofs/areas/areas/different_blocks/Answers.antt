@@ -1,4 +1,4 @@
-use Rattle.std.proofs.Common.{ℕ, arith, ap, rules}
+use Rattle.std.proofs.Common.{ℕ, arith, ap}
 use Rattle.check_changes.specs.declared.images.Both.{Both}
 use Rattle.check_changes.proofs.AreaLemmas.BlockLemmas.{different_blocks-all}
 use Rattle.check_changes.proofs.areas.areas.different_blocks.Goals as goal

@@ -1,4 +1,4 @@
-use Rattle.std.proofs.Common.{◌≡◌, ◌++◌, get_or, arith, rules}
+use Rattle.std.proofs.Common.{◌≡◌, ◌++◌, get_or}
 use Rattle.flash_device.specs.Regions.{bytes_in}
 use Rattle.check_changes.specs.Components.{new_changes}
 use Rattle.check_changes.proofs.AreaLemmas.ChangeSteps.{flat_map-all, flat_map-more}

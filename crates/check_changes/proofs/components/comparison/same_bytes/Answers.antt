@@ -1,4 +1,4 @@
-use Rattle.std.proofs.Common.{◌≡◌, arith, rules}
+use Rattle.std.proofs.Common.{◌≡◌, arith}
 use Rattle.flash_device.proofs.DeviceLemmas.{length-bytes_in}
 use Rattle.check_changes.specs.Areas.{is_difference}
 use Rattle.check_changes.proofs.ComponentLemmas.Reads.{differ-all, same-all, same-more}

@@ -1,4 +1,4 @@
-use Rattle.std.proofs.Common.{◌-◌, arith, rules}
+use Rattle.std.proofs.Common.{◌-◌, arith}
 use Rattle.check_changes.proofs.ComponentLemmas.Reads.{bytes_in-part}
 use Rattle.check_changes.proofs.components.comparison.same_range.Goals as goal
 

@@ -1,4 +1,4 @@
-use Rattle.std.proofs.Common.{subst, arith, rules}
+use Rattle.std.proofs.Common.{subst}
 use Rattle.check_changes.proofs.ComponentLemmas.FirstLemmas.{notes-front, Puts}
 use Rattle.check_changes.proofs.components.first.note.Goals as goal
 

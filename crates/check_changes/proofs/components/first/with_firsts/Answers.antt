@@ -1,4 +1,4 @@
-use Rattle.std.proofs.Common.{◌-◌, arith, rules}
+use Rattle.std.proofs.Common.{◌-◌, arith}
 use Rattle.check_changes.proofs.ComponentLemmas.FirstLemmas.{notes-more, notes-none}
 use Rattle.check_changes.proofs.components.first.with_firsts.Goals as goal
 

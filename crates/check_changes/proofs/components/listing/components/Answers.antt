@@ -1,4 +1,4 @@
-use Rattle.std.proofs.Common.{refl, arith, rules}
+use Rattle.std.proofs.Common.{refl}
 use Rattle.check_changes.proofs.ComponentLemmas.ListingLemmas.{listing_start, listing_more, listing_lists}
 use Rattle.check_changes.proofs.components.listing.components.Goals as goal
 

@@ -1,4 +1,4 @@
-use Rattle.std.proofs.Common.{◌+◌, ◌*◌, arith, rules}
+use Rattle.std.proofs.Common.{◌+◌, ◌*◌, arith}
 use Rattle.check_changes.proofs.AreaLemmas.BlockLemmas.{differs-bytes_in}
 use Rattle.check_changes.proofs.images.Images.is_different.Goals as goal
 

@@ -1,4 +1,4 @@
-use Rattle.std.proofs.Common.{ℕ, ap, arith, rules}
+use Rattle.std.proofs.Common.{ℕ, ap}
 use Rattle.check_changes.specs.declared.images.Both.{Both}
 use Rattle.check_changes.proofs.RegionLemmas.{changing_all, changing_more, changing_start, reads_all, reads_stopped}
 use Rattle.check_changes.proofs.ImageLemmas.{both-handed}

@@ -1,4 +1,3 @@
-use Rattle.std.proofs.Common.{arith, rules}
 use Rattle.check_report.proofs.SoundRows.{adds_after}
 use Rattle.check_report.proofs.inspection.Inspection.add_rows.Goals as goal
 

@@ -1,4 +1,4 @@
-use Rattle.std.proofs.Common.{arith, rules}
+use Rattle.std.proofs.Common.{arith}
 use Rattle.check_report.proofs.SoundRows.{report_text}
 use Rattle.check_report.proofs.inspection.Inspection.write.Goals as goal
 

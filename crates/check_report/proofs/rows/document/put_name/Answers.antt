@@ -1,4 +1,3 @@
-use Rattle.std.proofs.Common.{arith, rules}
 use Rattle.check_report.proofs.Tokens.{name_tokens-utf8, name_tokens-bytes}
 use Rattle.check_report.proofs.rows.document.put_name.Goals as goal
 

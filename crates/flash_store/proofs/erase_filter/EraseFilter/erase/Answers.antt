@@ -1,4 +1,4 @@
-use Rattle.std.proofs.Common.{arith, rules}
+use Rattle.std.proofs.Common.{arith}
 use Rattle.flash_store.proofs.StoringLemmas.{Erased-more, faithful_still, SameFile-trans}
 use Rattle.flash_store.proofs.erase_filter.EraseFilter.erase.Goals as goal
 

@@ -1,4 +1,4 @@
-use Rattle.std.proofs.Common.{◌∙◌, ◌+◌, ◌-◌, ◌≤◌, length, arith, sym, rules}
+use Rattle.std.proofs.Common.{◌∙◌, ◌+◌, ◌-◌, ◌≤◌, length, arith, sym}
 use Rattle.flash_store.proofs.StoringLemmas.{IsErased-part}
 use Rattle.flash_store.proofs.erase_filter.EraseFilter.has.Goals as goal
 

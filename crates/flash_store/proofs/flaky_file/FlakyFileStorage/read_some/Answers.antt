@@ -1,4 +1,4 @@
-use Rattle.std.proofs.Common.{◌∙◌, ◌≡◌, length, arith, refl, ap, rules}
+use Rattle.std.proofs.Common.{◌∙◌, ◌≡◌, length, arith, refl, ap}
 use Rattle.std.proofs.lemmas.Grind.{common_steps}
 use Rattle.std.proofs.lemmas.List.{take_at, length-take-le}
 use Rattle.flash_store.proofs.StoringLemmas.{stored_alike}

@@ -1,4 +1,4 @@
-use Rattle.std.proofs.Common.{◌∙◌, refl, ap, arith, rules}
+use Rattle.std.proofs.Common.{◌∙◌, refl, ap}
 use Rattle.flash_store.proofs.StoringLemmas.{written_some, stored_alike}
 use Rattle.flash_store.proofs.flaky_file.FlakyFileStorage.write_some.Goals as goal
 

@@ -1,4 +1,4 @@
-use Rattle.std.proofs.Common.{◌∙◌, ◌-◌, ◌≤◌, length, take, drop, arith, sym, length-take, rules}
+use Rattle.std.proofs.Common.{◌∙◌, ◌-◌, ◌≤◌, length, take, drop, arith, sym, length-take}
 use Rattle.std.proofs.Math.Seq.{take-length}
 use Rattle.flash_store.proofs.StoringLemmas.{Held-part}
 use Rattle.flash_store.proofs.read_ahead.ReadAhead.held_from.Goals as goal

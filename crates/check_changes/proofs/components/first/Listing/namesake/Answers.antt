@@ -1,4 +1,4 @@
-use Rattle.std.proofs.Common.{◌≡◌, rules, arith}
+use Rattle.std.proofs.Common.{◌≡◌, rules}
 use Rattle.std.specs.Prelude.{option_copied}
 use Rattle.check_changes.specs.Components.{first_of}
 use Rattle.check_changes.specs.Listings.{IsListedIn}

@@ -1,4 +1,4 @@
-use Rattle.std.proofs.Common.{◌≡◌, nat_lt, refl, rules, tests, arith}
+use Rattle.std.proofs.Common.{◌≡◌, nat_lt, refl, rules, tests}
 use Rattle.std.specs.Prelude.{◌||◌}
 use Rattle.check_report.proofs.SoundRows.{adds_row}
 use Rattle.check_report.proofs.rows.writer.RowWriter.add.Goals as goal

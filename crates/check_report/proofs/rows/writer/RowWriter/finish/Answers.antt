@@ -1,4 +1,4 @@
-use Rattle.std.proofs.Common.{arith, rules}
+use Rattle.std.proofs.Common.{arith}
 use Rattle.check_report.proofs.SoundRows.{sound_end}
 use Rattle.check_report.proofs.rows.writer.RowWriter.finish.Goals as goal
 
