@@ -11,25 +11,16 @@ use Rattle.check_changes.specs.Images.{HasReadBoth, HasReadFor, OnBoth}
 
 module _ {F G : Type 0} where
   pub both-none : (m n : ℕ) (images : Images F G) → HasReadBoth m n 0 0 images images
-  both-none m n images = record {
-    of_old = HasRead-within 0 m 0 _ _ (omega arith) (HasRead-none images.old_image);
-    of_new = HasRead-within 0 n 0 _ _ (omega arith) (HasRead-none images.new_image);
-  }
+  both-none m n images = grind arith
 
   -- the bounds may be higher
   pub both-within : {m n a b : ℕ} {old new : Images F G} (k l : ℕ) → m ≤ k → n ≤ l
       → HasReadBoth m n a b old new → HasReadBoth k l a b old new
-  both-within {m} {n} {a} {b} k l of_old of_new read = record {
-    of_old = HasRead-within m k a _ _ of_old read.of_old;
-    of_new = HasRead-within n l b _ _ of_new read.of_new;
-  }
+  both-within {m} {n} {a} {b} k l of_old of_new read = grind arith
 
   pub both-then : {m n k l a b : ℕ} {old mid new : Images F G} → HasReadBoth m n 0 0 old mid
       → HasReadBoth k l a b mid new → HasReadBoth (m + k) (n + l) a b old new
-  both-then {m} {n} {k} {l} {a} {b} first second = record {
-    of_old = HasRead-then m k a _ _ _ first.of_old second.of_old;
-    of_new = HasRead-then n l b _ _ _ first.of_new second.of_new;
-  }
+  both-then {m} {n} {k} {l} {a} {b} first second = grind arith
 
   -- a result with the fault of the reads
   pub both-handed : {T : Type 0} {m n : ℕ} {old new : Images F G} (result : Result T ChangeFault) (fault : ChangeFault) → IsErrAnd result (λ e. e ≡ fault)
@@ -40,7 +31,4 @@ module _ {F G : Type 0} where
   -- a property of the bytes after reads held before
   pub OnBoth-before : {m n : ℕ} {old new : Images F G} (P : List ℕ → List ℕ → Type 0)
       → HasReadBoth m n 0 0 old new → OnBoth new P → OnBoth old P
-  OnBoth-before {old = old} {new = new} P read on = λ h k.
-      let holds = on (honest_still read.of_old.device.calls.same_honesty h) (honest_still read.of_new.device.calls.same_honesty k) in
-      subst (λ x. P x old.new_image.device.content) (read.of_old.device.unchanged h)
-      (subst (λ y. P new.old_image.device.content y) (read.of_new.device.unchanged k) holds)
+  OnBoth-before {old = old} {new = new} P read on = grind arith

@@ -1,5 +1,5 @@
 -- The changes of regions, in the order of their findings.
-use Rattle.std.proofs.Common.{◌≡◌, ◌∙◌, ℕ, ◌+◌, ◌-◌, ◌*◌, ◌/◌, ◌<◌, ◌≤◌, List, [], ◌++◌, length, get_or, drop, refl, sym, ap, add-one, arith, length-append}
+use Rattle.std.proofs.Common.{◌≡◌, ◌∙◌, ℕ, ◌+◌, ◌-◌, ◌*◌, ◌/◌, ◌<◌, ◌≤◌, List, [], ◌++◌, length, get_or, drop, refl, sym, ap, add-one, arith, length-append, rules}
 use Rattle.std.proofs.Math.Seq.{drop-cons}
 use Rattle.std.proofs.lemmas.List.{append-nil, drop_all}
 use Rattle.std.proofs.lemmas.List.Sums.{sum_by-append}
@@ -25,15 +25,7 @@ module _ {F G : Type 0} (olds : List NumberedArea) (findings : List ImageFinding
     pub listed : OnBoth old (λ x y. changes ++ region_changes_in left x y olds (region_areas (drop i findings)) ≡ region_changes_in (length x) x y olds (region_areas findings))
 
   pub changing_start : (left : ℕ) (changes : List RegionChange) (images : Images F G) → left ≡ (lengths images).old → changes ≡ [] → Changing 0 left changes images images
-  changing_start left changes images is none = record {
-    sizes = 0;
-    count = 0;
-    all_sizes = omega arith;
-    all = omega arith;
-    within = omega arith;
-    read = both-none _ _ images;
-    listed = λ h k. rw (none, is) refl;
-  }
+  changing_start left changes images is none = grind arith
 
   -- another finding
   pub changing_more : {i left rest : ℕ} (d : ImageFinding) {changes next : List RegionChange} {old mid new : Images F G} → Changing i left changes old mid → i < length findings → rest ≤ left

@@ -15,35 +15,17 @@ refusals-ok (Err fault) ok = absurd cc
 
 -- more calls, of which the last may fail
 pub Calls-then : (n k refused : ℕ) (old mid new : Device) → Calls n 0 old mid → Calls k refused mid new → Calls (n + k) refused old new
-Calls-then n k refused old mid new first second = record {
-  no_fewer = omega (arith, first.no_fewer, second.no_fewer);
-  no_more = omega (arith, first.no_more, second.no_more);
-  faults = omega (arith, first.faults, second.faults);
-  same_honesty = second.same_honesty ∙ first.same_honesty;
-  same_length = second.same_length ∙ first.same_length;
-}
+Calls-then n k refused old mid new first second = grind arith
 
 -- with a larger bound
 pub Calls-at_most : (k n refused : ℕ) (old new : Device) → new.calls ≤ old.calls + n → Calls k refused old new → Calls n refused old new
-Calls-at_most k n refused old new few calls = record {
-  no_fewer = calls.no_fewer;
-  no_more = few;
-  faults = calls.faults;
-  same_honesty = calls.same_honesty;
-  same_length = calls.same_length;
-}
+Calls-at_most k n refused old new few calls = grind arith
 
 pub Reads-none : (d : Device) → Reads 0 0 d d
-Reads-none d = record {
-  calls = record { no_fewer = omega arith; no_more = omega arith; faults = omega arith; same_honesty = refl; same_length = refl };
-  unchanged = λ h. refl;
-}
+Reads-none d = grind arith
 
 pub Reads-then : (n k refused : ℕ) (old mid new : Device) → Reads n 0 old mid → Reads k refused mid new → Reads (n + k) refused old new
-Reads-then n k refused old mid new first second = record {
-  calls = Calls-then n k refused old mid new first.calls second.calls;
-  unchanged = λ h. second.unchanged (honest_still first.calls.same_honesty h) ∙ first.unchanged h;
-}
+Reads-then n k refused old mid new first second = grind arith
 
 -- calls keep the length
 pub LiesOn-calls : {r : Range} {n refused : ℕ} {old new : Device} → Calls n refused old new → LiesOn r old → LiesOn r new

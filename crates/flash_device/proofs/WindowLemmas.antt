@@ -10,7 +10,7 @@ use Rattle.flash_device.specs.Pages.{Held, Nothing, Window, Piece, Pages, IsTrue
 use Rattle.flash_device.specs.declared.paged.Buffered.{Buffered}
 use Rattle.flash_device.specs.declared.paged.Buffered.TheVariants as code
 use Rattle.flash_device.proofs.BytesLemmas.{part_of_window}
-use Rattle.flash_device.proofs.DeviceLemmas.{Calls-at_most, Reads-none, Reads-then}
+use Rattle.flash_device.proofs.DeviceLemmas.{Reads-none}
 
 -- a part of a buffer with a window over the part
 pub part_read : (device : Device) (buffer : List ℕ) (held : Buffered) (from size at n : ℕ) → held ≡ code.Window from size → IsTrueTo device (held_in buffer held) → Covers (held_in buffer held) at n → IsTrue device.honest
@@ -31,17 +31,11 @@ pub HasRead-none : {F : Type 0} (p : Pages F) → HasRead 0 0 p p
 HasRead-none p = record { device = Reads-none p.device; window = λ h. h }
 
 pub HasRead-then : {F : Type 0} (n k refused : ℕ) (old mid new : Pages F) → HasRead n 0 old mid → HasRead k refused mid new → HasRead (n + k) refused old new
-HasRead-then n k refused old mid new first second = record {
-  device = Reads-then n k refused _ _ _ first.device second.device;
-  window = λ h. second.window (first.window h);
-}
+HasRead-then n k refused old mid new first second = grind arith
 
 -- with a larger bound
 pub HasRead-at_most : {F : Type 0} (k n refused : ℕ) (old new : Pages F) → new.device.calls ≤ old.device.calls + n → HasRead k refused old new → HasRead n refused old new
-HasRead-at_most k n refused old new few read = record {
-  device = record { calls = Calls-at_most k n refused _ _ few read.device.calls; unchanged = read.device.unchanged };
-  window = read.window;
-}
+HasRead-at_most k n refused old new few read = grind arith
 
 pub HasRead-within : {F : Type 0} (n k refused : ℕ) (old new : Pages F) → n ≤ k → HasRead n refused old new → HasRead k refused old new
 HasRead-within n k refused old new le read = HasRead-at_most n k refused old new (omega (arith, read.device.calls.no_more, le)) read

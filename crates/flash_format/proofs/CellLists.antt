@@ -4,9 +4,8 @@ use Rattle.std.specs.List.{concat, sum_by}
 use Rattle.std.proofs.lemmas.Bool.Decides.{nat_tests}
 use Rattle.std.proofs.lemmas.List.{length-take-le}
 use Rattle.std.proofs.lemmas.List.Concat.{concat_is, length-flat_map}
-use Rattle.flash_format.specs.Head.{head_of, is_free}
 use Rattle.flash_format.specs.Cut.{Cut, cut, after, IsCell}
-use Rattle.flash_format.specs.Components.{Component, component_at, components_from, components, shifted_by}
+use Rattle.flash_format.specs.Components.{Component, components_from, components, shifted_by}
 use Rattle.flash_format.proofs.CutLaws.{cut_joined}
 
 pub cut_goes_on : (x : List ℕ) (at : ℕ) (cells : List (List ℕ)) → All IsCell cells → take at x ≡ concat cells → cut x ≡ after cells (cut (drop at x))
@@ -25,14 +24,7 @@ one_more b c later other = grind (arith, nat_tests)
 pub components-append : (at : ℕ) (a b : List (List ℕ)) → components_from at (a ++ b) ≡ components_from at a ++ components_from (at + length (concat a)) b
 unfolding components_from
 components-append at [] b = ap (λ n. components_from n b) (omega arith)
-components-append at (c ∷ a) b =
-    let here : Component = component_at at c in
-    let later : List Component = components_from (at + length c) a in
-    let other : List Component = components_from (at + length (concat (c ∷ a))) b in
-    let place : (at + length c) + length (concat a) ≡ at + length (concat (c ∷ a)) = omega (arith, length-append c (concat a)) in
-    let step : components_from (at + length c) (a ++ b) ≡ later ++ other =
-    components-append (at + length c) a b ∙ ap (λ n. later ++ components_from n b) place in
-    ap (λ (l : List Component). cond (is_free (head_of c)) l (here ∷ l)) step ∙ sym (one_more (is_free (head_of c)) here later other)
+components-append at (c ∷ a) b = grind (arith, length-append, one_more, components-append (at + length c) a b)
 
 move_one : (b : Bool) (n : ℕ) (c : Component) (later : List Component) → cond b (shifted_by n later) (record c { at = n + c.at } ∷ shifted_by n later) ≡ shifted_by n (cond b later (c ∷ later))
 move_one b n c later = grind (arith, nat_tests)
@@ -40,12 +32,7 @@ move_one b n c later = grind (arith, nat_tests)
 pub components-moved : (n at : ℕ) (cells : List (List ℕ)) → components_from (n + at) cells ≡ shifted_by n (components_from at cells)
 unfolding components_from
 components-moved n at [] = refl
-components-moved n at (c ∷ cells) =
-    let here : Component = component_at (n + at) c in
-    let place : (n + at) + length c ≡ n + (at + length c) = omega arith in
-    let step : components_from ((n + at) + length c) cells ≡ shifted_by n (components_from (at + length c) cells) =
-    ap (λ k. components_from k cells) place ∙ components-moved n (at + length c) cells in
-    ap (λ (l : List Component). cond (is_free (head_of c)) l (here ∷ l)) step ∙ move_one (is_free (head_of c)) n (component_at at c) (components_from (at + length c) cells)
+components-moved n at (c ∷ cells) = grind (arith, move_one, components-moved n (at + length c) cells)
 
 pub components_go_on : (x : List ℕ) (at : ℕ) (cells : List (List ℕ)) → All IsCell cells → take at x ≡ concat cells → at ≤ length x → components x ≡ components_from 0 cells ++ shifted_by at (components (drop at x))
 components_go_on x at cells each e inside =

@@ -1,23 +1,20 @@
 -- A region has one division into cells and a rest.
-use Rattle.std.proofs.Common.{◌≡◌, ℕ, zero, suc, ◌%◌, ◌<◌, ◌≤◌, List, [], ◌∷◌, ◌++◌, length, take, drop, sym, ◌∙◌, ap, subst, refl, arith, All, append_assoc, length-append, length-drop, take-append-drop}
+use Rattle.std.proofs.lemmas.Bool.Decides.{nat_tests}
+use Rattle.std.proofs.Common.{◌≡◌, ℕ, zero, suc, ◌%◌, ◌<◌, ◌≤◌, List, [], ◌∷◌, ◌++◌, length, take, drop, ◌∙◌, ap, refl, arith, All, append_assoc, length-append, length-drop, take-append-drop}
 use Rattle.std.specs.List.{concat}
 use Rattle.std.proofs.lemmas.List.{take_at, drop_at, append-nil, take-take, take_all, length-take-le}
-use Rattle.std.proofs.lemmas.List.Elements.{All-nil, All-cons, All-head, All-tail}
+use Rattle.std.proofs.lemmas.List.Elements.{All-nil, All-head, All-tail}
 use Rattle.flash_format.specs.Entry.{Entry, absent, damaged, cell, entry}
 use Rattle.flash_format.specs.Cut.{Cut, End, complete, tail, damage, ends, after, cut, IsCell, EndsAt, IsCut}
 use Rattle.flash_format.proofs.CutSteps.{cell_span, cut_empty, cut_step, cut_cell}
 use Rattle.flash_format.proofs.EntryLaws.{entry_alike}
 
 cell_before : (c z : List ℕ) → IsCell c → entry (c ++ z) ≡ cell (length c)
-cell_before c z is =
-    entry_alike c (c ++ z) (length c) is (omega arith) (omega (arith, length-append c z)) (take_all (length c) c (omega arith) ∙ sym (take_at c z (length c) refl))
+cell_before c z is = grind (arith, entry_alike, length-append, take_all, take_at)
 
 -- the prefix of a cell's length is the cell
 front_cell : (x : List ℕ) (span : ℕ) → entry x ≡ cell span → span ≤ length x → IsCell (take span x)
-front_cell x span is fits =
-    let len : length (take span x) ≡ span = length-take-le span x fits in
-    subst (λ n. entry (take span x) ≡ cell n) (sym len)
-    (entry_alike x (take span x) span is fits (omega (arith, len)) (sym (take-take span span x (omega arith))))
+front_cell x span is fits = grind (arith, nat_tests, length-take-le, entry_alike, take-take)
 
 cut_before : (c z : List ℕ) → IsCell c → cut (c ++ z) ≡ after (c ∷ []) (cut z)
 cut_before c z is =
@@ -41,9 +38,7 @@ cut_joined (c ∷ cells) rest each =
     ∙ ap (λ (l : Cut). after (c ∷ []) l) (cut_joined cells rest (All-tail IsCell c cells each))
 
 pub cut_unique : (x : List ℕ) (cells : List (List ℕ)) (rest : List ℕ) (e : End) → IsCut x cells rest e → cut x ≡ record { cells = cells; end = e }
-cut_unique x cells rest e is =
-    ap (λ (l : List ℕ). cut l) is.whole ∙ cut_joined cells rest is.each ∙ ap (λ (k : Cut). after cells k) (cut_rest rest e is.last)
-    ∙ ap (λ (l : List (List ℕ)). let k : Cut = record { cells = l; end = e } in k) (append-nil cells)
+cut_unique x cells rest e is = grind (arith, nat_tests, cut_joined, cut_rest, append-nil)
 
 -- ---- every region has a cut
 
@@ -51,14 +46,7 @@ abbrev HasCut : List ℕ → Cut → Type 0
 HasCut x k = (rest : List ℕ) × IsCut x k.cells rest k.end
 
 behind_cell : (x : List ℕ) (span : ℕ) (k : Cut) → entry x ≡ cell span → span ≤ length x → HasCut (drop span x) k → HasCut x (after (take span x ∷ []) k)
-behind_cell x span k is fits behind = (
-  behind.0,
-  record {
-    whole = sym (take-append-drop span x) ∙ ap (λ (l : List ℕ). take span x ++ l) behind.1.whole ∙ sym (append_assoc (take span x) (concat k.cells) behind.0);
-    each = All-cons IsCell (take span x) k.cells (front_cell x span is fits) behind.1.each;
-    last = behind.1.last;
-  },
-)
+behind_cell x span k is fits behind = grind (arith, nat_tests, take-append-drop, append_assoc, front_cell)
 
 -- by the front, given a cut of the bytes after a cell
 by_front : (x : List ℕ) → 0 < length x → length x % 64 ≡ 0 → ((span : ℕ) → 64 ≤ span → span % 64 ≡ 0 → span ≤ length x → HasCut (drop span x) (cut (drop span x))) → (e : Entry) → entry x ≡ e → HasCut x (cut x)

@@ -1,15 +1,13 @@
 -- The steps of a cut, for any bound of its recursion.
-use Rattle.std.proofs.Common.{◌≡◌, ℕ, zero, suc, pred, ◌+◌, ◌%◌, ◌<◌, ◌≤◌, false, List, [], ◌∷◌, length, take, drop, Option, Some, None, Result, Ok, Err, refl, sym, ap, ◌∙◌, arith}
-use Rattle.std.specs.Option.{option_map_or}
-use Rattle.std.proofs.lemmas.Bool.{le-ltb}
+use Rattle.std.proofs.Common.{◌≡◌, ℕ, zero, suc, pred, ◌+◌, ◌<◌, ◌≤◌, false, List, [], ◌∷◌, length, take, drop, Some, Result, Ok, Err, refl, sym, ap, ◌∙◌, arith}
 use Rattle.std.proofs.lemmas.Bool.Decides.{nat_tests}
 use Rattle.flash_format.specs.declared.head.Head.{Head}
 use Rattle.flash_format.specs.declared.head.Extent.{Extent}
 use Rattle.flash_format.specs.declared.head.DamageKind.{DamageKind}
 use Rattle.flash_format.specs.Head.{head_of, head_at, is_free, attributes_misplaced, extent_of, round64}
-use Rattle.flash_format.specs.Entry.{Entry, absent, cell, entry, present, front}
+use Rattle.flash_format.specs.Entry.{Entry, cell, entry, present, front}
 use Rattle.flash_format.proofs.Fronts.{drop-pred}
-use Rattle.flash_format.specs.Cut.{Cut, complete, ends, after, by_entry, cut, cut_after, IsSpan}
+use Rattle.flash_format.specs.Cut.{complete, ends, after, by_entry, cut, cut_after, IsSpan}
 
 -- the results of passed checks of a head
 pub record IsChecked (h : Head) (left : ℕ) (e : Extent) : Type 0 where
@@ -21,14 +19,7 @@ pub record IsChecked (h : Head) (left : ℕ) (e : Extent) : Type 0 where
 
 pub checked_ok : (h : Head) (left : ℕ) (e : Extent) → extent_of h left ≡ Ok e → IsChecked h left e
 unfolding extent_of
-checked_ok h left e ok =
-    record {
-      front = grind (arith, nat_tests);
-      placed = λ f. grind (arith, nat_tests);
-      inside = grind (arith, nat_tests);
-      content = grind (arith, nat_tests);
-      span = grind (arith, nat_tests);
-    }
+checked_ok h left e ok = grind (arith, nat_tests)
 
 -- the properties of a cell
 pub record IsCell (x : List ℕ) (span : ℕ) : Type 0 where
@@ -46,33 +37,18 @@ pub head_is : (x : List ℕ) (h : Head) → head_at x ≡ Some h → head_of x �
 head_is x h e = grind (arith, nat_tests)
 
 pub front_some : (x : List ℕ) (h : Head) → front x ≡ Some h → (24 ≤ length x) × (head_at x ≡ Some h) × (h ≡ head_of x)
-front_some x h e =
-    let long : 24 ≤ length x = grind (arith, nat_tests) in
-    let there = rw (le-ltb (length x) 24 long) at e in
-    (long, there, sym (head_is x h there))
+front_some x h e = grind (arith, nat_tests)
 
 pub cell_is : (x : List ℕ) (span : ℕ) → entry x ≡ cell span → IsCell x span
 unfolding entry
-cell_is x span e = go (front x) refl e
-  where
-    go : (o : Option Head) → front x ≡ o → option_map_or (λ h. present h x (extent_of h (length x))) o absent ≡ cell span → IsCell x span
-    go None f p = absurd cc
-    go (Some h) f p =
-        let s = front_some x h f in
-        let q = present_cell h x (extent_of h (length x)) span p in
-        record { long = s.0; head = s.1 ∙ ap (λ (y : Head). Some y) s.2; extent = q.0; checks = ap (λ (y : Head). extent_of y (length x)) (sym s.2) ∙ q.1; spans = q.2 }
+cell_is x span e = grind (arith, nat_tests, front_some, present_cell)
 
 pub cell_span : (x : List ℕ) (span : ℕ) → entry x ≡ cell span → IsSpan x span
 cell_span x span e =
     let c = cell_is x span e in
     let k = checked_ok (head_of x) (length x) c.extent c.checks in
     let s : span ≡ round64 ((head_of x).offset + (head_of x).len) = sym c.spans ∙ k.span in
-    let some : 24 ≤ (head_of x).offset + (head_of x).len = omega (arith, k.front) in
-    let r = rounds (length x) ((head_of x).offset + (head_of x).len) some k.inside in
-    rw s (record { positive = r.0; whole = r.1; inside = r.2 })
-  where
-    rounds : (left n : ℕ) → 24 ≤ n → n ≤ left → (64 ≤ round64 n) × (round64 n % 64 ≡ 0) × (left % 64 ≡ 0 → round64 n ≤ left)
-    rounds left n some le = (omega arith, omega arith, λ h. omega arith)
+    record { positive = omega (arith, k.front); whole = omega arith; inside = λ h. omega (arith, k.front, k.inside) }
 
 -- ---- the equations of `cut`
 
@@ -99,5 +75,4 @@ unfolding cut_after
 cut_cell [] span some is = absurd (omega arith)
 cut_cell (b ∷ x) span some is =
     let s = cell_span (b ∷ x) span is in
-    ap (λ (v : Entry). by_entry v (b ∷ x) (λ n. cut_after (pred n) x)) is
-    ∙ ap (λ (c : Cut). after (take span (b ∷ x) ∷ []) c) (cut_after-drop (pred span) x ∙ ap (λ (l : List ℕ). cut l) (drop-pred b x span (omega (arith, s.positive))))
+    grind (arith, cut_after-drop, drop-pred)

@@ -1,5 +1,5 @@
 -- Hexadecimal digits, written from the last to the first.
-use Rattle.std.proofs.Common.{◌≡◌, ℕ, zero, suc, ◌+◌, ◌-◌, ◌/◌, ◌%◌, ◌^◌, ◌<◌, ◌≤◌, false, List, [], ◌∷◌, length, drop, set, refl, sym, ap, ◌∙◌, arith, eqb, add-one}
+use Rattle.std.proofs.Common.{◌≡◌, ℕ, zero, suc, ◌+◌, ◌-◌, ◌/◌, ◌%◌, ◌^◌, ◌<◌, ◌≤◌, false, List, [], ◌∷◌, length, drop, set, sym, ap, ◌∙◌, arith, add-one}
 use Rattle.std.proofs.Math.Nat.{pow-suc}
 use Rattle.std.proofs.lemmas.List.{drop-set, drop-set-lt, length-set, nil_from_length, length-drop}
 use Rattle.std.proofs.lemmas.Grind.{common_steps}
@@ -32,11 +32,8 @@ writing_start n text fits len =
       all = ap (digits_onto 64 16 false n) none;
     }
 
-eqb_large : (n : ℕ) → 0 < n → eqb n 0 ≡ false
-eqb_large n lt = grind (arith, common_steps)
-
 more : (k rest : ℕ) (acc : List ℕ) → 16 ≤ rest → digits_onto (suc k) 16 false rest acc ≡ digits_onto k 16 false (rest / 16) (digit_glyph false (rest % 16) ∷ acc)
-more k rest acc le = let big : eqb (rest / 16) 0 ≡ false = eqb_large (rest / 16) (omega arith) in rw big refl
+more k rest acc le = grind (arith, common_steps)
 
 pub writing_more : (n rest at : ℕ) (text : List ℕ) → Writing n rest at text → 16 ≤ rest
     → Writing n (rest / 16) (at - 1) (set text (at - 1) (digit_glyph false (rest / 16 % 16)))

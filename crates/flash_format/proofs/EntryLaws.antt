@@ -1,5 +1,5 @@
 -- The laws of `entry`: the bytes which affect an entry.
-use Rattle.std.proofs.Common.{◌≡◌, ℕ, ◌+◌, ◌≤◌, Bool, true, false, cond, List, [], length, take, Some, Result, Ok, refl, sym, ap, ◌∙◌, arith, eqb, inl, inr}
+use Rattle.std.proofs.Common.{◌≡◌, ℕ, ◌+◌, ◌≤◌, Bool, true, false, cond, List, length, take, Some, Result, Ok, refl, sym, ap, ◌∙◌, arith, inl, inr}
 use Rattle.std.specs.Prelude.{slice_range}
 use Rattle.std.proofs.lemmas.Bool.{le-ltb, cases_Bool}
 use Rattle.std.proofs.lemmas.Bool.Decides.{nat_tests}
@@ -7,7 +7,7 @@ use Rattle.flash_format.specs.declared.head.Head.{Head}
 use Rattle.flash_format.specs.declared.head.Extent.{Extent}
 use Rattle.flash_format.specs.declared.head.DamageKind.{DamageKind}
 use Rattle.flash_format.specs.Head.{head_of, head_at, is_free, attributes_misplaced, extent_of, round64}
-use Rattle.flash_format.specs.Entry.{Entry, cell, entry, present, component, name_end, name_field, attribute_field}
+use Rattle.flash_format.specs.Entry.{Entry, cell, entry, present, component, name_end, name_field}
 use Rattle.flash_format.proofs.Fronts.{range-take, head_at-take}
 use Rattle.flash_format.proofs.CutSteps.{IsCell, cell_is, checked_ok, cell_span}
 
@@ -33,9 +33,7 @@ name_between h placed room = (grind (arith, nat_tests), grind (arith, nat_tests)
 component_alike : (h : Head) (x y : List ℕ) (n span : ℕ) → name_end h ≤ n → h.offset ≤ n → take n x ≡ take n y → component h x span ≡ component h y span
 component_alike h x y n span named placed same =
     let name : name_field h x ≡ name_field h y = range_alike x y n 24 (name_end h) named same in
-    let list : attribute_field h x ≡ attribute_field h y =
-    ap (λ (l : List ℕ). cond (eqb h.attributes_offset 0) [] l) (range_alike x y n h.attributes_offset h.offset placed same) in
-    rw (name, list) refl
+    grind (arith, nat_tests, range_alike)
 
 -- ---- the entry of a head
 pub from_head : (x : List ℕ) (h : Head) → 24 ≤ length x → head_at x ≡ Some h → entry x ≡ present h x (extent_of h (length x))
@@ -55,9 +53,7 @@ pub up : (n : ℕ) → n ≤ round64 n
 up n = omega arith
 
 content_within : (x : List ℕ) (span : ℕ) → IsCell x span → (head_of x).offset + (head_of x).len ≤ span
-content_within x span c =
-    let k = checked_ok (head_of x) (length x) c.extent c.checks in
-    omega (arith, up ((head_of x).offset + (head_of x).len), k.span, c.spans)
+content_within x span c = grind (arith, nat_tests, checked_ok, up)
 
 -- a cell with a checked head, free or not
 pub present_by : (free : Bool) (h : Head) (x : List ℕ) (e : Extent) → is_free h ≡ free → present h x (Ok e) ≡ cond free (cell e.span) (component h x e.span)
@@ -88,6 +84,5 @@ entry_free x y span e free same in_y =
     let c = cell_is x span e in
     let large = (cell_span x span e).positive in
     let ends = content_within x span c in
-    as_under x y span c (omega arith) (sym (same_head_at x y 24 (omega arith) same)) (omega (arith, ends))
-    ∙ present_by true (head_of x) y c.extent free
-    ∙ ap (λ (n : ℕ). cell n) c.spans
+    let there = as_under x y span c (omega arith) (sym (same_head_at x y 24 (omega arith) same)) (omega (arith, ends)) in
+    grind (arith, present_by)

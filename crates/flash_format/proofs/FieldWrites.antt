@@ -1,5 +1,5 @@
 -- The writers fill zeros field by field; the result decodes if each number fits its field.
-use Rattle.std.proofs.Common.{◌≡◌, ℕ, ◌<◌, ◌^◌, List, [], ◌∷◌, ◌++◌, ◌+◌, take, drop, replicate, length, Some, true, refl, arith, rules, append_assoc, length-append}
+use Rattle.std.proofs.Common.{◌≡◌, ℕ, ◌<◌, ◌^◌, List, [], ◌++◌, ◌+◌, take, drop, replicate, length, Some, true, refl, arith, rules, append_assoc, length-append}
 use Rattle.std.proofs.lemmas.List.{take_at, drop_at, drop_all}
 use borrow.Rule.Slice.PartMut.{put_mid}
 use Rattle.byteorder.specs.Endian.{little_bytes}
@@ -13,13 +13,7 @@ use Rattle.flash_format.specs.Flashmap.{fmap_head_of, fmap_head_bytes, has_signa
 -- written over the remaining zeros
 pub put_name_and_number : (bytes front field number name written more : List ℕ) (at : ℕ) → bytes ≡ front ++ replicate 34 0 → field ≡ name → number ≡ written ++ drop 2 (take 2 more)
     → length front ≡ at → length name ≡ 32 → put_mid (at + 32) 2 (put_mid at 32 bytes field) number ≡ front ++ name ++ written
-put_name_and_number bytes front field number name written more at begun named numbered front_long name_long =
-    let zeros : List ℕ = replicate 34 0 in
-    let last : List ℕ = 0 ∷ 0 ∷ [] in
-    let long : length (front ++ name) ≡ at + 32 = omega (arith, length-append front name) in
-    let nothing = drop_all 2 (take 2 more) (search rules) in
-    rw (begun, named, numbered, take_at front zeros at front_long, drop_at front zeros at front_long, ← append_assoc front name last, take_at (front ++ name) last (at + 32) long, drop_at (front ++ name) last (at + 32) long, nothing)
-    (search rules)
+put_name_and_number bytes front field number name written more at begun named numbered front_long name_long = search (arith, rules, length-append, drop_all, take_at, drop_at, append_assoc)
 
 pub head_is_read_back : (x : List ℕ) (h : Head) → x ≡ head_bytes h → h.len < 256 ^ 4 → h.kind < 256 ^ 4 → h.attributes_offset < 256 ^ 4 → h.offset < 256 ^ 4 → head_at x ≡ Some h
 unfolding has_magic head_of head_bytes

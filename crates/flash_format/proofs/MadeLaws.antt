@@ -1,8 +1,7 @@
 -- Made cells decode to their components.
-use Rattle.std.proofs.Common.{◌≡◌, ℕ, zero, suc, ◌+◌, ◌-◌, ◌%◌, ◌^◌, ◌<◌, ◌≤◌, Bool, true, false, cond, List, [], ◌∷◌, ◌++◌, length, take, drop, replicate, Option, Some, None, Result, refl, sym, ap, ◌∙◌, subst, arith, ltb, not, append_assoc, length-append, length-drop, lit<}
-use Rattle.std.specs.Prelude.{slice_range, is_some}
+use Rattle.std.proofs.Common.{◌≡◌, ℕ, zero, suc, ◌+◌, ◌-◌, ◌%◌, ◌^◌, ◌<◌, ◌≤◌, Bool, true, false, List, [], ◌∷◌, ◌++◌, length, take, drop, replicate, Option, Some, None, Result, refl, sym, ap, ◌∙◌, subst, arith, not, append_assoc, length-append, length-drop}
+use Rattle.std.specs.Prelude.{slice_range}
 use Rattle.std.specs.List.{list_any, before_first, prefix_len}
-use Rattle.std.specs.Option.{option_map}
 use Rattle.std.proofs.lemmas.Bool.{le-ltb, ne_eqb, or_from, or_parts, or_right}
 use Rattle.std.proofs.lemmas.Bool.Decides.{nat_tests}
 use Rattle.std.proofs.lemmas.List.Folds.{list_any-append}
@@ -13,14 +12,12 @@ use Rattle.byteorder.specs.Numbers.{big_number-reads_back}
 use Rattle.flash_format.specs.declared.head.Head.{Head}
 use Rattle.flash_format.specs.declared.head.Extent.{Extent}
 use Rattle.flash_format.specs.declared.head.DamageKind.{DamageKind}
-use Rattle.flash_format.specs.declared.head.DamageKind.TheVariants as kinds
 use Rattle.flash_format.specs.declared.digest.Digest.{Digest}
 use Rattle.flash_format.specs.declared.digest.Algorithm.{Algorithm}
 use Rattle.flash_format.specs.declared.digest.Algorithm.TheVariants.{Sha256, Sha512}
-use Rattle.flash_format.specs.declared.attribute.AttrHead.{AttrHead}
-use Rattle.flash_format.specs.Head.{head_of, head_at, head_bytes, is_free, round64, be32}
+use Rattle.flash_format.specs.Head.{head_of, head_at, head_bytes, round64}
 use Rattle.flash_format.specs.Made.{name_padding, padding, IsDigest, IsMade, KeepsFour, name_room, meta_length, algorithm_row, algorithm, digest_bytes, hash_attribute, hash_bytes, hash_len, made_head, padded_name, made_metadata, made, made_attributes}
-use Rattle.flash_format.specs.Entry.{Attribute, attr_head_of, attributes, attributes_after, attribute, ends_list, is_malformed, is_unused, has_bad_len, HASH, damaged, cell, present, component, is_nul, name_end, name_field, is_terminated, attribute_field}
+use Rattle.flash_format.specs.Entry.{Attribute, attr_head_of, attributes, attributes_after, ends_list, HASH, cell, present, component, is_nul, name_end, name_field, is_terminated, attribute_field}
 use Rattle.flash_format.specs.Components.{component_at}
 use Rattle.flash_format.specs.Placings.{IsReadAs, made_component}
 use Rattle.flash_format.proofs.AttributeSteps.{attributes_end, attributes_more}
@@ -66,17 +63,12 @@ some_nul name z m short room =
 
 gap_ends : (gap : ℕ) → ends_list (replicate gap 255) ≡ true
 unfolding attr_head_of
-gap_ends (suc (suc (suc (suc gap)))) =
-    let x : List ℕ = replicate (suc (suc (suc (suc gap)))) 255 in
-    or_right (ltb (length x) 8) (is_unused (attr_head_of x).tag) refl
+gap_ends (suc (suc (suc (suc gap)))) = grind (arith, nat_tests, or_right)
 gap_ends _ = refl
 
 hash_head : (number : ℕ) (bytes more : List ℕ) → length bytes ≤ 64 → attr_head_of (hash_attribute number bytes ++ more) ≡ record { tag = HASH; len = 12 + length bytes }
 unfolding attr_head_of hash_attribute
-hash_head number bytes more few =
-    let tag : be32 0 (hash_attribute number bytes ++ more) ≡ HASH = big_number-reads_back 4 HASH [] (lit< tt) in
-    let len : be32 4 (hash_attribute number bytes ++ more) ≡ 12 + length bytes = big_number-reads_back 4 (12 + length bytes) [] (omega arith) in
-    rw (tag, len) refl
+hash_head number bytes more few = grind (arith, nat_tests, big_number-reads_back)
 
 length-hash : (number : ℕ) (bytes : List ℕ) → length (hash_attribute number bytes) ≡ 12 + length bytes
 unfolding hash_attribute
@@ -90,26 +82,7 @@ hash_value number bytes more =
 
 hash_read : (number : ℕ) (bytes : List ℕ) (gap : ℕ) → length bytes ≤ 64
     → attributes (hash_attribute number bytes ++ replicate gap 255) ≡ Some (record { tag = HASH; contents = big_bytes 4 number ++ bytes } ∷ [])
-hash_read number bytes gap few =
-    let spare : List ℕ = replicate gap 255 in
-    let x : List ℕ = hash_attribute number bytes ++ spare in
-    let head : attr_head_of x ≡ record { tag = HASH; len = 12 + length bytes } = hash_head number bytes spare few in
-    let long : 12 + length bytes ≤ length x = omega (arith, length-hash number bytes, length-append (hash_attribute number bytes) spare) in
-    let goes_on : ends_list x ≡ false =
-    or_from (ltb (length x) 8) (is_unused (attr_head_of x).tag) (le-ltb (length x) 8 (omega (arith, long))) (ap (λ (h : AttrHead). is_unused h.tag) head) in
-    let formed : is_malformed x ≡ false =
-    ap (λ (h : AttrHead). has_bad_len h (length x)) head
-    ∙ or_from (ltb (12 + length bytes) 12) (ltb (length x) (12 + length bytes)) (le-ltb (12 + length bytes) 12 (omega arith)) (le-ltb (length x) (12 + length bytes) long) in
-    let first : attribute x ≡ record { tag = HASH; contents = big_bytes 4 number ++ bytes } =
-    ap (λ (h : AttrHead). record { tag = h.tag; contents = slice_range x 8 h.len }) head
-    ∙ ap (λ (l : List ℕ). record { tag = HASH; contents = l }) (hash_value number bytes spare) in
-    let rest : attributes (drop (attr_head_of x).len x) ≡ Some [] =
-    ap (λ (h : AttrHead). attributes (drop h.len x)) head
-    ∙ ap (λ (l : List ℕ). attributes l) (drop_at (hash_attribute number bytes) spare (12 + length bytes) (length-hash number bytes))
-    ∙ attributes_end spare (gap_ends gap) in
-    attributes_more x goes_on formed
-    ∙ ap (λ (o : Option (List Attribute)). option_map (λ others. attribute x ∷ others) o) rest
-    ∙ ap (λ (a : Attribute). Some (a ∷ [])) first
+hash_read number bytes gap few = grind (arith, nat_tests, hash_head, length-hash, length-append, or_from, le-ltb, hash_value, drop_at, attributes_end, gap_ends, attributes_more)
 
 pub few_bytes : (a : Algorithm) → (algorithm_row a).len ≤ 64
 few_bytes Sha256 = omega arith
@@ -127,34 +100,18 @@ padded_is : (name : List ℕ) → padded_name name ≡ name ++ (0 ∷ replicate 
 padded_is name = ap (λ (l : List ℕ). name ++ l) (zeros_begin (name_room (length name) - length name) (omega arith))
 
 range_of : (a b c : List ℕ) (from to : ℕ) → length a ≡ from → from + length b ≡ to → slice_range (a ++ (b ++ c)) from to ≡ b
-range_of a b c from to begins ends =
-    ap (λ (l : List ℕ). take (to - from) l) (drop_at a (b ++ c) from begins) ∙ take_at b c (to - from) (omega (arith, ends))
+range_of a b c from to begins ends = grind (arith, drop_at, take_at)
 
 attributes_read : (name : List ℕ) (kind : ℕ) (digest : Option Digest) (gap n : ℕ) (more : List ℕ) → IsDigest digest
     → attributes (attribute_field (made_head name kind digest gap n) (made_metadata name kind digest gap n ++ more)) ≡ Some (made_attributes digest)
 unfolding attributes_after
 attributes_read name kind None gap n more is = refl
-attributes_read name kind (Some d) gap n more is =
-    let h = made_head name kind (Some d) gap n in
-    let at = 24 + name_room (length name) in
-    let hash : List ℕ = hash_bytes (Some d) in
-    let before : List ℕ = head_bytes h ++ padded_name name in
-    let list : List ℕ = hash ++ replicate gap 255 in
-    let x : List ℕ = made_metadata name kind (Some d) gap n ++ more in
-    let shape : x ≡ before ++ (list ++ more) = ap (λ (l : List ℕ). l ++ more) (append_assoc before hash (replicate gap 255)) ∙ append_assoc before list more in
-    let field : attribute_field h x ≡ list =
-    ap (λ (b : Bool). cond b [] (slice_range x at h.offset)) (ne_eqb at 0 (λ z. omega (arith, z)))
-    ∙ ap (λ (l : List ℕ). slice_range l at h.offset) shape
-    ∙ range_of before list more at h.offset (omega (arith, length-append (head_bytes h) (padded_name name), length-head_bytes h, length-padded name))
-    (omega (arith, length-append hash (replicate gap 255), length-replicate {A = ℕ} gap 255)) in
-    ap (λ (l : List ℕ). attributes l) field ∙ hash_read (algorithm_row (algorithm d)).number (digest_bytes d) gap (omega (arith, is, few_bytes (algorithm d)))
+attributes_read name kind (Some d) gap n more is = grind (arith, nat_tests, append_assoc, ne_eqb, range_of, length-append, length-head_bytes, length-padded, length-replicate, hash_read, few_bytes)
 
 -- ---- the cell
 
 component_whole : (h : Head) (x : List ℕ) (span : ℕ) (list : List Attribute) → is_terminated (name_field h x) ≡ true → attributes (attribute_field h x) ≡ Some list → component h x span ≡ cell span
-component_whole h x span list name read =
-    ap (λ (b : Bool). cond (not b) (damaged kinds.Name) (cond (not (is_some (attributes (attribute_field h x)))) (damaged kinds.AttrLength) (cell span))) name
-    ∙ ap (λ (o : Option (List Attribute)). cond (not (is_some o)) (damaged kinds.AttrLength) (cell span)) read
+component_whole h x span list name read = grind (arith, nat_tests)
 
 -- a component with the made head
 component_made : (at : ℕ) (name : List ℕ) (digest : Option Digest) (content x : List ℕ) (h : Head) → head_of x ≡ h → before_first is_nul (name_field h x) ≡ name → attributes (attribute_field h x) ≡ Some (made_attributes digest)
@@ -202,11 +159,8 @@ metadata_is_read name kind digest gap content more is =
           ∙ present_by false h x e is.kind_used
           ∙ component_whole h x e.span (made_attributes digest) named list
           ∙ ap (λ (k : ℕ). cell k) span;
-      is_used = ap (λ (k : Head). is_free k) head_there ∙ is.kind_used;
-      component = λ at. component_made at name digest content x h head_there
-          (ap (λ (l : List ℕ). before_first is_nul l) field ∙ first_nul name rest (name_end h - 24) is.name_plain room)
-          list
-          (ap (λ (l : List ℕ). slice_range l h.offset (h.offset + n)) (append_assoc metadata content more) ∙ range_of metadata content more h.offset (h.offset + n) size refl);
+      is_used = grind (arith, nat_tests);
+      component = λ at. grind (arith, component_made, first_nul, range_of, append_assoc);
     }
 
 -- ---- the whole cell
@@ -217,10 +171,7 @@ length-padding n (Some last) is = omega (arith, is, length-append (replicate (n 
 
 pub length-made : (name : List ℕ) (kind : ℕ) (digest : Option Digest) (gap : ℕ) (content : List ℕ) (last : Option (List ℕ)) → KeepsFour last
     → length (made name kind digest gap content last) ≡ round64 (length (made_metadata name kind digest gap (length content) ++ content))
-length-made name kind digest gap content last four =
-    let whole : List ℕ = made_metadata name kind digest gap (length content) ++ content in
-    let left = round64 (length whole) - length whole in
-    omega (arith, length-append whole (padding left last), length-padding left last four, up (length whole))
+length-made name kind digest gap content last four = grind (arith, nat_tests, length-append, length-padding, up)
 
 pub made_is_read : (name : List ℕ) (kind : ℕ) (digest : Option Digest) (gap : ℕ) (content : List ℕ) (last : Option (List ℕ)) (more : List ℕ) → IsMade name kind digest gap content → KeepsFour last
     → IsReadAs name kind digest content (made name kind digest gap content last ++ more) (length (made name kind digest gap content last))
@@ -241,8 +192,4 @@ hash_as_long (Some d) is = length-hash (algorithm_row (algorithm d)).number (dig
 
 pub made_as_long : (name : List ℕ) (kind : ℕ) (digest : Option Digest) (gap : ℕ) (content : List ℕ) (last : Option (List ℕ)) → IsDigest digest → KeepsFour last
     → length (made name kind digest gap content last) ≡ round64 (meta_length (length name) (hash_len digest) + gap + length content)
-made_as_long name kind digest gap content last is four =
-    let metadata : List ℕ = made_metadata name kind digest gap (length content) in
-    let total : length (metadata ++ content) ≡ meta_length (length name) (hash_len digest) + gap + length content =
-    omega (arith, length-append metadata content, length-metadata name kind digest gap (length content), hash_as_long digest is) in
-    length-made name kind digest gap content last four ∙ ap (λ (k : ℕ). round64 k) total
+made_as_long name kind digest gap content last is four = grind (arith, nat_tests, length-append, length-metadata, hash_as_long, length-made)

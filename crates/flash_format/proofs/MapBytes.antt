@@ -9,7 +9,7 @@ use Rattle.byteorder.specs.Endian.{little_bytes}
 use Rattle.flash_format.specs.declared.flashmap.Area.{Area}
 use Rattle.flash_format.specs.declared.flashmap.FmapHead.{FmapHead}
 use Rattle.flash_format.specs.Flashmap.{area_bytes, area_of, areas_from, fmap_head_bytes, fmap_head_of, has_signature, is_map, is_map_name, is_valid_head, map_len, map_of}
-use Rattle.flash_format.specs.Laws.{IsAreaInBytes, IsMapOf, MapsAreReadBack, NoMapBelow, map_bytes}
+use Rattle.flash_format.specs.Laws.{IsAreaInBytes, IsMapInBytes, IsMapOf, IsReadAsMap, NoMapBelow, map_bytes}
 use Rattle.flash_format.proofs.Fronts.{area_of-take, fmap_head_of-take, has_signature-take}
 use Rattle.flash_format.proofs.MapLaws.{map_lowest}
 use Rattle.flash_format.proofs.MapSteps.{map_where}
@@ -66,7 +66,7 @@ valid : (h : FmapHead) (left : ℕ) → h.major ≡ 1 → is_map_name h.name ≡
 unfolding is_valid_head
 valid h left major named fits = rw (eq-eqb h.major 1 major, named, le-leb (map_len h) left fits) refl
 
-pub maps_read_back : MapsAreReadBack
+pub maps_read_back : (h : FmapHead) (areas : List Area) (more : List ℕ) → IsMapInBytes h areas → IsReadAsMap h areas (map_bytes h areas ++ more)
 maps_read_back h areas more is =
     let front : List ℕ = fmap_head_bytes h in
     let rest : List ℕ = flat_map area_bytes areas ++ more in
@@ -77,9 +77,4 @@ maps_read_back h areas more is =
     let behind : drop 56 x ≡ rest = ap (λ (l : List ℕ). drop 56 l) parts ∙ drop_at front rest 56 long in
     let head : fmap_head_of x ≡ h = sym (fmap_head_of-take x 56 (omega arith)) ∙ ap fmap_head_of first ∙ fmap_head_is_read_back front h refl (omega (arith, is.base)) (omega (arith, is.size)) (omega (arith, is.counted, is.few)) is.name in
     let signed : has_signature x ≡ true = sym (has_signature-take x 56 (omega arith)) ∙ ap has_signature first ∙ signature_is_written front h refl in
-    let size : map_len h ≤ length x = omega (arith, ap length parts, length-append front rest, length-append (flat_map area_bytes areas) more, long, length-areas areas is.each, is.counted) in
-    record {
-      valid = map_where x true (omega (arith, size)) signed (ap (λ (k : FmapHead). is_valid_head k (length x)) head ∙ valid h (length x) is.major is.named size);
-      head = head;
-      all = ap (λ n. areas_from n (drop 56 x)) is.counted ∙ ap (λ (l : List ℕ). areas_from (length areas) l) behind ∙ areas_read areas more is.each;
-    }
+    grind (arith, length-append, length-areas, valid, map_where, areas_read)

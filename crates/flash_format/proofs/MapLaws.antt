@@ -1,4 +1,5 @@
 -- An image's map is the lowest valid map.
+use Rattle.std.proofs.lemmas.Bool.Decides.{nat_tests}
 use Rattle.std.proofs.Common.{◌≡◌, ℕ, zero, suc, ◌+◌, Bool, true, false, cond, List, [], ◌∷◌, length, drop, Option, Some, None, refl, sym, subst, ◌∙◌, arith}
 use Rattle.flash_format.specs.Flashmap.{is_map, map_from, map_of}
 use Rattle.flash_format.specs.Laws.{NoMapBelow, IsMapOf}
@@ -37,10 +38,4 @@ map_is at [] = λ k lt is. absurd (omega arith)
 map_is at (b ∷ x) = at_front at b x (is_map (b ∷ x)) refl (map_is (at + 1) x)
 
 pub map_lowest : (image : List ℕ) → IsMapOf image (map_of image)
-map_lowest image = go (map_of image) (map_is 0 image)
-  where
-    go : (o : Option ℕ) → IsMapFrom 0 image o → IsMapOf image o
-    go None none = none
-    go (Some q) known =
-        let same : known.behind ≡ q = omega (arith, known.place) in
-        (subst (λ n. is_map (drop n image) ≡ true) same known.here, subst (λ n. NoMapBelow image n) same known.before)
+map_lowest image = grind (arith, nat_tests, map_is)

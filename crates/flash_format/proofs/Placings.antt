@@ -1,14 +1,14 @@
 -- A component in place of free cells: one more, and no other change.
-use Rattle.std.proofs.Common.{◌≡◌, ℕ, ◌+◌, ◌-◌, ◌%◌, ◌≤◌, false, cond, List, [], ◌∷◌, ◌++◌, length, Option, sym, ◌∙◌, ap, subst, refl, arith, All, append_assoc, length-append}
-use Rattle.std.specs.Prelude.{is_some}
+use Rattle.std.proofs.lemmas.Bool.Decides.{nat_tests}
+use Rattle.std.proofs.Common.{◌≡◌, ℕ, ◌+◌, ◌-◌, ◌%◌, ◌≤◌, false, cond, List, [], ◌∷◌, ◌++◌, length, Option, ◌∙◌, ap, arith, All, append_assoc, length-append}
 use Rattle.std.specs.List.{concat}
 use Rattle.std.proofs.lemmas.List.{append-nil}
 use Rattle.std.proofs.lemmas.List.Elements.{All-nil, All-cons, All-append}
 use Rattle.flash_format.specs.Head.{head_of, is_free}
-use Rattle.flash_format.specs.Made.{header_length, empty_header, empty_entry, padding, KeepsFour}
-use Rattle.flash_format.specs.Cut.{cut, IsCell, IsCut}
-use Rattle.flash_format.specs.Components.{Component, component_at, components_from, components}
-use Rattle.flash_format.specs.Splices.{AllFree, splice}
+use Rattle.flash_format.specs.Made.{empty_entry, KeepsFour}
+use Rattle.flash_format.specs.Cut.{IsCell}
+use Rattle.flash_format.specs.Components.{Component, component_at, components_from}
+use Rattle.flash_format.specs.Splices.{AllFree}
 use Rattle.flash_format.specs.Placings.{IsSpace, space_cells, made_component}
 use Rattle.flash_format.specs.Laws.{ComponentsArePlaced}
 use Rattle.flash_format.proofs.CutSteps.{cell_span}
@@ -20,12 +20,7 @@ use Rattle.flash_format.proofs.Splices.{concat-append, space_each, concat-space,
 -- ---- free space
 
 pub empty_is_space : (size : ℕ) (last : Option (List ℕ)) → 64 ≤ size → KeepsFour last → IsSpace size (empty_entry size last)
-empty_is_space size last some four =
-    let rest : List ℕ = padding (size - header_length) last in
-    record {
-      long = omega (arith, length-append (empty_header size (is_some last)) rest, length-empty_header size (is_some last), length-padding (size - header_length) last four);
-      header = λ _. (is_some last, rest, refl);
-    }
+empty_is_space size last some four = grind (arith, nat_tests, length-append, length-empty_header, length-padding)
 
 -- ---- the component
 
@@ -36,26 +31,12 @@ component_alone at x used = ap (λ b. cond b [] (component_at at x ∷ [])) used
 -- the only component among free cells
 component_among : (start at : ℕ) (a b : List (List ℕ)) (x : List ℕ) → AllFree a → AllFree b → is_free (head_of x) ≡ false → start + length (concat a) ≡ at
     → components_from start (a ++ (x ∷ []) ++ b) ≡ component_at at x ∷ []
-component_among start at a b x free_before free_after used place =
-    let later : ℕ = start + length (concat (a ++ (x ∷ []))) in
-    components-append start (a ++ (x ∷ [])) b
-    ∙ ap (λ (l : List Component). components_from start (a ++ (x ∷ [])) ++ l) (components-free later b free_after)
-    ∙ append-nil (components_from start (a ++ (x ∷ [])))
-    ∙ components-append start a (x ∷ [])
-    ∙ ap (λ (l : List Component). l ++ components_from (start + length (concat a)) (x ∷ [])) (components-free start a free_before)
-    ∙ ap (λ (n : ℕ). components_from n (x ∷ [])) place
-    ∙ component_alone at x used
+component_among start at a b x free_before free_after used place = simp (components-append, components-free, append-nil, component_alone) (grind (arith, nat_tests))
 
 -- ---- the region
 
 concat-three : (before bytes after : List ℕ) → concat (space_cells before ++ (bytes ∷ []) ++ space_cells after) ≡ before ++ (bytes ++ after)
-concat-three before bytes after =
-    concat-append (space_cells before ++ (bytes ∷ [])) (space_cells after)
-    ∙ ap (λ (l : List ℕ). l ++ concat (space_cells after)) (concat-append (space_cells before) (bytes ∷ []))
-    ∙ ap (λ (l : List ℕ). l ++ (bytes ++ []) ++ concat (space_cells after)) (concat-space before)
-    ∙ ap (λ (l : List ℕ). before ++ l ++ concat (space_cells after)) (append-nil bytes)
-    ∙ ap (λ (l : List ℕ). before ++ bytes ++ l) (concat-space after)
-    ∙ append_assoc before bytes after
+concat-three before bytes after = simp (concat-append, concat-space, append_assoc)
 
 pub components_placed : ComponentsArePlaced
 components_placed x start end g at before whole after name kind digest content free place read =
@@ -77,17 +58,9 @@ components_placed x start end g at before whole after name kind digest content f
     let here : components_from start cells ≡ component ∷ [] =
     component_among start at (space_cells before) (space_cells after) whole first.1 last.1 read.is_used there
     ∙ ap (λ (c : Component). c ∷ []) (read.component at) in
-    let Y : List ℕ → List ℕ = λ l. splice x start end l in
     record {
-      is_cut = subst (λ (l : List ℕ). IsCut (Y l) (g.before ++ cells ++ g.after) g.rest g.ending) joined (splice-cut x start end g cells each size);
-      same_end = ap (λ (l : List ℕ). (cut (Y l)).end) (sym joined) ∙ splice-end x start end g cells each size;
-      old_components =
-          group-components x start end g
-          ∙ ap (λ (l : List Component). components_from 0 g.before ++ l ++ components_from end g.after) (components-free start g.group free)
-          ∙ ap (λ (l : List Component). l ++ components_from end g.after) (append-nil (components_from 0 g.before));
-      new_components =
-          ap (λ (l : List ℕ). components (Y l)) (sym joined)
-          ∙ splice-components x start end g cells each size
-          ∙ ap (λ (l : List Component). components_from 0 g.before ++ l ++ components_from end g.after) here
-          ∙ append_assoc (components_from 0 g.before) (component ∷ []) (components_from end g.after);
+      is_cut = rw joined at (splice-cut x start end g cells each size);
+      same_end = rw joined at (splice-end x start end g cells each size);
+      old_components = rw (components-free start g.group free, append-nil) at (group-components x start end g);
+      new_components = rw (joined, here, append_assoc (components_from 0 g.before)) at (splice-components x start end g cells each size);
     }

@@ -17,10 +17,7 @@ pub split : (c : ℕ) (a b s t : List ℕ) → c < 32 → is_field a ≡ true �
 split c [] [] s t low fa fb e = (refl, cc)
 split c [] (y ∷ b) s t low fa fb e = let same : c ≡ y = cc in absurd (grind (arith, nat_tests))
 split c (x ∷ a) [] s t low fa fb e = let same : x ≡ c = cc in absurd (grind (arith, nat_tests))
-split c (x ∷ a) (y ∷ b) s t low fa fb e =
-    let first : x ≡ y = cc in
-    let rest = split c a b s t low (grind (arith, nat_tests)) (grind (arith, nat_tests)) cc in
-    (let tail : a ≡ b = rest.0 in cc, rest.1)
+split c (x ∷ a) (y ∷ b) s t low fa fb e = grind (arith, nat_tests, split c a b s t low)
 
 -- ---- names
 
@@ -34,10 +31,7 @@ by_tests : (x y : ℕ) (s t : List ℕ) (p q : Bool) → (p ≡ true → x ≢ 9
 by_tests x y s t true true hx hy e = (cc, cc)
 by_tests x y s t true false hx hy e = let same : x ≡ 92 = cc in absurd (hx refl same)
 by_tests x y s t false true hx hy e = let same : y ≡ 92 = cc in absurd (hy refl same)
-by_tests x y s t false false hx hy e =
-    let high : x / 16 ≡ y / 16 = glyph_injective _ _ (let g : digit_glyph false (x / 16) ≡ digit_glyph false (y / 16) = cc in g) in
-    let low : x % 16 ≡ y % 16 = glyph_injective _ _ (let g : digit_glyph false (x % 16) ≡ digit_glyph false (y % 16) = cc in g) in
-    (omega (arith, high, low), cc)
+by_tests x y s t false false hx hy e = grind (arith, glyph_injective)
 
 plain_is_no_backslash : (b : ℕ) → (is_printing b && not (eqb b 92)) ≡ true → b ≢ 92
 plain_is_no_backslash b plain is = grind (arith, nat_tests)
@@ -48,11 +42,7 @@ same_byte x y s t e = by_tests x y s t _ _ (plain_is_no_backslash x) (plain_is_n
 
 some_bytes : (x : ℕ) (s : List ℕ) → [] ≢ printed_byte x ++ s
 unfolding printed_byte
-some_bytes x s = go (is_printing x && not (eqb x 92))
-  where
-    go : (p : Bool) → [] ≢ shown p x ++ s
-    go true e = absurd cc
-    go false e = absurd cc
+some_bytes x s = grind (arith, nat_tests)
 
 pub same_names : (a b : List ℕ) → printed_name a ≡ printed_name b → a ≡ b
 same_names [] [] e = refl
@@ -60,9 +50,7 @@ same_names [] (y ∷ b) e = absurd (some_bytes y (printed_name b) e)
 same_names (x ∷ a) [] e = absurd (some_bytes x (printed_name a) (sym e))
 same_names (x ∷ a) (y ∷ b) e =
     let parts = same_byte x y (printed_name a) (printed_name b) e in
-    let first : x ≡ y = parts.0 in
-    let rest : a ≡ b = same_names a b parts.1 in
-    cc
+    grind (arith, same_names a b parts.1)
 
 byte_field : (b : ℕ) → is_field (printed_byte b) ≡ true
 unfolding printed_byte

@@ -1,7 +1,7 @@
 -- Consecutive writes.
-use Rattle.std.proofs.Common.{◌≡◌, ℕ, ◌+◌, ◌-◌, ◌≤◌, List, ◌++◌, length, take, drop, sym, ap, ◌∙◌, arith, append_assoc, length-append, drop-drop, take-append-drop}
+use Rattle.std.proofs.lemmas.Grind.{common_steps}
+use Rattle.std.proofs.Common.{◌≡◌, ℕ, ◌+◌, ◌-◌, ◌≤◌, List, ◌++◌, length, take, drop, sym, ap, ◌∙◌, arith, append_assoc, length-append, drop-drop}
 use Rattle.std.proofs.lemmas.List.{take_at, drop_at, length-take-le}
-use Rattle.std.proofs.lemmas.Slice.{take-put_mid, drop-put_mid}
 use borrow.Rule.Slice.PartMut.{put_mid}
 use Rattle.flash_format.specs.Splices.{splice}
 
@@ -14,19 +14,8 @@ pub then : (x y z a b : List ℕ) (p q r : ℕ) → q ≡ p + length a → r ≡
 then x y z a b p q r to_q to_r room first second =
     let whole : y ≡ (take p x ++ a) ++ drop q x = first ∙ sym (append_assoc (take p x) a (drop q x)) in
     let long : length (take p x ++ a) ≡ q = omega (arith, length-append (take p x) a, length-take-le p x (omega arith)) in
-    let front : take q y ≡ take p x ++ a = ap (λ (l : List ℕ). take q l) whole ∙ take_at (take p x ++ a) (drop q x) q long in
-    let back : drop r y ≡ drop r x = further q r y x (omega arith) (ap (λ (l : List ℕ). drop q l) whole ∙ drop_at (take p x ++ a) (drop q x) q long) in
-    second ∙ ap (λ (l : List ℕ). l ++ (b ++ drop r y)) front ∙ ap (λ (l : List ℕ). (take p x ++ a) ++ (b ++ l)) back ∙ simp append_assoc
+    grind (arith, take_at, further, drop_at, append_assoc)
 
 -- one write into a part
 pub put_part : (x piece bytes : List ℕ) (at size : ℕ) → piece ≡ bytes → length bytes ≡ size → at + size ≤ length x → put_mid at (at + size - at) x piece ≡ splice x at (at + size) bytes
-put_part x piece bytes at size is long room =
-    let y = put_mid at (at + size - at) x piece in
-    let as_long : length piece ≡ length bytes = ap (λ (l : List ℕ). length l) is in
-    let front : take (at + size) y ≡ take at x ++ piece = take-put_mid at (at + size - at) x piece (at + size) (omega (arith, as_long, long)) (omega (arith, room)) in
-    let back : drop (at + size) y ≡ drop (at + size) x = drop-put_mid at (at + size - at) x piece (at + size) (omega arith) (omega (arith, room)) (omega (arith, as_long, long)) in
-    sym (take-append-drop (at + size) y)
-    ∙ ap (λ (l : List ℕ). l ++ drop (at + size) y) front
-    ∙ ap (λ (l : List ℕ). (take at x ++ piece) ++ l) back
-    ∙ ap (λ (l : List ℕ). (take at x ++ l) ++ drop (at + size) x) is
-    ∙ append_assoc (take at x) bytes (drop (at + size) x)
+put_part x piece bytes at size is long room = grind (arith, common_steps)

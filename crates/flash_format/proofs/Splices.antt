@@ -1,15 +1,15 @@
 -- The cells and components of a region after the replacement of a group of cells.
+use Rattle.std.proofs.lemmas.Bool.Decides.{nat_tests}
 use Rattle.std.proofs.Common.{◌≡◌, ℕ, ◌+◌, ◌-◌, ◌%◌, ◌^◌, ◌<◌, Bool, true, cond, List, [], ◌∷◌, ◌++◌, length, take, drop, sym, ◌∙◌, ap, refl, arith, All, append_assoc, length-append}
 use Rattle.std.specs.List.{concat}
 use Rattle.std.proofs.lemmas.List.{take_at, drop_at, append-nil}
 use Rattle.std.proofs.lemmas.List.Elements.{All-nil, All-cons, All-head, All-tail, All-append}
 use Rattle.flash_format.specs.Head.{head_of, is_free}
 use Rattle.flash_format.specs.Made.{header_length, empty_header}
-use Rattle.flash_format.specs.Entry.{cell, entry}
 use Rattle.flash_format.specs.Placings.{IsSpace, space_cells}
 use Rattle.flash_format.proofs.EmptyEntryLaws.{empty_header-cell, length-empty_header}
-use Rattle.flash_format.specs.Cut.{Cut, cut, IsCell, IsCut}
-use Rattle.flash_format.specs.Components.{Component, component_at, components_from, components}
+use Rattle.flash_format.specs.Cut.{cut, IsCell, IsCut}
+use Rattle.flash_format.specs.Components.{component_at, components_from, components}
 use Rattle.flash_format.specs.Splices.{CellsBetween, splice}
 pub use Rattle.std.proofs.lemmas.List.Folds.{concat-append}
 pub use Rattle.flash_format.specs.Splices.{AllFree}
@@ -44,13 +44,7 @@ components-free at (c ∷ cs) free =
 
 -- the components around and in a group
 components-three : (a b c : List (List ℕ)) → components_from 0 (a ++ b ++ c) ≡ components_from 0 a ++ components_from (length (concat a)) b ++ components_from (length (concat a) + length (concat b)) c
-components-three a b c =
-    let at_b : 0 + length (concat a) ≡ length (concat a) = omega arith in
-    let at_c : 0 + length (concat (a ++ b)) ≡ length (concat a) + length (concat b) =
-    omega (arith, ap length (concat-append a b), length-append (concat a) (concat b)) in
-    components-append 0 (a ++ b) c
-    ∙ ap (λ (l : List Component). l ++ components_from (0 + length (concat (a ++ b))) c) (components-append 0 a b ∙ ap (λ n. components_from 0 a ++ components_from n b) at_b)
-    ∙ ap (λ n. components_from 0 a ++ components_from (length (concat a)) b ++ components_from n c) at_c
+components-three a b c = simp (concat-append, length-append, components-append) (grind (arith, nat_tests))
 
 -- ---- free space
 
@@ -58,10 +52,8 @@ space_cell : (size : ℕ) (bytes : List ℕ) → IsSpace size bytes → 0 < size
 space_cell size bytes is some whole small =
     let (kept, more, shape) = is.header some in
     let room : header_length + length more ≡ size = omega (arith, is.long, ap length shape, length-append (empty_header size kept) more, length-empty_header size kept) in
-    let read = empty_header-cell size kept more (omega arith) whole small room in (
-      ap (λ (l : List ℕ). entry l) shape ∙ read.0 ∙ ap (λ (n : ℕ). cell n) (sym is.long),
-      ap (λ (l : List ℕ). is_free (head_of l)) shape ∙ read.1,
-    )
+    let read = empty_header-cell size kept more (omega arith) whole small room in
+    grind arith
 
 pub space_each : (size : ℕ) (bytes : List ℕ) → IsSpace size bytes → size % 64 ≡ 0 → size < 2 ^ 32 → All IsCell (space_cells bytes) × AllFree (space_cells bytes)
 space_each size [] is whole small = (All-nil IsCell, All-nil (λ c. is_free (head_of c) ≡ true))
@@ -96,10 +88,7 @@ module _ (x : List ℕ) (start end : ℕ) (g : CellsBetween x start end) where
   -- the cut with other cells in the group's place
   pub splice-cut : (new : List (List ℕ)) → All IsCell new → start + length (concat new) ≡ end → IsCut (splice x start end (concat new)) (g.before ++ new ++ g.after) g.rest g.ending
   splice-cut new each size = record {
-    whole =
-        ap (λ (l : List ℕ). l ++ (concat new ++ drop end x)) group-prefix
-        ∙ ap (λ (l : List ℕ). concat g.before ++ (concat new ++ l)) group-later
-        ∙ sym (concat-three g.before new g.after g.rest);
+    whole = rw (group-prefix, group-later) (sym (concat-three g.before new g.after g.rest));
     each =
         All-append IsCell (g.before ++ new) g.after
         (All-append IsCell g.before new cells-before each)
@@ -113,23 +102,13 @@ module _ (x : List ℕ) (start end : ℕ) (g : CellsBetween x start end) where
   -- the components with other cells in the group's place
   pub splice-components : (new : List (List ℕ)) → All IsCell new → start + length (concat new) ≡ end
       → components (splice x start end (concat new)) ≡ components_from 0 g.before ++ components_from start new ++ components_from end g.after
-  splice-components new each size =
-      ap (λ (c : Cut). components_from 0 c.cells) (splice-is new each size)
-      ∙ components-three g.before new g.after
-      ∙ ap (λ n. components_from 0 g.before ++ components_from n new ++ components_from (n + length (concat new)) g.after) g.start_is
-      ∙ ap (λ n. components_from 0 g.before ++ components_from start new ++ components_from n g.after) size
+  splice-components new each size = grind (arith, splice-is, components-three)
 
   pub group-components : components x ≡ components_from 0 g.before ++ components_from start g.group ++ components_from end g.after
-  group-components =
-      ap (λ (c : Cut). components_from 0 c.cells) (cut_unique x (g.before ++ g.group ++ g.after) g.rest g.ending g.is)
-      ∙ components-three g.before g.group g.after
-      ∙ ap (λ n. components_from 0 g.before ++ components_from n g.group ++ components_from (n + length (concat g.group)) g.after) g.start_is
-      ∙ ap (λ n. components_from 0 g.before ++ components_from start g.group ++ components_from n g.after) g.end_is
+  group-components = grind (arith, nat_tests, cut_unique, components-three)
 
   pub splice-end : (new : List (List ℕ)) → All IsCell new → start + length (concat new) ≡ end → (cut (splice x start end (concat new))).end ≡ (cut x).end
-  splice-end new each size =
-      ap (λ (c : Cut). c.end) (splice-is new each size)
-      ∙ sym (ap (λ (c : Cut). c.end) (cut_unique x (g.before ++ g.group ++ g.after) g.rest g.ending g.is))
+  splice-end new each size = grind (arith, nat_tests, splice-is, cut_unique)
 
   -- ---- an empty entry's header in the group's place, with anything after it
 
@@ -147,11 +126,7 @@ module _ (x : List ℕ) (start end : ℕ) (g : CellsBetween x start end) where
     empty_entry-size = omega (arith, ap length (concat-space empty_bytes), empty_entry-length, some)
 
     pub emptied-components : components (splice x start end empty_bytes) ≡ components_from 0 g.before ++ components_from end g.after
-    emptied-components =
-        ap (λ (l : List ℕ). components (splice x start end l)) (sym (concat-space empty_bytes))
-        ∙ splice-components (space_cells empty_bytes) empty_entry-space.0 empty_entry-size
-        ∙ ap (λ (l : List Component). components_from 0 g.before ++ l ++ components_from end g.after) (components-free start (space_cells empty_bytes) empty_entry-space.1)
-        ∙ ap (λ (l : List Component). l ++ components_from end g.after) (append-nil (components_from 0 g.before))
+    emptied-components = grind (arith, nat_tests, concat-space, splice-components, empty_entry-space, empty_entry-size, components-free, append-nil)
 
     pub emptied-end : (cut (splice x start end empty_bytes)).end ≡ (cut x).end
     emptied-end = ap (λ (l : List ℕ). (cut (splice x start end l)).end) (sym (concat-space empty_bytes)) ∙ splice-end (space_cells empty_bytes) empty_entry-space.0 empty_entry-size

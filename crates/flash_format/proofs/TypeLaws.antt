@@ -1,5 +1,5 @@
 -- Names of types and compressions determine their numbers.
-use Rattle.std.proofs.Common.{◌≡◌, ℕ, Bool, true, false, nat_eq, nat_le, List, [], ◌∷◌, Option, Some, None, refl, sym, ap, eqb, ◌&&◌}
+use Rattle.std.proofs.Common.{◌≡◌, ℕ, Bool, true, false, nat_eq, nat_le, List, [], ◌∷◌, Option, Some, None, refl, sym, ap, eqb, ◌&&◌, arith}
 use Rattle.std.specs.List.{list_all}
 use Rattle.std.specs.Map.{lookup}
 use Rattle.std.proofs.lemmas.Bool.{eqb-true, and_parts}
@@ -10,17 +10,7 @@ use Rattle.flash_format.specs.TypeNames.{compression_table, name_of_compression,
 found_passes : (test : ℕ × List ℕ → Bool) (rows : List (ℕ × List ℕ)) (n : ℕ) (name : List ℕ) → list_all test rows ≡ true
     → lookup (nat_eq n) rows ≡ Some name → test (n, name) ≡ true
 found_passes test [] n name all is = absurd cc
-found_passes test (row ∷ rows) n name all is =
-    let parts = and_parts (test row) (list_all test rows) all in
-    go parts.0 (found_passes test rows n name parts.1) (nat_eq n row.0) refl is
-  where
-    go : test row ≡ true → (lookup (nat_eq n) rows ≡ Some name → test (n, name) ≡ true) → (same : Bool)
-        → nat_eq n row.0 ≡ same → lookup (nat_eq n) (row ∷ rows) ≡ Some name → test (n, name) ≡ true
-    go here later true same is =
-        let whole : Some row.1 ≡ Some name = rw same at is in
-        let first : row.1 ≡ name = cc in
-        rw (eqb-true n row.0 same, ← first) here
-    go here later false same is = later (rw same at is)
+found_passes test (row ∷ rows) n name all is = grind (arith, found_passes test rows n name)
 
 abbrev is_some_of : ℕ → Option ℕ → Bool
 is_some_of n None = false
@@ -32,13 +22,11 @@ some_is n (Some m) e = ap (λ (k : ℕ). Some k) (sym (eqb-true n m e))
 
 pub read_back : (kind : ℕ) (name : List ℕ) → name_of_type kind ≡ Some name → type_of_text name ≡ Some kind
 unfolding name_of_type type_of_text
-read_back kind name is =
-    some_is kind _ (found_passes (λ row. is_some_of row.0 (type_of_text row.1)) type_table kind name refl is)
+read_back kind name is = some_is kind _ (found_passes (λ row. is_some_of row.0 (type_of_text row.1)) type_table kind name refl is)
 
 pub compression_back : (n : ℕ) (name : List ℕ) → name_of_compression n ≡ Some name → number_for compression_table name ≡ Some n
 unfolding name_of_compression
-compression_back n name is =
-    some_is n _ (found_passes (λ row. is_some_of row.0 (number_for compression_table row.1)) compression_table n name refl is)
+compression_back n name is = grind (arith, some_is, found_passes)
 
 -- ---- the names as fields
 

@@ -34,20 +34,16 @@ abbrev pub is_packed : List Attribute → Bool
 is_packed all = not (packing all == 0)
 
 abbrev pub component_at : ℕ → List ℕ → Component
-component_at at x = record {
-  at = at;
-  name = cell_name x;
-  kind = (head_of x).kind;
-  attributes = cell_attributes x;
-  content = cell_content x;
-  bytes = x;
-}
+component_at at x = let name = cell_name x in
+    let kind = (head_of x).kind in
+    let all = cell_attributes x in
+    let content = cell_content x in
+    record { at = at; name = name; kind = kind; attributes = all; content = content; bytes = x }
 
 -- the components of neighbouring cells from a position on
 unfoldable pub components_from : ℕ → List (List ℕ) → List Component
 components_from at [] = []
-components_from at (x ∷ cells) =
-    let others = components_from (at + length x) cells in
+components_from at (x ∷ cells) = let others = components_from (at + length x) cells in
     if is_free (head_of x) then others else component_at at x ∷ others
 
 -- positions increased by n

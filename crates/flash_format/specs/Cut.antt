@@ -32,9 +32,8 @@ by_entry (cell span) x later = after (take span x ∷ []) (later span)
 -- after the first `skip` bytes, part of the previous cell
 unfoldable pub cut_after : ℕ → List ℕ → Cut
 cut_after skip [] = ends complete
-cut_after (suc skip) (b ∷ rest) = cut_after skip rest
-cut_after zero (b ∷ rest) =
-    by_entry (entry (b ∷ rest)) (b ∷ rest) (λ span. cut_after (pred span) rest)
+cut_after (suc skip) (b ∷ bs) = cut_after skip bs
+cut_after zero (b ∷ bs) = by_entry (entry (b ∷ bs)) (b ∷ bs) (λ span. cut_after (pred span) bs)
 
 abbrev pub cut : List ℕ → Cut
 cut x = cut_after 0 x

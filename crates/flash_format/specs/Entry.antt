@@ -50,10 +50,8 @@ attribute x = let h = attr_head_of x in record { tag = h.tag; contents = slice_r
 unfoldable pub attributes_after : ℕ → List ℕ → Option (List Attribute)
 attributes_after skip [] = Some []
 attributes_after (suc skip) (b ∷ rest) = attributes_after skip rest
-attributes_after zero (b ∷ rest) =
-    let x = b ∷ rest in
-    if ends_list x then Some []
-    else (if is_malformed x then None
+attributes_after zero (b ∷ rest) = let x = b ∷ rest in
+    if ends_list x then Some [] else (if is_malformed x then None
     else option_map (λ others. attribute x ∷ others)
     (attributes_after (pred (attr_head_of x).len) rest))
 
@@ -63,8 +61,7 @@ attributes x = attributes_after 0 x
 
 -- the first attribute with the tag
 abbrev pub data_of : ℕ → List Attribute → Option (List ℕ)
-data_of tag all =
-    option_map (λ (a : Attribute). a.contents) (find (λ (a : Attribute). a.tag == tag) all)
+data_of tag all = option_map (λ (a : Attribute). a.contents) (find (λ a. a.tag == tag) all)
 
 -- the start of the attributes, if any, or of the content
 abbrev pub name_end : Head → ℕ
@@ -93,8 +90,7 @@ pub data Entry : Type 0 where
 
 -- the checks after the head
 abbrev pub component : Head → List ℕ → ℕ → Entry
-component h x span =
-    if not (is_terminated (name_field h x)) then damaged kinds.Name
+component h x span = if not (is_terminated (name_field h x)) then damaged kinds.Name
     else (if not (is_some (attributes (attribute_field h x))) then damaged kinds.AttrLength
     else cell span)
 

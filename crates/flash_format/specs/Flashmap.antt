@@ -66,8 +66,7 @@ unfoldable pub is_valid_head : FmapHead → ℕ → Bool
 is_valid_head h left = h.major == 1 && (is_map_name h.name && nat_le (map_len h) left)
 
 unfoldable pub is_map : List ℕ → Bool
-is_map x =
-    nat_le fmap_head_len (length x)
+is_map x = nat_le fmap_head_len (length x)
     && (has_signature x && is_valid_head (fmap_head_of x) (length x))
 
 -- the lowest valid map; `at` is the first byte's position

@@ -39,14 +39,12 @@ is_free h = h.kind == 0 || h.kind == 0xffffffff
 
 -- before the name's least end, or after the content's start
 abbrev pub attributes_misplaced : Head → Bool
-attributes_misplaced h =
-    not (h.attributes_offset == 0)
+attributes_misplaced h = not (h.attributes_offset == 0)
     && (nat_lt h.attributes_offset 25 || nat_lt h.offset h.attributes_offset)
 
 -- The first failed check with `left` bytes up to the region's end, or the extent.
 unfoldable pub extent_of : Head → ℕ → Result Extent DamageKind
-extent_of h left =
-    if nat_lt h.offset (if is_free h then 24 else 25) then Err kinds.Offset
+extent_of h left = if nat_lt h.offset (if is_free h then 24 else 25) then Err kinds.Offset
     else (if not (is_free h) && attributes_misplaced h then Err kinds.AttrOffset
     else (if nat_lt left (h.offset + h.len) then Err kinds.Extent
     else Ok (record { content = h.offset; span = round64 (h.offset + h.len) })))

@@ -1,5 +1,5 @@
 -- Laws of the definitions.
-use Rattle.std.specs.Prelude.{◌≡◌, ◌≢◌, ℕ, ◌+◌, ◌-◌, ◌%◌, ◌^◌, ◌<◌, ◌≤◌, Bool, true, List, [], ◌∷◌, ◌++◌, length, take, drop, All, MatchOption, Some, Option}
+use Rattle.std.specs.Prelude.{◌≡◌, ◌≢◌, ℕ, ◌+◌, ◌-◌, ◌^◌, ◌<◌, ◌≤◌, Bool, true, List, [], ◌∷◌, ◌++◌, length, take, drop, All, MatchOption, Option}
 use Rattle.std.specs.List.{concat, flat_map, sum_by}
 use Rattle.flash_format.specs.declared.digest.Digest.{Digest}
 use Rattle.flash_format.specs.Head.{head_of, is_free, round64}
@@ -13,7 +13,6 @@ use Rattle.flash_format.specs.Flashmap.{area_bytes, areas_from, fmap_head_bytes,
 use Rattle.flash_format.specs.declared.flashmap.Area.{Area}
 use Rattle.flash_format.specs.declared.flashmap.FmapHead.{FmapHead}
 use Rattle.flash_format.specs.Texts.{hexadecimal, is_field, printed_name}
-use Rattle.flash_format.specs.TypeNames.{name_of_type, type_of_text}
 
 pub record EntriesAreReadAlike : Type 0 where
   -- a multiple of 64, inside the region
@@ -34,20 +33,11 @@ pub record CutsGoOn : Type 0 where
       → take at x ≡ concat cells → at ≤ length x
       → components x ≡ components_from 0 cells ++ shifted_by at (components (drop at x))
   -- two lists of cells
-  pub joined : (at : ℕ) (cells more : List (List ℕ))
-      → components_from at (cells ++ more)
+  pub joined : (at : ℕ) (cells more : List (List ℕ)) → components_from at (cells ++ more)
       ≡ components_from at cells ++ components_from (at + length (concat cells)) more
   -- a position is the sum of cell lengths
   pub places : (x : List ℕ) (at : ℕ) (cells : List (List ℕ)) → take at x ≡ concat cells
       → at ≤ length x → at ≡ sum_by length cells
-
--- whatever follows the header
-abbrev pub EmptyHeadersAreFreeCells : Type 0
-EmptyHeadersAreFreeCells =
-    (size : ℕ) (kept : Bool) (more : List ℕ) → 64 ≤ size → size % 64 ≡ 0 → size < 2 ^ 32
-    → header_length + length more ≡ size
-    → (entry (empty_header size kept ++ more) ≡ cell size)
-    × (is_free (head_of (empty_header size kept ++ more)) ≡ true)
 
 pub record GroupsAreReplaced (x : List ℕ) (start end : ℕ)
     (g : CellsBetween x start end) : Type 0 where
@@ -81,10 +71,8 @@ pub record MadeCellsAreReadAsMade (name : List ℕ) (kind : ℕ) (digest : Optio
 
 -- a cell between free space, in place of free cells, adds exactly one component
 abbrev pub ComponentsArePlaced : Type 0
-ComponentsArePlaced =
-    (x : List ℕ) (start end : ℕ) (g : CellsBetween x start end) (at : ℕ)
-    (before whole after : List ℕ) (name : List ℕ) (kind : ℕ) (digest : Option Digest)
-    (content : List ℕ)
+ComponentsArePlaced = (x : List ℕ) (start end : ℕ) (g : CellsBetween x start end) (at : ℕ)
+    (before whole after name : List ℕ) (kind : ℕ) (digest : Option Digest) (content : List ℕ)
     → AllFree g.group → IsPlacing start end at before whole after
     → IsReadAs name kind digest content whole (length whole)
     → HasOneMore x start end g (space_cells before ++ (whole ∷ []) ++ space_cells after)
@@ -97,8 +85,7 @@ NoMapBelow image q = (k : ℕ) → k < q → is_map (drop k image) ≢ true
 
 -- the lowest valid map; without a position, no map
 abbrev pub IsMapOf : List ℕ → Option ℕ → Type 0
-IsMapOf image found =
-    MatchOption found (NoMapBelow image (length image))
+IsMapOf image found = MatchOption found (NoMapBelow image (length image))
     (λ q. (is_map (drop q image) ≡ true) × NoMapBelow image q)
 
 -- the fields fit their bytes
@@ -126,15 +113,6 @@ pub record IsReadAsMap (h : FmapHead) (areas : List Area) (x : List ℕ) : Type 
   pub valid : is_map x ≡ true
   pub head : fmap_head_of x ≡ h
   pub all : areas_from h.nareas (drop fmap_head_len x) ≡ areas
-
-abbrev pub MapsAreReadBack : Type 0
-MapsAreReadBack =
-    (h : FmapHead) (areas : List Area) (more : List ℕ) → IsMapInBytes h areas
-    → IsReadAsMap h areas (map_bytes h areas ++ more)
-
-abbrev pub NamesAreReadBack : Type 0
-NamesAreReadBack =
-    (kind : ℕ) (name : List ℕ) → name_of_type kind ≡ Some name → type_of_text name ≡ Some kind
 
 -- different names, and different numbers of 64 bits, have different, valid texts
 pub record PrintedTextsAreReadBack : Type 0 where

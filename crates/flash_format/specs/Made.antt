@@ -27,13 +27,9 @@ header_length = 24 + name_padding
 
 -- For a cell of the given size. With `kept`, the free space excludes the last four bytes.
 unfoldable pub empty_header : ℕ → Bool → List ℕ
-empty_header size kept =
-    head_bytes (record {
-      len = size - header_length - (if kept then 4 else 0);
-      kind = 0xffffffff;
-      attributes_offset = 0;
-      offset = header_length;
-    })
+empty_header size kept = let n = size - header_length - (if kept then 4 else 0) in
+    head_bytes
+    (record { len = n; kind = 0xffffffff; attributes_offset = 0; offset = header_length })
     ++ replicate (header_length - 24) 0
 
 -- n bytes 0xff, except preserved last bytes
@@ -67,11 +63,10 @@ abbrev pub algorithms : List Algorithm
 algorithms = Sha256 ∷ Sha512 ∷ []
 
 abbrev pub algorithm_numbered : ℕ → Option Algorithm
-algorithm_numbered number =
-    find (λ algorithm. (algorithm_row algorithm).number == number) algorithms
+algorithm_numbered number = find (λ a. (algorithm_row a).number == number) algorithms
 
 abbrev pub algorithm_named : List ℕ → Option Algorithm
-algorithm_named name = find (λ algorithm. bytes_eq (algorithm_row algorithm).name name) algorithms
+algorithm_named name = find (λ a. bytes_eq (algorithm_row a).name name) algorithms
 
 abbrev pub digest_with : Algorithm → List ℕ → Digest
 digest_with Sha256 bytes = digests.Sha256 bytes
@@ -90,48 +85,23 @@ digest_len digest = (algorithm_row (algorithm digest)).len
 
 -- `struct cbfs_file_attr_hash`
 unfoldable pub hash_attribute : ℕ → List ℕ → List ℕ
-hash_attribute number bytes =
-    big_bytes 4 HASH ++ big_bytes 4 (12 + length bytes) ++ big_bytes 4 number ++ bytes
+hash_attribute number d = big_bytes 4 HASH ++ big_bytes 4 (12 + length d) ++ big_bytes 4 number ++ d
 
 abbrev pub hash_bytes : Option Digest → List ℕ
-hash_bytes digest =
-    option_map_or (λ d. hash_attribute (algorithm_row (algorithm d)).number (digest_bytes d))
-    digest []
+hash_bytes digest = option_map_or
+    (λ d. hash_attribute (algorithm_row (algorithm d)).number (digest_bytes d)) digest []
 
 -- the attribute's length, or 0
 abbrev pub hash_len : Option Digest → ℕ
 hash_len digest = option_map_or (λ d. 12 + digest_len d) digest 0
 
-abbrev pub made_head : List ℕ → ℕ → Option Digest → ℕ → ℕ → Head
-made_head name kind digest gap n = record {
-  len = n;
-  kind = kind;
-  attributes_offset = if is_some digest then 24 + name_room (length name) else 0;
-  offset = meta_length (length name) (length (hash_bytes digest)) + gap;
-}
-
 abbrev pub padded_name : List ℕ → List ℕ
 padded_name name = name ++ replicate (name_room (length name) - length name) 0
 
-abbrev pub made_metadata : List ℕ → ℕ → Option Digest → ℕ → ℕ → List ℕ
-made_metadata name kind digest gap n =
-    head_bytes (made_head name kind digest gap n) ++ padded_name name ++ hash_bytes digest
-    ++ replicate gap 0xff
-
--- a component's cell, up to a multiple of 64; may preserve its last four bytes
-abbrev pub made : List ℕ → ℕ → Option Digest → ℕ → List ℕ → Option (List ℕ) → List ℕ
-made name kind digest gap content last =
-    let component = made_metadata name kind digest gap (length content) ++ content in
-    component ++ padding (round64 (length component) - length component) last
-
 abbrev pub made_attributes : Option Digest → List Attribute
-made_attributes digest =
-    option_map_or (λ d. record {
-      tag = HASH;
-      contents = big_bytes 4 (algorithm_row (algorithm d)).number ++ digest_bytes d;
-    } ∷ []) digest []
-
--- ---- decoding of made cells
+made_attributes digest = option_map_or (λ d.
+    let value = big_bytes 4 (algorithm_row (algorithm d)).number ++ digest_bytes d in
+    record { tag = HASH; contents = value } ∷ []) digest []
 
 abbrev pub IsDigest : Option Digest → Type 0
 IsDigest digest = IfSome digest (λ d. length (digest_bytes d) ≡ digest_len d)
@@ -140,14 +110,31 @@ IsDigest digest = IfSome digest (λ d. length (digest_bytes d) ≡ digest_len d)
 abbrev pub KeepsFour : Option (List ℕ) → Type 0
 KeepsFour last = IfSome last (λ bytes. length bytes ≡ 4)
 
-pub record IsMade (name : List ℕ) (kind : ℕ) (digest : Option Digest) (gap : ℕ)
-    (content : List ℕ) : Type 0 where
-  pub name_short : length name ≤ 127
-  pub name_plain : list_any is_nul name ≡ false
-  pub kind_small : kind < 2 ^ 32
-  pub kind_used : (kind == 0 || kind == 0xffffffff) ≡ false
-  pub digest_long : IsDigest digest
-  pub small : length (made_metadata name kind digest gap (length content)) + length content < 2 ^ 32
+-- ---- a component
+
+module _ (name : List ℕ) (kind : ℕ) (digest : Option Digest) (gap : ℕ) where
+  abbrev pub made_head : ℕ → Head
+  made_head n = let attributes = if is_some digest then 24 + name_room (length name) else 0 in
+      let offset = meta_length (length name) (length (hash_bytes digest)) + gap in
+      record { len = n; kind = kind; attributes_offset = attributes; offset = offset }
+
+  abbrev pub made_metadata : ℕ → List ℕ
+  made_metadata n = head_bytes (made_head n) ++ padded_name name ++ hash_bytes digest
+      ++ replicate gap 0xff
+
+  -- a component's cell, up to a multiple of 64; may preserve its last four bytes
+  abbrev pub made : List ℕ → Option (List ℕ) → List ℕ
+  made content last = let component = made_metadata (length content) ++ content in
+      component ++ padding (round64 (length component) - length component) last
+
+  -- the conditions under which a made cell decodes to its component
+  pub record IsMade (content : List ℕ) : Type 0 where
+    pub name_short : length name ≤ 127
+    pub name_plain : list_any is_nul name ≡ false
+    pub kind_small : kind < 2 ^ 32
+    pub kind_used : (kind == 0 || kind == 0xffffffff) ≡ false
+    pub digest_long : IsDigest digest
+    pub small : length (made_metadata (length content)) + length content < 2 ^ 32
 
 -- ---- from a description
 

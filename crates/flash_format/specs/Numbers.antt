@@ -23,8 +23,7 @@ digits_value base [] = None
 digits_value base (b ∷ bs) = value_from base 0 (b ∷ bs)
 
 abbrev pub number_value : List ℕ → Option ℕ
-number_value text =
-    if starts_with nat_eq text (codes "0x") then digits_value 16 (drop 2 text)
+number_value text = if starts_with nat_eq text (codes "0x") then digits_value 16 (drop 2 text)
     else digits_value 10 text
 
 abbrev pub in_32_bits : ℕ → Option ℕ

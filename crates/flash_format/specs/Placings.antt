@@ -27,14 +27,8 @@ pub record IsPlacing (start end at : ℕ) (before cell after : List ℕ) : Type 
   pub space_after : IsSpace (end - (at + length cell)) after
 
 abbrev pub made_component : ℕ → List ℕ → ℕ → Option Digest → List ℕ → List ℕ → Component
-made_component at name kind digest content bytes = record {
-  at = at;
-  name = name;
-  kind = kind;
-  attributes = made_attributes digest;
-  content = content;
-  bytes = bytes;
-}
+made_component at name kind digest content x = let all = made_attributes digest in
+    record { at = at; name = name; kind = kind; attributes = all; content = content; bytes = x }
 
 -- a cell of the given length, which decodes to the component
 pub record IsReadAs (name : List ℕ) (kind : ℕ) (digest : Option Digest) (content : List ℕ)

@@ -20,8 +20,7 @@ printed_compression n = unwrap_or (name_of_compression n) (hexadecimal n)
 
 -- the byte, or `\x` and two digits for the backslash and non-printing bytes
 unfoldable pub printed_byte : ℕ → List ℕ
-printed_byte b =
-    if is_printing b && not (b == 0x5c) then b ∷ []
+printed_byte b = if is_printing b && not (b == 0x5c) then b ∷ []
     else codes "\\x" ++ digit_glyph false (b / 16) ∷ digit_glyph false (b % 16) ∷ []
 
 abbrev pub printed_name : List ℕ → List ℕ

@@ -1,6 +1,7 @@
 //! Flash maps (FMAP 1.1), little-endian.
 
-ghost use Rattle.std.specs.Prelude.{◌≡◌, ◌≤◌, length, true, Some, None, if◌then◌else◌};
+ghost use Rattle.std.specs.Prelude.{◌≡◌, ◌≤◌, length, true};
+ghost use Rattle.std.specs.Bool.{then_some};
 ghost use Rattle.std.specs.List.{list_any, list_all, position};
 ghost use Rattle.flash_format.specs.Entry.{is_nul};
 ghost use Rattle.flash_format.specs.Flashmap.{fmap_head_of, fmap_head_bytes, has_signature, is_map_name, map_len, is_valid_head, area_of, area_bytes, is_area, text_of, is_printing};
@@ -34,8 +35,7 @@ impl FmapHead {
     /// Decodes a head, or returns `None` without the signature.
     #[tactic(auto, unfolding(crate::specs::Flashmap::has_signature))]
     pub fn read(bytes: &[u8; Self::LENGTH]) -> Option<FmapHead>
-        ensures { result
-            ≡ (if has_signature bytes.now then Some (fmap_head_of bytes.now) else None) }
+        ensures { result ≡ then_some (has_signature bytes.now) (fmap_head_of bytes.now) }
     {
         if !bytes.starts_with(&Self::SIGNATURE) {
             return None;

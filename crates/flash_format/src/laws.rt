@@ -1,13 +1,16 @@
 //! Laws of the definitions: contracts without code.
 
-ghost use Rattle.std.specs.Prelude.{◌≡◌, ℕ, ◌+◌, ◌%◌, ◌<◌, ◌≤◌, true, List, length, drop, Option, Some};
+ghost use Rattle.std.specs.Prelude.{◌≡◌, ℕ, Bool, ◌+◌, ◌++◌, ◌^◌, ◌%◌, ◌<◌, ◌≤◌, true, List, length, drop, Option, Some};
 ghost use Rattle.flash_format.specs.declared.digest.Digest.{Digest};
-ghost use Rattle.flash_format.specs.Made.{name_padding, header_length, empty_entry, KeepsFour, name_room};
+ghost use Rattle.flash_format.specs.Made.{name_padding, header_length, empty_header, empty_entry, KeepsFour, name_room};
+ghost use Rattle.flash_format.specs.Head.{head_of, is_free};
+ghost use Rattle.flash_format.specs.Entry.{cell, entry};
 ghost use Rattle.flash_format.specs.Cut.{End, cut, IsCut};
 ghost use Rattle.flash_format.specs.Splices.{CellsBetween};
 ghost use Rattle.flash_format.specs.Placings.{IsSpace};
+ghost use Rattle.flash_format.specs.TypeNames.{name_of_type, type_of_text};
 ghost use Rattle.flash_format.specs.Flashmap.{fmap_head_len, area_len, is_map, map_of};
-ghost use Rattle.flash_format.specs.Laws.{EntriesAreReadAlike, CutsGoOn, EmptyHeadersAreFreeCells, GroupsAreReplaced, MadeCellsAreReadAsMade, ComponentsArePlaced, NoMapBelow, IsMapOf, MapsAreReadBack, NamesAreReadBack, PrintedTextsAreReadBack};
+ghost use Rattle.flash_format.specs.Laws.{EntriesAreReadAlike, CutsGoOn, GroupsAreReplaced, MadeCellsAreReadAsMade, ComponentsArePlaced, NoMapBelow, IsMapOf, IsMapInBytes, IsReadAsMap, map_bytes, PrintedTextsAreReadBack};
 
 use crate::flashmap::{Area, FmapHead};
 use crate::head::HEADER_LENGTH;
@@ -40,13 +43,15 @@ pub fn cuts_go_on()
 
 /// Proves that an empty entry is a free cell, whatever follows its header.
 pub fn empty_headers_are_free_cells()
-    ensures { EmptyHeadersAreFreeCells }
+    ensures { (size : ℕ) (kept : Bool) (more : List ℕ) → 64 ≤ size → size % 64 ≡ 0
+        → size < 2 ^ 32 → header_length + length more ≡ size
+        → let x = empty_header size kept ++ more in
+        (entry x ≡ cell size) × (is_free (head_of x) ≡ true) }
 {}
 
 /// Proves that replaced cells change no other component, and that an empty entry adds no component.
 pub fn groups_are_replaced()
-    ensures { (x : List ℕ) (start end : ℕ) (g : CellsBetween x start end)
-        → GroupsAreReplaced x start end g }
+    ensures { (x : List ℕ) (a b : ℕ) (g : CellsBetween x a b) → GroupsAreReplaced x a b g }
 {}
 
 /// Proves that a written cell decodes to its component, whatever follows.
@@ -73,12 +78,13 @@ pub fn maps_are_the_lowest()
 
 /// Proves that a valid encoded map decodes to its head and areas, whatever follows.
 pub fn maps_are_read_back()
-    ensures { MapsAreReadBack }
+    ensures { (h : FmapHead) (areas : List Area) (more : List ℕ) → IsMapInBytes h areas
+        → IsReadAsMap h areas (map_bytes h areas ++ more) }
 {}
 
 /// Proves that a type's name decodes to the type.
 pub fn type_names_are_read_back()
-    ensures { NamesAreReadBack }
+    ensures { (n : ℕ) (name : List ℕ) → name_of_type n ≡ Some name → type_of_text name ≡ Some n }
 {}
 
 /// Proves that different names and numbers have different texts without tabs.

@@ -77,8 +77,6 @@ fn head_of(meta: &Meta<'_>) -> Head
     requires name { length meta.now.name.now ≤ 127 }
     requires gap { meta.now.gap < 64 }
     ensures head { result ≡ described_head meta.now }
-    ensures hash { length (hash_bytes (option_copied meta.now.digest))
-        ≡ hash_len (option_copied meta.now.digest) }
     ensures digest { IsDigest (option_copied meta.now.digest) }
 {
     let name_end = Head::LENGTH + name_room(meta.name.len());

@@ -2,14 +2,13 @@
 use Rattle.std.specs.Option.{option_map}
 use Rattle.std.proofs.Common.{⊎_elim, le_refl, zero, suc, ◌≡◌, ◌∙◌, ℕ, ◌+◌, ◌-◌, ◌/◌, ◌<◌, ◌≤◌, IsTrue, List, Option, Some, None, length, take, drop, sym, ap, subst, arith}
 use Rattle.std.specs.Prelude.{slice_range, slice_index}
-use Rattle.std.proofs.lemmas.Bool.{and_parts, cases_lt, cases_eq, eqb-false}
+use Rattle.std.proofs.lemmas.Bool.{and_parts, cases_lt, cases_eq}
 use Rattle.std.proofs.lemmas.Slice.Eq.{bytes_eq-Decides}
 use Rattle.std.proofs.lemmas.List.{get_or-take, get_or-drop, length-take}
 use Rattle.std.proofs.lemmas.List.Prefix.{at_from_reads}
 use lib.Chars.{codes}
 use lib.Dec.{eqb}
 use Rattle.memchr.specs.Find.{Nowhere, IsFirst, OccursAt, FindsNeedle}
-use Rattle.flash_device.specs.Device.{Device}
 use Rattle.flash_device.specs.Pages.{Pages, HasRead}
 use Rattle.flash_map.specs.Fmap.{HasSignatureAt, map_head, map_head_in, found_from}
 use Rattle.flash_format.specs.declared.flashmap.FmapHead.{FmapHead}
@@ -84,9 +83,7 @@ OccursAt-signature image q occurs = rw (at_from_reads 0 image signature q occurs
 
 -- two signatures don't overlap if a byte and the byte d later differ
 clash : (image : List ℕ) (q d j : ℕ) → OccursAt image signature q → OccursAt image signature (q + d) → j + d < 8 → eqb (slice_index signature (j + d)) (slice_index signature j) ≡ false → ⊥
-clash image q d j first second below differ =
-    let there : q + (j + d) ≡ q + d + j = omega arith in
-    eqb-false _ _ differ (sym (first.reads (j + d) below) ∙ ap (slice_index image) there ∙ second.reads j (omega arith))
+clash image q d j first second below differ = grind arith
 
 apart : (image : List ℕ) (q d : ℕ) → OccursAt image signature q → OccursAt image signature (q + d) → 0 < d → d < 6 → ⊥
 apart image q zero first second above below = absurd (omega (arith, above))

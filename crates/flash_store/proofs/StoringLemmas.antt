@@ -1,5 +1,5 @@
 -- Partial transfers.
-use Rattle.std.proofs.Common.{◌≡◌, ◌⊎◌, ◌∙◌, sym, ap, subst, take-add, IsTrue, Bool, ℕ, ◌+◌, ◌-◌, ◌≤◌, List, length, take, drop, arith, ◌++◌, length-append, length-take, length-drop, replicate, refl, inl, inr}
+use Rattle.std.proofs.Common.{◌≡◌, ◌⊎◌, ◌∙◌, sym, ap, subst, take-add, IsTrue, Bool, ℕ, ◌+◌, ◌-◌, ◌≤◌, List, length, take, drop, arith, ◌++◌, length-append, length-take, length-drop, replicate, refl, inl, inr, rules}
 use Rattle.std.proofs.lemmas.List.{length-take-le, take_rest, drop-drop, length-replicate, take-replicate, replicate-append-replicate, drop-replicate, take-take, drop-take, take-append-le}
 use Rattle.std.proofs.lemmas.Slice.{take-put_mid}
 use Rattle.std.proofs.Math.Seq.{take-append-add, take-length}
@@ -14,10 +14,7 @@ pub faithful_still : {old new : Bool} → new ≡ old → IsTrue old → IsTrue 
 faithful_still same h = subst IsTrue (sym same) h
 
 pub SameFile-trans : {a b c : Stored} → SameFile a b → SameFile b c → SameFile a c
-SameFile-trans first second = record {
-  same_faith = second.same_faith ∙ first.same_faith;
-  same_length = second.same_length ∙ first.same_length;
-}
+SameFile-trans first second = grind arith
 
 -- the length of the remaining bytes
 pub length-rest : (bytes : List ℕ) (done : ℕ) → length (take (length bytes - done) (drop done bytes)) ≡ length bytes - done
@@ -45,10 +42,7 @@ Read-more out tail x at done n within size had now =
     ∙ sym (take-add done n (drop at x))
 
 pub SameBytes-trans : {a b c : Stored} → SameBytes a b → SameBytes b c → SameBytes a c
-SameBytes-trans first second = record {
-  same = SameFile-trans first.same second.same;
-  unchanged = λ h. second.unchanged (faithful_still first.same.same_faith h) ∙ first.unchanged h;
-}
+SameBytes-trans first second = grind arith
 
 -- 0xff after 0xff
 pub Erased-more : (mid new : List ℕ) (at n m : ℕ) → n ≤ m → at + n ≤ length mid → take at mid ≡ replicate at 255

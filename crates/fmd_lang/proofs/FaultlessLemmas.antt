@@ -1,12 +1,11 @@
 -- Tokens without a fault form a tree.
-use Rattle.std.proofs.Common.{◌≡◌, ◌≢◌, ℕ, zero, suc, ◌+◌, ◌-◌, ◌≤◌, nat_lt, true, false, cond, List, [], ◌∷◌, ◌++◌, length, Option, Some, None, refl, sym, ◌∙◌, ap, arith, inl, inr, append_assoc, subst, All}
+use Rattle.std.proofs.Common.{◌≡◌, ◌≢◌, ℕ, zero, suc, ◌+◌, ◌-◌, ◌≤◌, nat_lt, true, false, cond, List, [], ◌∷◌, ◌++◌, Option, Some, None, refl, sym, ◌∙◌, ap, arith, inl, inr, append_assoc, subst, All}
 use Rattle.std.specs.Int.Bits.{bit_or}
 use Rattle.std.specs.Result.{result_err}
-use Rattle.std.proofs.lemmas.Bool.{cond_both}
 use Rattle.std.proofs.lemmas.Bool.Decides.{nat_tests}
 use Rattle.std.proofs.lemmas.List.{append-nil}
 use Rattle.std.proofs.lemmas.List.Elements.{All-head, All-tail}
-use Rattle.fmd_lang.specs.Words.{Word, words, kind_of, without_comments}
+use Rattle.fmd_lang.specs.Words.{Word, words, kind_of}
 use Rattle.fmd_lang.specs.Numbers.{number_at, literal_value}
 use Rattle.fmd_lang.specs.Tree.{Tree, section, Forest, none, some}
 use Rattle.fmd_lang.specs.ParserResults.{IsBody}
@@ -97,9 +96,7 @@ Rest (Some (t, depth)) ws = Left t depth ws
 
 room : (n m : ℕ) (t : Stage) (depth : ℕ) (ws : List Word) → m ≤ 4 → Rest (cond (nat_lt n m) (Some (t, depth)) None) ws →
     (5 - m ≤ 4 - n) × Left t depth ws
-room n m t depth ws small =
-    cond_both (nat_lt n m) (Some (t, depth)) None (λ o. Rest o ws → (5 - m ≤ 4 - n) × Left t depth ws)
-    (λ fits rest. (let few : suc n ≤ m = grind (arith, nat_tests) in omega arith, rest)) (λ over none_left. absurd none_left)
+room n m t depth ws small = grind (arith, nat_tests)
 
 -- an expected token before the rest
 step : (s : Stage) (k : Kind) (flag : Option ℕ) (depth : ℕ) (w : Word) (ws : List Word) → IsA k w → k ≢ End →
@@ -177,8 +174,4 @@ left (w ∷ ws) s depth end whole h =
 
 pub faultless-tree : (text : List ℕ) → first_fault text ≡ None → (t : Tree) × IsSection t (words text)
 unfolding first_fault words
-faultless-tree text h =
-    let whole = words_whole 0 false (without_comments false text) in
-    let none = cond-none (nat_lt 1048576 (length text)) faults.TextTooLong (fault_from (start, 0) (length text) (words text)) h in
-    let (t, (front, behind, split, is, nothing)) = left (words text) start 0 (length text) whole none in
-    (t, subst (IsSection t) (sym (split ∙ ap (λ v. front ++ v) nothing ∙ append-nil front)) is)
+faultless-tree text h = grind (arith, nat_tests, words_whole, cond-none, left, append-nil)

@@ -1,15 +1,14 @@
 -- The numbers and areas of a text without a fault fit into the fields of the table.
-use Rattle.std.proofs.Common.{◌≡◌, ℕ, ◌^◌, ◌<◌, All, List, [], ◌∷◌, ◌++◌, length, Option, Some, None, sym, ◌∙◌, ap, subst, arith}
-use Rattle.std.specs.Prelude.{nat_lt, unwrap_or}
-use Rattle.std.specs.Result.{result_err}
-use Rattle.fmd_lang.specs.Numbers.{number_at}
+use Rattle.std.proofs.lemmas.Bool.Decides.{nat_tests}
+use Rattle.std.proofs.Common.{◌≡◌, ℕ, ◌^◌, ◌<◌, All, List, [], ◌∷◌, ◌++◌, length, Option, Some, None, ◌∙◌, ap, subst, arith}
+use Rattle.std.specs.Prelude.{unwrap_or}
 use Rattle.std.proofs.lemmas.List.Elements.{All-nil, All-cons, All-head, All-tail}
 use Rattle.flash_format.specs.declared.flashmap.Area.{Area}
 use Rattle.fmd_lang.specs.Words.{Word, kind_of, words}
-use Rattle.fmd_lang.specs.Tree.{Tree, names}
+use Rattle.fmd_lang.specs.Tree.{Tree}
 use Rattle.fmd_lang.specs.Grammar.{HasValue, IsOffset, IsSize, annotation_flag}
-use Rattle.fmd_lang.specs.Faults.{Stage, start, first_fault, fault_from, next_standing, token_fault, text_limit, wanted_at}
-use Rattle.fmd_lang.specs.LayoutFaults.{layout_fault, names_fault}
+use Rattle.fmd_lang.specs.Faults.{Stage, first_fault, fault_from, next_standing, token_fault, wanted_at}
+use Rattle.fmd_lang.specs.LayoutFaults.{layout_fault}
 use Rattle.fmd_lang.proofs.LayoutLemmas.{few-sections}
 use Rattle.fmd_lang.proofs.PlaceLemmas.{areas-filled}
 use Rattle.fmd_lang.specs.Table.{AreasBelow}
@@ -22,9 +21,7 @@ abbrev pub Fits : Word → Type 0
 Fits w = (n : ℕ) → HasValue n w → n < 2 ^ 32
 
 number_fits : (depth : ℕ) (w : Word) → token_fault (kind_of w.bytes) depth w ≡ None → Fits w
-number_fits depth w fine n (is, value) =
-    let small : result_err (number_at w.place (Some n)) ≡ None = ap (λ o. result_err (number_at w.place o)) (sym value) ∙ rw is at fine in
-    grind arith
+number_fits depth w fine n (is, value) = grind (arith, nat_tests)
 
 all_fit : (ws : List Word) (s : Stage) (depth end : ℕ) → fault_from (s, depth) end ws ≡ None → All Fits ws
 all_fit [] s depth end fine = All-nil Fits
@@ -37,9 +34,7 @@ all_fit (w ∷ ws) s depth end fine =
 
 pub numbers_fit : (text : List ℕ) → first_fault text ≡ None → All Fits (words text)
 unfolding first_fault
-numbers_fit text fine =
-    let ws = words text in
-    all_fit ws start 0 (length text) (cond-none (nat_lt text_limit (length text)) faults.TextTooLong (fault_from (start, 0) (length text) ws) fine)
+numbers_fit text fine = grind (arith, nat_tests, all_fit, cond-none)
 
 pub size_fits : (size : Option ℕ) (n : ℕ) (number after : List Word) → size ≡ Some n → IsSize size number →
     All Fits (number ++ after) → n < 2 ^ 32
@@ -62,5 +57,4 @@ offset_fits (Some n) place after (front, back, shape, (mark, first, is_mark), (w
 pub few_areas : (t : Tree) (size : ℕ) (areas : List Area) → layout_fault t ≡ None → AreasBelow 0 0 size t areas →
     length areas < 2 ^ 16
 unfolding layout_fault
-few_areas t size areas fine are =
-    omega (arith, few-sections t (or-none (names_fault (names t)) _ fine).0, (areas-filled t 0 0 size areas are).1)
+few_areas t size areas fine are = grind (arith, nat_tests, few-sections, or-none, areas-filled)

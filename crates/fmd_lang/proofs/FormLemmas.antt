@@ -1,9 +1,7 @@
 -- Annotations and sections, by token and by section.
-use Rattle.std.proofs.Common.{◌≡◌, ℕ, ◌<◌, Bool, true, false, List, [], ◌∷◌, ◌++◌, length, map, Some, None, option_map, refl, sym, ◌∙◌, ap, subst, arith, append_assoc}
+use Rattle.std.proofs.lemmas.Bool.Decides.{nat_tests}
+use Rattle.std.proofs.Common.{◌≡◌, ℕ, ◌<◌, Bool, true, false, List, [], ◌∷◌, ◌++◌, length, Some, None, option_map, refl, sym, ◌∙◌, ap, arith, append_assoc}
 use Rattle.std.proofs.lemmas.List.{append-nil, map-append}
-use Rattle.std.proofs.lemmas.List.Elements.{All-contains}
-use Rattle.std.proofs.lemmas.List.Sums.{AllPass-from_list_all}
-use Rattle.std.proofs.lemmas.Map.Views.{Contains-from_lookup}
 use Rattle.std.proofs.lemmas.Slice.Eq.{bytes_eq-Decides}
 use Rattle.fmd_lang.specs.Faults.{token_fault}
 use Rattle.fmd_lang.proofs.OptionLemmas.{and-then-some}
@@ -34,15 +32,12 @@ flags-push (v ∷ ws) before flags flag w h is =
 
 pub flags-snoc : (before flags flag : ℕ) (v : List Word) →
     Then (λ ws. flags_with before ws ≡ Some flags) (One (IsAnnotation flag)) v → flags_with before v ≡ Some (bit_or flags flag)
-flags-snoc before flags flag v (front, back, split, all, (w, one, is)) =
-    rw (split, one) (flags-push front before flags flag w all is)
+flags-snoc before flags flag v (front, back, split, all, (w, one, is)) = grind (arith, nat_tests, flags-push)
 
 -- A test of all annotations holds for each annotation.
 pub each-annotation : (test : List ℕ × ℕ → Bool) → list_all test annotations ≡ true → (bytes : List ℕ) (flag : ℕ) →
     annotation_flag bytes ≡ Some flag → test (bytes, flag) ≡ true
-each-annotation test all bytes flag known =
-    let listed = Contains-from_lookup (λ a b. (bytes_eq-Decides a b).0) bytes flag annotations known in
-    All-contains (λ row. test row ≡ true) annotations (bytes, flag) (AllPass-from_list_all test annotations all) listed
+each-annotation test all bytes flag known = grind (arith, nat_tests, bytes_eq-Decides)
 
 abbrev is_name : Kind → Bool
 is_name Name = true
@@ -53,23 +48,19 @@ name-is Name is = refl
 name-is k is = cc
 
 pub annotation-name : (bytes : List ℕ) (flag : ℕ) → annotation_flag bytes ≡ Some flag → kind_of bytes ≡ Name
-annotation-name bytes flag known =
-    name-is (kind_of bytes) (each-annotation (λ row. is_name (kind_of row.0)) refl bytes flag known)
+annotation-name bytes flag known = grind (arith, nat_tests, name-is, each-annotation)
 
 pub section-opens : (w : Word) (t : Tree) (v : List Word) → Then (One (λ x. x ≡ w)) (λ ws. IsSection t (w ∷ ws)) v → IsSection t v
-section-opens w t v (front, back, split, (x, one, same), is) =
-    subst (IsSection t) (sym (split ∙ ap (λ f. f ++ back) one ∙ ap (λ y. y ∷ back) same)) is
+section-opens w t v (front, back, split, (x, one, same), is) = grind (arith, nat_tests)
 
 sections-push : (ts : List Tree) (t : Tree) (ws more : List Word) → AreSections (forest_of ts) ws → IsSection t more →
     AreSections (forest_of (ts ++ t ∷ [])) (ws ++ more)
 sections-push [] t ws more none one = (more, [], rw (none) (sym (append-nil more)), one, refl)
-sections-push (u ∷ ts) t ws more (first, rest, split, head, tail) one =
-    (first, rest ++ more, rw split (append_assoc first rest more), head, sections-push ts t rest more tail one)
+sections-push (u ∷ ts) t ws more (first, rest, split, head, tail) one = grind (arith, nat_tests, append_assoc, sections-push ts t rest more tail one)
 
 pub sections-snoc : (parts : List Section) (part : Section) (v : List Word) →
     Then (AreSections (views parts)) (IsSection (view part)) v → AreSections (views (parts ++ part ∷ [])) v
-sections-snoc parts part v (front, back, split, all, one) =
-    rw (map-append view parts (part ∷ []), split) (sections-push (map view parts) (view part) front back all one)
+sections-snoc parts part v (front, back, split, all, one) = grind (arith, nat_tests, map-append, sections-push)
 
 pub name-short : (depth : ℕ) (w : Word) → token_fault Name depth w ≡ None → length w.bytes < 32
 name-short depth w own = grind arith

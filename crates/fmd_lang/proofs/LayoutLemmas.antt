@@ -1,20 +1,18 @@
 -- The layout of a tree, by section.
-use Rattle.std.proofs.Common.{◌≡◌, ℕ, suc, ◌+◌, ◌<◌, ◌≤◌, not, false, List, [], ◌∷◌, ◌++◌, codes, length, drop, take, min, replicate, get_or, IsTrue, true, nat_le, rules, Some, None, option_map, unwrap_or, length-append, refl, sym, subst, ◌∙◌, ap, arith, add-one, append_assoc}
-use Rattle.std.specs.Bool.{then_some}
+use Rattle.std.proofs.lemmas.Bool.Decides.{nat_tests}
+use Rattle.std.proofs.lemmas.Grind.{common_steps}
+use Rattle.std.proofs.Common.{◌≡◌, ℕ, suc, ◌+◌, ◌<◌, ◌≤◌, false, List, [], ◌∷◌, ◌++◌, length, drop, take, min, replicate, get_or, IsTrue, nat_le, Some, None, option_map, unwrap_or, length-append, refl, sym, subst, ◌∙◌, ap, arith, add-one, append_assoc}
 use Rattle.std.specs.Option.{option_or}
 use Rattle.std.proofs.Math.Nat.{min_comm}
 use Rattle.std.proofs.Math.Seq.{drop-cons}
 use Rattle.std.proofs.lemmas.List.{append-nil, take_min, drop_all, drop-replicate}
-use Rattle.std.proofs.lemmas.List.Elements.{All-get_or}
-use Rattle.std.proofs.lemmas.List.Sums.{AllPass-from_list_all}
 use Rattle.fmd_lang.specs.Tree.{Tree, section, Forest, none, some, section_count, names, names_of, size_of, view, views}
 use Rattle.fmd_lang.specs.declared.section.Section.TheFolds.{fold_out-Section}
 use Rattle.fmd_lang.specs.Table.{field_of, area_limit, section_area, areas_below, areas_of, AreasBelow, AreasOf, IsTable}
 use Rattle.fmd_lang.specs.Layout.{ambiguous_sibling, sibling, siblings, place_of, places_of, place_end, row_fault, misfit_of, first_misfit}
-use Rattle.fmd_lang.specs.LayoutFaults.{count_fault, parent_fault, parts_fault, layout_fault, names_fault, size_fault, table_fault, duplicate}
+use Rattle.fmd_lang.specs.LayoutFaults.{parent_fault, parts_fault, layout_fault, names_fault, size_fault, table_fault}
 use Rattle.fmd_lang.specs.declared.fault.FmdFault.TheVariants as faults
-use Rattle.std.specs.List.{list_all, list_any}
-use Rattle.std.specs.Str.{bytes_eq}
+use Rattle.std.specs.List.{list_all}
 use Rattle.fmd_lang.proofs.OptionLemmas.{map-none, or-none}
 use Rattle.fmd_lang.proofs.RowLemmas.{placed_one}
 use Rattle.fmd_lang.specs.declared.table.Table.{Table}
@@ -47,9 +45,7 @@ pub view-count : (s : Section) → section_count (view s) ≡ suc (length (names
 view-count s = rw (view-is s) refl
 
 pub field-is : (name : List ℕ) → take (min (length name) 32) name ++ drop (min (length name) 32) (replicate 32 0) ≡ field_of name
-field-is name =
-    let front : take (min (length name) 32) name ≡ take 32 name = rw (min_comm) (take_min 32 name) in
-    rw (front, drop-replicate) (ap (λ k. take 32 name ++ replicate k 0) (omega arith))
+field-is name = simp (min_comm, take_min, drop-replicate) (grind arith)
 
 -- ---- areas and faults, by part
 
@@ -80,10 +76,7 @@ pub sibling-pushed : {whole : List Sibling} {count : ℕ} (row : List Sibling) (
     ((row ++ record { number = n; offset = (out-Section s).offset; size = (out-Section s).size } ∷ [])
     ++ siblings (n + section_count (view s)) (views (drop (k + 1) ss)) ≡ whole)
     × (n + section_count (view s) + length (names_of (views (drop (k + 1) ss))) ≡ count)
-sibling-pushed row n k ss s so_far there is =
-    let items = rw (next ss k s there is) at so_far.0 in
-    let made : record { number = n; offset = (out-Section s).offset; size = (out-Section s).size } ≡ sibling n (view s) = rw (view-is s) refl in
-    (rw (made, append_assoc row) items, omega (arith, so_far.1, count-from ss k s there is))
+sibling-pushed row n k ss s so_far there is = grind (arith, next, view-is, append_assoc, count-from)
 
 joined : (areas below rest : List Area) (a : Area) → ((areas ++ a ∷ []) ++ below) ++ rest ≡ areas ++ (a ∷ below ++ rest)
 joined areas below rest a = simp append_assoc
@@ -95,60 +88,32 @@ pub part-at : {old areas : List Area} {at size : ℕ} {whole : Tree} (qs : List 
     (s : Section) → IsPushed old areas at size whole (drop k qs) (views (drop k ss)) → shown ≡ ss → k < length shown →
     s ≡ get_or shown k s → length qs ≡ length ss → q ≡ get_or qs k q →
     IsPushed old areas at size whole (q ∷ drop (k + 1) qs) (some (view s) (views (drop (k + 1) ss)))
-part-at qs ss shown k q s pushed same left part len place =
-    let room : k < length qs = omega (arith, ap length same, left, len) in
-    rw (next qs k q room place, next ss k s (rw same at left) (rw same at part)) at pushed
+part-at qs ss shown k q s pushed same left part len place = grind (arith, next)
 
 pub all-pushed : {old areas : List Area} {at size : ℕ} {whole : Tree} {places : List Place} (ss shown : List Section) (k : ℕ) →
     IsPushed old areas at size whole places (views (drop k ss)) → shown ≡ ss → length shown ≤ k →
     (areas ≡ old ++ areas_below (length old) at size whole) × (length areas + 1 ≡ length old + section_count whole)
     × (parent_fault (length old) size whole ≡ None)
-all-pushed {areas = areas} ss shown k pushed same over =
-    let last = rw (drop_all k ss (rw same at over)) at pushed in
-    (sym (append-nil areas) ∙ last.items, omega (arith, last.count), last.faults)
+all-pushed {areas = areas} ss shown k pushed same over = grind (arith, drop_all, append-nil)
 
 pub place-inside : (size : ℕ) (qs : List Place) (k : ℕ) (q : Place) → IsTrue (list_all (λ p. nat_le (place_end p) size) qs) →
     k < length qs → q ≡ get_or qs k q → place_end q ≤ size
-place-inside size qs k q inside there is =
-    let all : list_all (λ p. nat_le (place_end p) size) qs ≡ true = search (rules, inside) in
-    let here = All-get_or (λ p. nat_le (place_end p) size ≡ true) qs k q there (AllPass-from_list_all (λ p. nat_le (place_end p) size) qs all) in
-    let fits : nat_le (place_end q) size ≡ true = rw (← is) at here in
-    grind arith
+place-inside size qs k q inside there is = grind (arith, common_steps)
 
 pub part-pushed : {old before areas : List Area} {at size : ℕ} {whole t : Tree} {q : Place} {qs : List Place}
     {ts : Forest} (pushed : List Area) → IsPushed old before at size whole (q ∷ qs) (some t ts) → pushed ≡ before ++ section_area at q t ∷ [] →
     areas ≡ pushed ++ areas_below (length pushed) (at + q.start) q.size t →
     length areas + 1 ≡ length pushed + section_count t → parent_fault (length pushed) q.size t ≡ None →
     IsPushed old areas at size whole qs ts
-part-pushed {before = before} {areas = areas} {at = at} {t = t} {q = q} {qs = qs} {ts = ts} pushed so_far items below count clear =
-    let a = section_area at q t in
-    let len = ap length items ∙ length-push before a in
-    let n = suc (length before) in
-    let inner = areas_below n (at + q.start) q.size t in
-    let behind : n + section_count t ≡ suc (length areas) = omega (arith, len, count) in
-    let fine = rw len at clear in
-    record {
-      count = omega (arith, so_far.count, behind, length-append (names t) (names_of ts));
-      items = ap (λ xs. xs ++ areas_of (suc (length areas)) at ts qs) (rw len at below ∙ ap (λ xs. xs ++ inner) items)
-          ∙ joined before inner (areas_of (suc (length areas)) at ts qs) a
-          ∙ ap (λ m. before ++ (a ∷ inner ++ areas_of m at ts qs)) (sym behind) ∙ so_far.items;
-      faults = so_far.faults ∙ rw (fine, behind) refl;
-    }
+part-pushed {before = before} {areas = areas} {at = at} {t = t} {q = q} {qs = qs} {ts = ts} pushed so_far items below count clear = grind (arith, nat_tests, length-push, length-append, joined)
 
 pub part-refused : {old before : List Area} {at size : ℕ} {whole t : Tree} {q : Place} {qs : List Place} {ts : Forest}
     (pushed : List Area) (fault : FmdFault) → IsPushed old before at size whole (q ∷ qs) (some t ts) → pushed ≡ before ++ section_area at q t ∷ [] →
     parent_fault (length pushed) q.size t ≡ Some fault → parent_fault (length old) size whole ≡ Some fault
-part-refused {before = before} {at = at} {t = t} {q = q} pushed fault so_far items first =
-    let wrong = rw (ap length items ∙ length-push before (section_area at q t)) at first in
-    so_far.faults ∙ rw wrong refl
+part-refused {before = before} {at = at} {t = t} {q = q} pushed fault so_far items first = grind (arith, nat_tests, length-push)
 
 pub few-sections : (t : Tree) → names_fault (names t) ≡ None → section_count t ≤ area_limit + 1
-few-sections (section name flags offset size parts) h =
-    let ns = names (section name flags offset size parts) in
-    let below = (or-none (option_map faults.Duplicate (duplicate 0 [] ns)) _ h).1 in
-    let few : count_fault (length (names_of parts)) ≡ None =
-    (or-none (then_some (not (list_any (bytes_eq (codes "FMAP")) (names_of parts))) faults.NoFmap) _ below).1 in
-    grind arith
+few-sections (section name flags offset size parts) h = grind (arith, nat_tests, or-none)
 
 mutual
   -- the areas of a tree without a fault obey the equations

@@ -1,15 +1,16 @@
 -- The name field of a section is a valid name of a map.
-use Rattle.std.proofs.Common.{◌≡◌, ◌≢◌, ℕ, suc, ◌+◌, ◌-◌, ◌<◌, not, Bool, true, false, cond, All, List, [], ◌∷◌, ◌++◌, length, take, replicate, refl, sym, ◌∙◌, ap, subst, arith, length-append}
+use Rattle.std.proofs.lemmas.Bool.Decides.{nat_tests}
+use Rattle.std.proofs.Common.{◌≡◌, ◌≢◌, ℕ, suc, ◌-◌, ◌<◌, not, Bool, true, false, cond, All, List, [], ◌∷◌, ◌++◌, length, replicate, refl, sym, ◌∙◌, ap, subst, arith, length-append}
 use Rattle.std.proofs.Math.Bool.{or-true}
 use Rattle.std.proofs.lemmas.Bool.{cond_both}
-use Rattle.std.specs.Cmp.{first_so, second_so}
+use Rattle.std.specs.Cmp.{second_so}
 use Rattle.std.specs.Cmp.Derive.{both_true}
 use Rattle.std.specs.List.{list_all, list_any, position_or_len, take_while}
 use Rattle.std.proofs.lemmas.List.{take_all, take_at, length-replicate}
 use Rattle.std.proofs.lemmas.List.Sums.{take_while-cons}
 use Rattle.std.proofs.lemmas.List.Elements.{All-nil, All-cons, All-head, All-tail}
 use Rattle.flash_format.specs.Entry.{is_nul}
-use Rattle.flash_format.specs.Flashmap.{is_map_name, is_printing, text_of}
+use Rattle.flash_format.specs.Flashmap.{is_map_name, is_printing}
 use Rattle.fmd_lang.specs.Words.{Word, word, kind_of, is_blank, is_plain, words, words_from, without_comments}
 use Rattle.fmd_lang.specs.Table.{field_of}
 use Rattle.fmd_lang.specs.Grammar.{IsA}
@@ -80,16 +81,11 @@ some_nul (b ∷ name) k = rw (some_nul name k) (or-true (is_nul b))
 before_nul : (name : List ℕ) (k : ℕ) → list_all is_plain name ≡ true →
     position_or_len is_nul (name ++ replicate (suc k) 0) ≡ length name
 before_nul [] k plain = refl
-before_nul (b ∷ name) k plain =
-    ap (λ c. cond (not c) (1 + position_or_len is_nul (name ++ replicate (suc k) 0)) 0)
-    (plain_no_nul b (first_so (is_plain b) (list_all is_plain name) plain))
-    ∙ omega (arith, before_nul name k (second_so (is_plain b) (list_all is_plain name) plain))
+before_nul (b ∷ name) k plain = grind (arith, nat_tests, plain_no_nul, before_nul name k (second_so (is_plain b) (list_all is_plain name) plain))
 
 all_printing : (name : List ℕ) → list_all is_plain name ≡ true → list_all is_printing name ≡ true
 all_printing [] plain = refl
-all_printing (b ∷ name) plain =
-    both_true (first_so _ _ (first_so (is_plain b) (list_all is_plain name) plain))
-    (all_printing name (second_so (is_plain b) (list_all is_plain name) plain))
+all_printing (b ∷ name) plain = grind (arith, nat_tests, all_printing name (second_so (is_plain b) (list_all is_plain name) plain))
 
 pub field_named : (name : List ℕ) → length name < 32 → list_all is_plain name ≡ true → is_map_name (field_of name) ≡ true
 field_named name short plain =
@@ -98,14 +94,9 @@ field_named name short plain =
     let shape : field_of name ≡ name ++ replicate (suc k) 0 =
     ap (λ (l : List ℕ). l ++ replicate (32 - length name) 0) (take_all 32 name (omega arith))
     ∙ ap (λ n. name ++ replicate n 0) left in
-    let text : text_of (name ++ replicate (suc k) 0) ≡ name =
-    ap (λ n. take n (name ++ replicate (suc k) 0)) (before_nul name k plain)
-    ∙ take_at name (replicate (suc k) 0) (length name) refl in
-    ap is_map_name shape
-    ∙ both_true (some_nul name k) (ap (λ (l : List ℕ). list_all is_printing l) text ∙ all_printing name plain)
+    grind (arith, nat_tests, before_nul, take_at, some_nul, all_printing)
 
 pub field_long : (name : List ℕ) → length name < 32 → length (field_of name) ≡ 32
 field_long name short =
     let whole = ap length (take_all 32 name (omega arith)) in
-    let filled = length-replicate {A = ℕ} (32 - length name) 0 in
-    omega (arith, length-append (take 32 name) (replicate (32 - length name) 0), whole, filled)
+    grind (arith, length-replicate, length-append)

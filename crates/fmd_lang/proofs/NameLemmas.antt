@@ -1,5 +1,5 @@
 -- A set of names.
-use Rattle.std.proofs.Common.{◌≡◌, ℕ, ◌+◌, ◌<◌, map, take, drop, get_or, length, add-one, Some, Bool, true, false, cond, ◌||◌, List, [], ◌∷◌, ◌++◌, refl, sym, ap, ◌∙◌, Bor}
+use Rattle.std.proofs.Common.{◌≡◌, ℕ, ◌+◌, ◌<◌, map, take, drop, get_or, length, add-one, Some, Bool, true, false, cond, ◌||◌, List, [], ◌∷◌, ◌++◌, refl, sym, Bor, arith, rules}
 use Rattle.std.proofs.Math.Bool.{or-true, or-false}
 use Rattle.std.proofs.Math.Seq.{drop-cons, take-suc}
 use Rattle.std.proofs.lemmas.List.{map-append}
@@ -8,7 +8,7 @@ use Rattle.std.proofs.lemmas.Map.Text.{is_eq-slice_cmp}
 use Rattle.std.specs.List.{list_any}
 use Rattle.std.specs.Str.{bytes_eq}
 use Rattle.std.specs.Ordering.{is_eq, nat_cmp}
-use Rattle.std.specs.Cmp.Lexicographic.{slice_cmp, nat_list_eq_equiv}
+use Rattle.std.specs.Cmp.Lexicographic.{slice_cmp}
 use Rattle.fmd_lang.specs.LayoutFaults.{duplicate}
 
 abbrev pub has : List ℕ → List (Bor (List ℕ)) → Bool
@@ -43,9 +43,4 @@ either false b = sym (or-false b)
 pub has-more : (names : List (Bor (List ℕ))) (n : ℕ) (q : List ℕ) (before after : Bool) → n < length names →
     after ≡ cond (is_eq (slice_cmp nat_cmp (get_or names n no_name).now q)) true before →
     before ≡ list_any (bytes_eq q) (texts (take n names)) → after ≡ list_any (bytes_eq q) (texts (take (n + 1) names))
-has-more names n q before after h more so_far =
-    let x = (get_or names n no_name).now in
-    let same = is_eq-slice_cmp x q ∙ nat_list_eq_equiv.symm x q in
-    more ∙ ap (λ a. cond a true before) same ∙ either (bytes_eq q x) before ∙ ap (λ b. b || (bytes_eq q x || false)) so_far
-    ∙ sym (list_any-append (bytes_eq q) (texts (take n names)) (x ∷ []))
-    ∙ ap (list_any (bytes_eq q)) (sym (take-more names n h))
+has-more names n q before after h more so_far = search (arith, rules, is_eq-slice_cmp, either, list_any-append, take-more)

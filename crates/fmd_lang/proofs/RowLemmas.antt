@@ -1,14 +1,14 @@
 -- The computed places are the only solution of the equations, unless a place is refused.
-use Rattle.std.proofs.Common.{◌≡◌, ℕ, ◌+◌, ◌-◌, ◌<◌, ◌≤◌, nat_le, true, false, IsTrue, List, [], ◌∷◌, ◌++◌, length, take, drop, get_or, add-one, Option, Some, None, option_map, Result, Ok, Err, IfOk, Vec, Global, refl, ◌∙◌, ap, arith, rules}
+use Rattle.std.proofs.lemmas.Bool.Decides.{nat_tests}
+use Rattle.std.proofs.Common.{◌≡◌, ℕ, ◌+◌, ◌-◌, ◌<◌, ◌≤◌, nat_le, true, IsTrue, List, [], ◌∷◌, ◌++◌, length, take, drop, get_or, add-one, Option, Some, None, Result, Ok, Err, IfOk, Vec, Global, refl, ◌∙◌, ap, arith}
 use Rattle.std.specs.List.{list_all}
 use Rattle.std.proofs.lemmas.Bool.{le-leb}
 use Rattle.std.proofs.lemmas.List.{take_rest}
 use Rattle.std.proofs.Math.Seq.{drop-cons}
 use Rattle.fmd_lang.specs.Faults.{FailsWith}
-use Rattle.fmd_lang.specs.Layout.{ambiguous_sibling, place_of, places_of, place_end, IsPlaced, first_misfit, misfit_of, row_fault}
+use Rattle.fmd_lang.specs.Layout.{place_of, places_of, place_end, IsPlaced, first_misfit, misfit_of, row_fault}
 use Rattle.fmd_lang.proofs.OptionLemmas.{or-none}
 use Rattle.fmd_lang.specs.declared.fault.FmdFault.{FmdFault}
-use Rattle.fmd_lang.specs.declared.fault.FmdFault.TheVariants as faults
 use Rattle.fmd_lang.specs.declared.row.Sibling.{Sibling}
 use Rattle.fmd_lang.specs.declared.row.Place.{Place}
 
@@ -21,9 +21,7 @@ fits parent from p q h = (grind arith, grind arith)
 pub placed_one : (parent from n : ℕ) (o z : Option ℕ) (ps : List Sibling) →
     misfit_of parent from (make n o z) (place_of parent from (make n o z) ps) ≡ None →
     IsPlaced parent from (make n o z) ps (place_of parent from (make n o z) ps)
-placed_one parent from n o None ps h =
-    let some = (fits parent from (make n o None) (place_of parent from (make n o None) ps) h).0 in
-    record { offset = refl; size = omega (arith, some); fits = h }
+placed_one parent from n o None ps h = grind (arith, nat_tests, fits)
 placed_one parent from n o (Some s) ps h = record { offset = refl; size = refl; fits = h }
 
 abbrev place : ℕ → ℕ → Place
@@ -34,10 +32,8 @@ same_place q r start size = ap (λ n. place n q.size) start ∙ ap (place r.star
 
 pub place-is : (parent from n : ℕ) (o z : Option ℕ) (q : Place) (ps : List Sibling) →
     IsPlaced parent from (make n o z) ps q → q ≡ place_of parent from (make n o z) ps
-place-is parent from n o None q ps placed =
-    same_place q (place_of parent from (make n o None) ps) placed.offset (omega (arith, placed.offset, placed.size))
-place-is parent from n o (Some s) q ps placed =
-    same_place q (place_of parent from (make n o (Some s)) ps) placed.offset placed.size
+place-is parent from n o None q ps placed = grind (arith, nat_tests, same_place)
+place-is parent from n o (Some s) q ps placed = grind (arith, nat_tests, same_place)
 
 pub filled-inside : (ps : List Sibling) (parent from : ℕ) → first_misfit parent from ps (places_of parent from ps) ≡ None →
     list_all (λ q. nat_le (place_end q) parent) (places_of parent from ps) ≡ true
@@ -45,16 +41,12 @@ filled-inside [] parent from h = refl
 filled-inside (p ∷ ps) parent from h =
     let q = place_of parent from p ps in
     let (fine, others) = or-none (misfit_of parent from p q) (first_misfit parent (place_end q) ps (places_of parent (place_end q) ps)) h in
-    let here : nat_le (place_end q) parent ≡ true = le-leb _ _ (fits parent from p q fine).1 in
-    rw here (filled-inside ps parent (place_end q) others)
+    grind (arith, nat_tests, le-leb, fits, filled-inside ps parent (place_end q) others)
 
 pub laid-inside : (parent : ℕ) (row : List Sibling) (r : Result (Vec Place Global) FmdFault) →
     IfOk r (λ v. v.items ≡ places_of parent 0 row) → FailsWith (row_fault parent row) r →
     IfOk r (λ v. IsTrue (list_all (λ q. nat_le (place_end q) parent) v.items))
-laid-inside parent row (Ok v) filled none =
-    let fitting = (or-none (option_map faults.Ambiguous (ambiguous_sibling false row)) _ none).1 in
-    let all = filled-inside row parent 0 fitting in
-    rw filled (search (rules, all))
+laid-inside parent row (Ok v) filled none = grind (arith, nat_tests, or-none, filled-inside)
 laid-inside parent row (Err fault) filled refused = tt
 
 -- the siblings `left` follow the accepted places `made`

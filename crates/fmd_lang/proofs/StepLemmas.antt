@@ -1,14 +1,16 @@
 -- Single tokens, expected and unexpected.
-use Rattle.std.proofs.Common.{◌≡◌, ◌≢◌, ℕ, ◌<◌, ◌≤◌, List, [], ◌∷◌, ◌++◌, length, Some, None, Result, Ok, Err, refl, sym, ◌∙◌, ap, subst, arith, inl, inr, append_assoc}
+use Rattle.std.proofs.lemmas.Bool.Decides.{nat_tests}
+use Rattle.std.proofs.Common.{true, ◌≡◌, ◌≢◌, ℕ, ◌<◌, ◌≤◌, List, [], ◌∷◌, ◌++◌, length, Some, None, Result, Ok, Err, refl, sym, ◌∙◌, ap, subst, arith, inl, inr, append_assoc}
 use Rattle.std.proofs.lemmas.List.{append-nil}
 use Rattle.fmd_lang.specs.Words.{Word, words_after, kind_of}
 use Rattle.fmd_lang.specs.Grammar.{One, Then, IsA, HasValue, annotation_flag}
-use Rattle.fmd_lang.specs.Faults.{Stage, Standing, token_fault, next_standing, fault_after, fault_from, wanted_at}
+use Rattle.fmd_lang.specs.Faults.{Stage, Standing, in_annotations, token_fault, next_standing, fault_from, wanted_at}
+use Rattle.fmd_lang.proofs.FormLemmas.{IsAnnotation, annotation-name}
 use Rattle.fmd_lang.specs.Tokens.{word_of, piece_end}
 use Rattle.fmd_lang.specs.ParserResults.{ParsesFront, Parses, IsNext}
 use Rattle.fmd_lang.specs.declared.parser.Token.{Token}
 use Rattle.fmd_lang.specs.declared.word.Kind.{Kind}
-use Rattle.fmd_lang.specs.declared.word.Kind.TheVariants.{End, Number}
+use Rattle.fmd_lang.specs.declared.word.Kind.TheVariants.{End, Name, Number}
 use Rattle.fmd_lang.specs.declared.fault.FmdFault.{FmdFault}
 use Rattle.fmd_lang.specs.declared.fault.FmdFault.TheVariants as faults
 
@@ -51,18 +53,7 @@ pub token-takes : {text : List ℕ} {from depth to : ℕ} {token : Token} (F : W
     (k : Kind) → IsNext text from depth token → to ≡ piece_end token.word → token.kind ≡ k → k ≢ End →
     next_standing s depth k (annotation_flag token.word.bytes.now) ≡ Some after → F (word_of token.word) →
     Takes F (s, depth) after text from to
-token-takes {text = text} {depth = depth} {token = token} F s after k next end kind some stands form =
-    let w = word_of token.word in
-    let rest = words_after text (piece_end token.word) in
-    let is : IsA k w = next.kind ∙ kind in
-    elim next.first [
-      | inl (none, over) ↦ absurd (some (sym is ∙ ap (λ v. kind_of v.bytes) over))
-      | inr (shown, behind, ahead, inside) ↦ rw end (record {
-        ahead = omega (arith, behind, ahead);
-        inside = inside;
-        reads = rw shown (reads-word F s after depth (length text) w rest k is next.clear stands form);
-      })
-    ]
+token-takes {text = text} {depth = depth} {token = token} F s after k next end kind some stands form = grind (arith, nat_tests, reads-word)
 
 pub token-mark : {text : List ℕ} {from depth to : ℕ} {token : Token} (s : Stage) (after : Standing) (k : Kind) →
     IsNext text from depth token → to ≡ piece_end token.word → token.kind ≡ k → k ≢ End →
@@ -73,31 +64,25 @@ pub token-number : {text : List ℕ} {from depth to : ℕ} {token : Token} {n : 
     IsNext text from depth token → to ≡ piece_end token.word → token.value ≡ Some n →
     next_standing s depth Number (annotation_flag token.word.bytes.now) ≡ Some after →
     Takes (HasValue n) (s, depth) after text from to
-token-number {token = token} {n = n} s after next end number stands =
-    let value : HasValue n (word_of token.word) = rw number at next.value in
-    token-takes (HasValue n) s after Number next end (sym next.kind ∙ value.0) (λ e. cc) stands value
+token-number {token = token} {n = n} s after next end number stands = grind (arith, nat_tests, token-takes)
+
+pub token-annotation : {text : List ℕ} {from depth to : ℕ} {token : Token} {flag : ℕ} (s : Stage) → IsNext text from depth token →
+    to ≡ piece_end token.word → annotation_flag token.word.bytes.now ≡ Some flag →
+    next_standing s depth Name (Some flag) ≡ Some (in_annotations true, depth) →
+    Takes (IsAnnotation flag) (s, depth) (in_annotations true, depth) text from to
+token-annotation {depth = depth} {token = token} {flag = flag} s next end known stands =
+    let name = sym next.kind ∙ annotation-name token.word.bytes.now flag known in
+    token-takes (IsAnnotation flag) s (in_annotations true, depth) Name next end name (λ e. cc) (rw known stands) known
 
 -- an unexpected token
 pub token-refuses : {text : List ℕ} {from depth : ℕ} {token : Token} (s : Stage) → IsNext text from depth token →
     next_standing s depth token.kind (annotation_flag token.word.bytes.now) ≡ None →
     fault_from (s, depth) (length text) (words_after text from) ≡ Some (faults.Expected token.word.place (wanted_at s depth token.kind))
-token-refuses {text = text} {depth = depth} {token = token} s next wrong = elim next.first [
-  | inl (none, over) ↦ ap (fault_from (s, depth) (length text)) none
-      ∙ ap (λ w. fault_after (s, depth) w (λ t. None)) (sym over) ∙ rw (next.clear, next.kind, wrong) refl
-  | inr (shown, after, ahead, inside) ↦ ap (fault_from (s, depth) (length text)) shown
-      ∙ rw (next.clear, next.kind, wrong) refl
-]
+token-refuses {text = text} {depth = depth} {token = token} s next wrong = grind (arith, nat_tests)
 
 pub token-over : {text : List ℕ} {from depth : ℕ} {token : Token} → IsNext text from depth token → token.kind ≡ End →
     words_after text from ≡ []
-token-over {token = token} next end = elim next.first [
-  | inl (none, over) ↦ none
-  | inr (shown, after, ahead, inside) ↦ absurd (omega (arith, ahead, kind-some token.word.bytes.now (next.kind ∙ end)))
-]
-  where
-    kind-some : (bytes : List ℕ) → kind_of bytes ≡ End → length bytes ≡ 0
-    kind-some [] h = refl
-    kind-some (b ∷ bs) h = absurd (grind arith)
+token-over {token = token} next end = grind (arith, nat_tests)
 
 -- a token before a parsed part
 pub parses-after : {X : Type 0} {F : Word → Type 0} {before middle : Standing} {text : List ℕ} {from mid : ℕ}

@@ -1,5 +1,6 @@
 -- The bytes of a table parse as a valid map.
-use Rattle.std.proofs.Common.{suc, ◌≡◌, inl, inr, ℕ, ◌+◌, ◌^◌, ◌<◌, ◌≤◌, nat_lt, true, All, List, [], ◌∷◌, ◌++◌, length, refl, sym, ◌∙◌, ap, subst, arith}
+use Rattle.std.proofs.lemmas.Bool.Decides.{nat_tests}
+use Rattle.std.proofs.Common.{suc, ◌≡◌, inl, inr, ℕ, ◌+◌, ◌^◌, ◌<◌, ◌≤◌, nat_lt, true, All, List, [], ◌∷◌, ◌++◌, length, refl, sym, ◌∙◌, ap, subst, arith, rules}
 use Rattle.std.specs.Prelude.{Option, Some, None, unwrap_or}
 use Rattle.std.specs.Int.Bits.{bit_or}
 use Rattle.std.proofs.lemmas.Nat.{or_lt}
@@ -37,18 +38,11 @@ joined_flags (w ∷ ws) before flags few h =
 
 small_flags : (flags : ℕ) (ws : List Word) → AreAnnotations flags ws → flags < 2 ^ 16
 small_flags flags ws (inl nothing) = omega (arith, nothing.1)
-small_flags flags ws (inr (front, back, shape, opens, (listed, last, inner, (some_there, flagged), closes))) =
-    joined_flags listed 0 flags (omega arith) flagged
+small_flags flags ws (inr (front, back, shape, opens, (listed, last, inner, (some_there, flagged), closes))) = grind (arith, nat_tests, joined_flags)
 
 area_fits : (t : Tree) (ws : List Word) (at : ℕ) (q : Place) → IsSection t ws → at + place_end q < 2 ^ 32 →
     IsAreaInBytes (section_area at q t)
-area_fits (section name flags offset given parts) ws at q (a, b, split, (w, one, is), (marks, c, more, annotated, others)) small =
-    record {
-      offset = omega (arith, small);
-      size = omega (arith, small);
-      name = field_long name is.2;
-      flags = small_flags flags marks annotated;
-    }
+area_fits (section name flags offset given parts) ws at q (a, b, split, (w, one, is), (marks, c, more, annotated, others)) small = search (arith, rules, field_long, small_flags)
 
 parts-are : (name : List ℕ) (flags : ℕ) (offset given : Option ℕ) (parts : Forest) (ws : List Word) →
     IsSection (section name flags offset given parts) ws → (inner : List Word) × AreSections parts inner

@@ -1,4 +1,5 @@
 -- The tokens of a tree are all expected, and form no other tree.
+use Rattle.std.proofs.lemmas.Bool.Decides.{nat_tests}
 use Rattle.std.proofs.Common.{◌≡◌, ◌≢◌, ℕ, suc, ◌<◌, nat_lt, Bool, true, false, List, [], ◌∷◌, ◌++◌, length, Option, Some, None, unwrap_or, if◌then◌else◌, refl, sym, subst, ◌∙◌, ap, arith, inl, inr, append_assoc}
 use Rattle.std.proofs.lemmas.Bool.{cond_both, lt-ltb}
 use Rattle.std.proofs.lemmas.List.{append-nil}
@@ -89,10 +90,7 @@ own-placed k depth w at what h = cc
 makes : {s : Stage} {after : Standing} {depth end : ℕ} {w : Word} {ws : List Word} {b c : Built} (k : Kind) → IsA k w →
     next_standing s depth k (annotation_flag w.bytes) ≡ Some after → Makes after end ws b → put_word k w b ≡ c →
     Makes (s, depth) end (w ∷ ws) c
-makes {after = after} {depth = depth} {end = end} {w = w} {ws = ws} k is stands more same = record {
-  placed = λ at what. rw (is, stands) (or-other (token_fault k depth w) (fault_from after end ws) (own-placed k depth w at what) (more.placed at what));
-  made = rw is (ap (put_word k w) more.made) ∙ same;
-}
+makes {after = after} {depth = depth} {end = end} {w = w} {ws = ws} k is stands more same = grind (arith, nat_tests, or-other, own-placed)
 
 size-adds : (o : Option ℕ) (parts : Forest) (ls : List Forest) (depth end : ℕ) →
     Adds (IsSize o) 3 4 depth end (has 0 None None parts ls) (has 0 None o parts ls)
@@ -124,8 +122,7 @@ more-make before flags depth end (w ∷ ws) c r o z parts ls h close more =
 annotations-add : (flags : ℕ) (o z : Option ℕ) (parts : Forest) (ls : List Forest) (depth end : ℕ) →
     Adds (AreAnnotations flags) 1 2 depth end (has 0 o z parts ls) (has flags o z parts ls)
 annotations-add flags o z parts ls depth end ws r (inl (empty, unset)) more n few = rw (empty, unset) (more n (omega arith))
-annotations-add flags o z parts ls depth end ws r (inr (a, b, split, first, ([], c, inner, flagged, closes))) more n few =
-    absurd (omega (arith, flagged.0))
+annotations-add flags o z parts ls depth end ws r (inr (a, b, split, first, ([], c, inner, flagged, closes))) more n few = grind (arith, nat_tests)
 annotations-add flags o z parts ls depth end ws r (inr (a, b, split, marked, (w ∷ v, d, inner, flagged, closes))) more n few =
     let (m, first, opens) = marked in
     let (c, second, close) = closes in
@@ -133,8 +130,7 @@ annotations-add flags o z parts ls depth end ws r (inr (a, b, split, marked, (w 
     let all : Makes (in_annotations false, depth) end (w ∷ (v ++ c ∷ r)) (listed (w ∷ v) o z parts ls) =
     makes Name (annotation-name w.bytes flag known) (rw known refl)
     (more-make (bit_or 0 flag) flags depth end v c r o z parts ls rest close more) refl in
-    rw (split, first, inner, second, append_assoc v (c ∷ []) r)
-    (makes OpenParen opens (rw (lt-ltb n 1 few) refl) all (ap (λ o'. has (unwrap_or o' 0) o z parts ls) flagged.1))
+    grind (arith, append_assoc, makes, lt-ltb)
 
 abbrev join : Forest → Forest → Forest
 join none l = l

@@ -1,4 +1,5 @@
 -- The tokens of a text, by byte.
+use Rattle.std.proofs.lemmas.Bool.Decides.{nat_tests}
 use Rattle.std.proofs.Common.{◌≡◌, ℕ, suc, ◌+◌, ◌-◌, ◌<◌, ◌≤◌, nat_eq, Bool, true, false, cond, List, [], ◌∷◌, length, drop, refl, sym, ◌∙◌, ap, arith, slice_index, slice_range, add-one}
 use Rattle.std.proofs.Math.Seq.{drop-cons}
 use Rattle.std.proofs.lemmas.List.{drop_all, drop-drop, length-drop, take_all}
@@ -24,9 +25,7 @@ plain-alone b h = (grind arith, grind arith)
 pub words_after-blank : (text : List ℕ) (at : ℕ) → at < length text → is_blank (slice_index text at) ≡ true →
     words_after text at ≡ words_after text (at + 1)
 unfolding words_after
-words_after-blank text at h blank =
-    let (no_comment, no_plain) = blank-alone (slice_index text at) blank in
-    rw (here text at h, no_comment, blank, no_plain, add-one) refl
+words_after-blank text at h blank = grind (arith, nat_tests, blank-alone, here, add-one)
 
 -- A comment ends at the line feed.
 comment-rest : (s : List ℕ) (at : ℕ) →
@@ -53,13 +52,7 @@ comment-rest (b ∷ s) at = go (nat_eq b 10) refl (comment-rest s (suc at))
 pub words_after-comment : (text : List ℕ) (at : ℕ) → at < length text → nat_eq (slice_index text at) 35 ≡ true →
     words_after text at ≡ words_after text (at + (1 + position_or_len (λ b. nat_eq b 10) (drop (at + 1) text)))
 unfolding words_after
-words_after-comment text at h comment =
-    let n = position_or_len (λ b. nat_eq b 10) (drop (at + 1) text) in
-    let place : n + (at + 1) ≡ at + (1 + n) = omega arith in
-    let behind : at + 1 + n ≡ at + (1 + n) = omega arith in
-    let before : words_from at false (without_comments false (drop at text))
-    ≡ words_from (at + 1) false (without_comments true (drop (at + 1) text)) = rw (here text at h, comment, add-one) refl in
-    before ∙ comment-rest (drop (at + 1) text) (at + 1) ∙ rw (drop-drop n (at + 1) text, place, behind) refl
+words_after-comment text at h comment = grind (arith, nat_tests, here, add-one, comment-rest, drop-drop)
 
 pub words_after-over : (text : List ℕ) (at : ℕ) → length text ≤ at → words_after text at ≡ []
 unfolding words_after
@@ -104,8 +97,7 @@ begins : (b : ℕ) (s : List ℕ) (at : ℕ) → is_plain b ≡ true → words_f
 begins b s at plain =
     let (no_comment, no_blank) = plain-alone b plain in
     let longer = take_while-cons is_plain b (without_comments false s) in
-    rw (no_comment, no_blank, longer, plain, add-one)
-    (ap (λ l. word at (b ∷ l) ∷ words_from (suc at) true (without_comments false s)) (row s (suc at)).0)
+    grind (arith, nat_tests, add-one, row)
 
 pub words_after-plain : (text : List ℕ) (at : ℕ) → at < length text → is_plain (slice_index text at) ≡ true →
     let end = at + 1 + prefix_len is_plain (drop (at + 1) text) in
@@ -116,20 +108,13 @@ words_after-plain text at h plain =
     let n = prefix_len is_plain rest in
     let len : at + 1 + n - at ≡ suc n = omega arith in
     let place : n + (at + 1) ≡ at + 1 + n = omega arith in
-    ap (λ l. words_from at false (without_comments false l)) (here text at h) ∙ begins (slice_index text at) rest at plain
-    ∙ rw (len, here text at h, (row rest (at + 1)).1, place, drop-drop n (at + 1) text) refl
+    grind (arith, here, begins, row, drop-drop)
 
 pub words_after-single : (text : List ℕ) (at : ℕ) → at < length text → is_plain (slice_index text at) ≡ false →
     begins_word (slice_index text at) ≡ true →
     words_after text at ≡ word at (slice_range text at (at + 1)) ∷ words_after text (at + 1)
 unfolding words_after
-words_after-single text at h plain begins =
-    let blank : is_blank (slice_index text at) ≡ false = grind arith in
-    let comment : nat_eq (slice_index text at) 35 ≡ false = grind arith in
-    let one : at + 1 - at ≡ 1 = omega arith in
-    rw (one, here text at h, comment, add-one, blank, plain) refl
+words_after-single text at h plain begins = grind (arith, nat_tests, here, add-one)
 
 pub over-word : (text : List ℕ) (at : ℕ) → at ≡ length text → word at (slice_range text at (length text)) ≡ word (length text) []
-over-word text at e =
-    let none : slice_range text (length text) (length text) ≡ [] = grind (arith, common_steps) in
-    rw (e, none) refl
+over-word text at e = grind (arith, common_steps)

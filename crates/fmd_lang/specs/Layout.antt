@@ -26,8 +26,7 @@ sizes_ahead (p ∷ ps) = if is_some p.offset then 0 else unwrap_or p.size 0 + si
 
 -- the fault of a place, if the previous sibling ends at `from`
 abbrev pub misfit_of : ℕ → ℕ → Sibling → Place → Option FmdFault
-misfit_of parent from p q =
-    if nat_eq q.size 0 then Some (faults.EmptySection p.number)
+misfit_of parent from p q = if nat_eq q.size 0 then Some (faults.EmptySection p.number)
     else (if nat_lt q.start from then Some (faults.Overlap p.number)
     else (if nat_lt parent (place_end q) then Some (faults.Outside p.number) else None))
 
@@ -41,15 +40,13 @@ pub record IsPlaced (parent from : ℕ) (p : Sibling) (ps : List Sibling) (q : P
 -- the first sibling with the second omitted size of a run; the flag records an omitted size
 abbrev pub ambiguous_sibling : Bool → List Sibling → Option ℕ
 ambiguous_sibling omitted [] = None
-ambiguous_sibling omitted (p ∷ ps) =
-    let before = omitted && not (is_some p.offset) in
+ambiguous_sibling omitted (p ∷ ps) = let before = omitted && not (is_some p.offset) in
     if before && not (is_some p.size) then Some p.number
     else ambiguous_sibling (before || not (is_some p.size)) ps
 
 -- The computed place: an omitted size is the rest up to the bound, or 0.
 abbrev pub place_of : ℕ → ℕ → Sibling → List Sibling → Place
-place_of parent from p ps =
-    let start = unwrap_or p.offset from in
+place_of parent from p ps = let start = unwrap_or p.offset from in
     record { start = start; size = unwrap_or p.size (bound parent ps - (start + sizes_ahead ps)) }
 
 abbrev pub places_of : ℕ → ℕ → List Sibling → List Place
@@ -69,8 +66,7 @@ row_fault parent ps = option_or (option_map faults.Ambiguous (ambiguous_sibling 
 
 -- sections as siblings, with preorder numbers from `n`
 abbrev pub sibling : ℕ → Tree → Sibling
-sibling n (section name flags offset size parts) =
-    record { number = n; offset = offset; size = size }
+sibling n (section name flags offset z parts) = record { number = n; offset = offset; size = z }
 
 abbrev pub siblings : ℕ → Forest → List Sibling
 siblings n none = []

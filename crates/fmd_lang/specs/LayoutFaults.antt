@@ -17,8 +17,7 @@ use Rattle.fmd_lang.specs.declared.fault.FmdFault.TheVariants as faults
 -- the first fault below parent number `n`, in preorder
 abbrev mutual
   pub parent_fault : ℕ → ℕ → Tree → Option FmdFault
-  parent_fault n size (section name flags offset given parts) =
-      let row = siblings (suc n) parts in
+  parent_fault n size (section name flags offset given parts) = let row = siblings (suc n) parts in
       option_or (row_fault size row) (parts_fault (suc n) parts (places_of size 0 row))
 
   pub parts_fault : ℕ → Forest → List Place → Option FmdFault
@@ -56,7 +55,6 @@ table_fault areas = then_some
 
 -- names, root size, parents and table, in order
 unfoldable pub layout_fault : Tree → Option FmdFault
-layout_fault t =
-    let size = unwrap_or (size_of t) 0 in
+layout_fault t = let size = unwrap_or (size_of t) 0 in
     option_or (names_fault (names t)) (option_or (size_fault (size_of t))
     (option_or (parent_fault 0 size t) (table_fault (areas_below 0 0 size t))))

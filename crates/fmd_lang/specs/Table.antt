@@ -63,8 +63,7 @@ IsTable (section name flags offset size parts) table =
 -- ---- the bytes of a table
 
 abbrev pub table_head : Table → FmapHead
-table_head t =
-    let n = length t.areas.items in
+table_head t = let n = length t.areas.items in
     record { major = 1; minor = 1; base = t.base; size = t.size; name = t.name; nareas = n }
 
 abbrev pub table_bytes : Table → List ℕ

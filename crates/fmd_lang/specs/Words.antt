@@ -1,7 +1,8 @@
 -- The tokens of a text. The language is coreboot's (Documentation/lib/flashmap.md), the exact bytes
 -- are this project's own.
 use Rattle.std.specs.Prelude.{ℕ, suc, nat_le, nat_eq, Bool, true, false, ◌&&◌, not, if◌then◌else◌}
-use Rattle.std.specs.Prelude.{drop, List, [], ◌∷◌, codes}
+use Rattle.std.specs.Prelude.{drop, List, [], ◌∷◌, codes, unwrap_or}
+use Rattle.std.specs.Map.{lookup}
 use Rattle.std.specs.List.{list_any, take_while}
 use Rattle.fmd_lang.specs.declared.word.Kind.{Kind}
 use Rattle.fmd_lang.specs.declared.word.Kind.TheVariants.{Name, Number, OpenParen, CloseParen, At}
@@ -36,26 +37,21 @@ word place bytes = record { place = place; bytes = bytes }
 -- flag is set inside a sequence.
 abbrev pub words_from : ℕ → Bool → List ℕ → List Word
 words_from place inside [] = []
-words_from place inside (b ∷ bs) =
-    let others = words_from (suc place) (is_plain b) bs in
-    if is_blank b then others
-    else (if not (is_plain b) then word place (b ∷ []) ∷ others
+words_from place inside (b ∷ bs) = let others = words_from (suc place) (is_plain b) bs in
+    if is_blank b then others else (if not (is_plain b) then word place (b ∷ []) ∷ others
     else (if inside then others else word place (take_while is_plain (b ∷ bs)) ∷ others))
 
 unfoldable pub words : List ℕ → List Word
 words text = words_from 0 false (without_comments false text)
 
+abbrev pub marks : List (ℕ × Kind)
+marks = (40, OpenParen) ∷ (41, CloseParen) ∷ (64, At) ∷ (123, OpenBrace) ∷ (125, CloseBrace) ∷ []
+
 -- the kind of a token, by the first byte; the end is empty
 abbrev pub kind_of : List ℕ → Kind
 kind_of [] = End
-kind_of (b ∷ bs) =
-    if nat_eq b 40 then OpenParen
-    else (if nat_eq b 41 then CloseParen
-    else (if nat_eq b 64 then At
-    else (if nat_eq b 123 then OpenBrace
-    else (if nat_eq b 125 then CloseBrace
-    else (if nat_le 48 b && nat_le b 57 then Number
-    else (if is_plain b then Name else Bad))))))
+kind_of (b ∷ bs) = unwrap_or (lookup (nat_eq b) marks)
+    (if nat_le 48 b && nat_le b 57 then Number else (if is_plain b then Name else Bad))
 
 -- the tokens from an offset on, outside any token or comment
 unfoldable pub words_after : List ℕ → ℕ → List Word

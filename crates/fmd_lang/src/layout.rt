@@ -97,10 +97,8 @@ fn places(
     requires { number + section_count (view section.now) ≤ area_limit + 1 }
     ensures ok { IfOk result (λ row. row.items ≡ spec.places_of size 0
         (spec.siblings (suc number) (views (out-Section section.now).parts.items))) }
-    ensures len { IfOk result (λ row.
-        length row.items ≡ length (out-Section section.now).parts.items) }
-    ensures inside { IfOk result (λ row.
-        IsTrue (list_all (λ q. nat_le (place_end q) size) row.items)) }
+    ensures len { IfOk result (λ r. length r.items ≡ length (out-Section section.now).parts.items) }
+    ensures inside { IfOk result (λ r. IsTrue (list_all (λ q. nat_le (place_end q) size) r.items)) }
     ensures refused { FailsWith (row_fault size
         (spec.siblings (suc number) (views (out-Section section.now).parts.items))) result }
 {

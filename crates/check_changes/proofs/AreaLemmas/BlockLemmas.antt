@@ -1,5 +1,5 @@
 -- Different blocks of a region.
-use Rattle.std.proofs.Common.{◌≡◌, ◌∙◌, ℕ, zero, suc, ◌+◌, ◌-◌, ◌*◌, ◌<◌, ◌≤◌, Bool, true, List, length, take, drop, min, max, refl, sym, ap, arith, length-take, length-drop, slice_range}
+use Rattle.std.proofs.Common.{◌≡◌, ◌∙◌, ℕ, zero, suc, ◌+◌, ◌-◌, ◌*◌, ◌<◌, ◌≤◌, Bool, true, List, length, take, drop, min, max, refl, sym, ap, arith, length-take, length-drop, slice_range, rules}
 use Rattle.std.specs.Prelude.{not}
 use Rattle.std.specs.Int.{from_bool}
 use Rattle.std.specs.Str.{bytes_eq}
@@ -75,9 +75,7 @@ different_blocks-all x y r lens shorter longer common count whole old_len new_le
 
 -- another block is counted
 pub count_below-more : (test : ℕ → Bool) (number one : ℕ) (passes : Bool) → passes ≡ test number → one ≡ from_bool passes → count_below test number + one ≡ count_below test (number + 1)
-count_below-more test number one passes is counted =
-    let next : number + 1 ≡ suc number = omega arith in
-    rw (next, counted, is) refl
+count_below-more test number one passes is counted = grind arith
 
 pub at_most_one : (b : Bool) (n : ℕ) → n ≡ from_bool b → n ≤ 1
 at_most_one b n is = grind (arith, nat_tests)

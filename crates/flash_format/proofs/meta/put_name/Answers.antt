@@ -1,7 +1,6 @@
-use Rattle.std.proofs.Common.{◌≡◌, ℕ, ◌+◌, ◌-◌, length, replicate, subst, arith}
+use Rattle.std.proofs.Common.{◌≡◌, ℕ, ◌+◌, ◌-◌, length, replicate, arith}
 use Rattle.std.proofs.lemmas.List.{length-replicate}
 use Rattle.flash_format.specs.Made.{name_room}
-use Rattle.flash_format.specs.Splices.{splice}
 use Rattle.flash_format.proofs.PutLemmas.{then}
 use Rattle.flash_format.proofs.meta.put_name.Goals as goal
 
@@ -10,6 +9,5 @@ returns-clause-puts c =
     let name = c.args.name.now in
     let nuls = name_room (length name) - length name in
     let end : c.fill.result ≡ c.put-at.result + length (replicate {A = ℕ} nuls 0) = omega (arith, length-replicate {A = ℕ} nuls 0) in
-    let second : c.fill.new.out ≡ splice c.put-at.new.out c.put-at.result c.fill.result (replicate nuls 0) =
-    subst (λ (r : ℕ). c.fill.new.out ≡ splice c.put-at.new.out c.put-at.result c.fill.result (replicate (r - length name) 0)) c.name_room.ensures c.fill.ensures.puts in
-    then c.args.out.now c.put-at.new.out c.fill.new.out name (replicate nuls 0) c.args.at c.put-at.result c.fill.result c.put-at.ensures.end end (omega arith) c.put-at.ensures.puts second
+    then c.args.out.now c.put-at.new.out c.fill.new.out name (replicate nuls 0) c.args.at c.put-at.result c.fill.result
+    c.put-at.ensures.end end (omega arith) c.put-at.ensures.puts (rw c.name_room.ensures at c.fill.ensures.puts)

@@ -1,8 +1,6 @@
-use Rattle.std.proofs.Common.{◌+◌, ◌∙◌, [], ◌∷◌, drop, length, ap, arith, length-append}
-use Rattle.flash_format.specs.Flashmap.{areas_from}
+use Rattle.std.proofs.Common.{◌+◌, [], ◌∷◌, length, ap, arith, length-append}
 use Rattle.flash_device.proofs.DeviceLemmas.{honest_still}
 use Rattle.flash_device.proofs.WindowLemmas.{HasRead-then}
-use Rattle.flash_map.specs.Areas.{numbered_from}
 use Rattle.flash_map.proofs.MapAreas.{areas-more}
 use Rattle.flash_map.proofs.areas.map_areas.Goals as goal
 
@@ -20,7 +18,4 @@ loop-number-preserved g c =
     }
 
 pub returns-clause-areas : goal.returns-clause-areas
-returns-clause-areas g c = λ h.
-    let map = c.args.map.now in
-    let image = c.args.paged.now.device.content in
-    c.loop-number.invariant.areas h ∙ ap (λ n. numbered_from 0 (areas_from n (drop (map.at + 56) image))) {x = c.loop-number.number} {y = map.head.nareas} (omega arith)
+returns-clause-areas g c = grind arith

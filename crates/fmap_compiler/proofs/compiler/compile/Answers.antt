@@ -1,4 +1,4 @@
-use Rattle.std.proofs.Common.{◌≡◌, length}
+use Rattle.std.proofs.Common.{◌≡◌, length, arith, rules}
 use Rattle.std.proofs.lemmas.Result.{IfOk-weaker}
 use Rattle.fmd_lang.specs.Table.{table_bytes}
 use Rattle.fmd_lang.specs.Tree.{view}
@@ -15,6 +15,4 @@ returns-clause-compiled c =
     (λ b bytes. (is.refused, (view c.in_ok-tree.tree, is.tree, laid.refused, (table, laid.table, bytes)))) c.encode.ensures.bytes
 
 pub returns-clause-refused : goal.returns-clause-refused
-returns-clause-refused c =
-    Refuses-encoded c.args.text.now (length c.in_ok-table.table.areas.items) c.encode.result c.in_ok-table.ensures.few
-    c.encode.ensures.refused
+returns-clause-refused c = grind arith

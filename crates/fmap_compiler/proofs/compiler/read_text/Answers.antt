@@ -1,4 +1,4 @@
-use Rattle.std.proofs.Common.{◌<◌, ◌++◌, ap, length, take, arith, length-append, length-take}
+use Rattle.std.proofs.Common.{◌<◌, ◌++◌, ap, length, take, arith, length-append, length-take, rules}
 use Rattle.std.proofs.KnownBytes.{Consumes-trans}
 use Rattle.fmap_compiler.proofs.Prefixes.{IsPrefixOf-end, IsPrefixOf-full}
 use Rattle.fmap_compiler.proofs.compiler.read_text.Goals as goal
@@ -26,10 +26,7 @@ returns-in_err-extend_from_slice-clause-read g c =
     )
 
 pub returns-in_err-extend_from_slice-clause-stops : goal.returns-in_err-extend_from_slice-clause-stops
-returns-in_err-extend_from_slice-clause-stops g c =
-    let read = c.in_ok-count.ensures in
-    let room = length-take c.min-room.result c.loop-buffer.buffer in
-    omega (arith, read.given, read.bound.1, c.loop-buffer.invariant.given, c.read_some.auto.room, room)
+returns-in_err-extend_from_slice-clause-stops g c = search rules
 
 pub returns-clause-text : goal.returns-clause-text
 returns-clause-text g c =

@@ -1,4 +1,5 @@
-use Rattle.std.proofs.Common.{ap, length, arith, rules, inl, inr}
+use Rattle.std.proofs.lemmas.Grind.{common_steps}
+use Rattle.std.proofs.Common.{ap, length, arith, rules}
 use Rattle.std.proofs.lemmas.Result.{err_from_is_err_and}
 use Rattle.fmd_lang.specs.declared.section.Section.{out-Section}
 use Rattle.fmd_lang.proofs.LayoutLemmas.{all-pushed, area-is, part-at, part-pushed, part-refused, place-inside}
@@ -12,11 +13,7 @@ returns-in_err-push_areas-clause-refused t c =
     let here = part-at c.in_ok-places.places.items (out-Section c.args.section.now).parts.items _ c.loop-index.index q s
     c.loop-index.invariant c.deref-part-items.ensures.value c.loop-index-test.true c.part-item.is c.in_ok-places.ensures.len
     c.index-place.ensures in
-    rw (p.1, p.2) (elim c.in_err-push_areas.ensures.refused [
-      | inl memory ↦ inl memory
-      | inr first ↦ inr (part-refused c.push.new.self.items c.in_err-push_areas.field-0.0 here
-          (rw (area-is c.args.at q s) (search rules)) first)
-    ])
+    grind (arith, part-refused, area-is)
 
 pub loop-index-preserved : goal.loop-index-preserved
 loop-index-preserved t c =
@@ -32,8 +29,7 @@ pub index-place-requires : goal.index-place-requires
 index-place-requires t c = omega (arith, c.in_ok-places.ensures.len, ap length c.deref-part-items.ensures.value)
 
 pub overflow_add-start : goal.overflow_add-start
-overflow_add-start t c =
-    omega (arith, place-inside c.args.size c.in_ok-places.places.items c.loop-index.index c.index-place.result.now c.in_ok-places.ensures.inside (omega (arith, c.in_ok-places.ensures.len, ap length c.deref-part-items.ensures.value)) c.index-place.ensures)
+overflow_add-start t c = grind (arith, common_steps, place-inside)
 
 pub returns : goal.returns
 returns t c =

@@ -1,15 +1,14 @@
-use Rattle.std.proofs.Common.{◌∙◌, sym, arith}
+use Rattle.std.proofs.lemmas.Bool.Decides.{nat_tests}
+use Rattle.std.proofs.Common.{arith}
 use Rattle.std.proofs.lemmas.List.{append-nil, drop_all}
 use Rattle.fmd_lang.proofs.LayoutLemmas.{count-from, sibling-pushed}
 use Rattle.fmd_lang.proofs.layout.siblings.Goals as goal
 
 pub count-number-requires : goal.count-number-requires
-count-number-requires c =
-    omega (arith, c.loop-part.invariant.1, count-from c.args.parts.now c.loop-part.part-index c.part-item.result c.loop-part-test.true c.part-item.is)
+count-number-requires c = grind (arith, nat_tests, count-from)
 
 pub overflow_add-number : goal.overflow_add-number
-overflow_add-number c =
-    omega (arith, c.loop-part.invariant.1, c.count-number.ensures, count-from c.args.parts.now c.loop-part.part-index c.part-item.result c.loop-part-test.true c.part-item.is)
+overflow_add-number c = grind (arith, nat_tests, count-from)
 
 pub loop-part-preserved : goal.loop-part-preserved
 loop-part-preserved c =
@@ -17,6 +16,4 @@ loop-part-preserved c =
     (sibling-pushed c.loop-part.row.items c.loop-part.number _ c.args.parts.now c.part-item.result c.loop-part.invariant c.loop-part-test.true c.part-item.is)
 
 pub returns-clause-ok : goal.returns-clause-ok
-returns-clause-ok c =
-    let none_left = drop_all c.loop-part.part-index c.args.parts.now c.loop-part-test.false in
-    sym (append-nil c.loop-part.row.items) ∙ rw none_left at c.loop-part.invariant.0
+returns-clause-ok c = grind (arith, nat_tests, drop_all, append-nil)

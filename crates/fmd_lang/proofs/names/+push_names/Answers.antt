@@ -1,18 +1,14 @@
-use Rattle.std.proofs.Common.{◌∙◌, ℕ, List, Bor, sym, append_assoc}
+use Rattle.std.proofs.lemmas.Bool.Decides.{nat_tests}
+use Rattle.std.proofs.Common.{append_assoc, arith}
 use Rattle.std.proofs.lemmas.List.{append-nil, drop_all, map-append}
 use Rattle.fmd_lang.proofs.LayoutLemmas.{names-from, view-is}
 use Rattle.fmd_lang.proofs.names.+push_names.Goals as goal
 
 pub loop-part-init : goal.loop-part-init
-loop-part-init t c =
-    rw (c.in_ok-push.ensures.items, map-append (λ (r : Bor (List ℕ)). r.now), c.as_slice.ensures.value, c.deref-part-items.ensures.value, view-is c.args.section.now)
-    (simp append_assoc)
+loop-part-init t c = grind (arith, nat_tests, map-append, view-is, append_assoc)
 
 pub loop-part-preserved : goal.loop-part-preserved
-loop-part-preserved t c =
-    let next = names-from c.deref-part-items.result.now c.loop-part.part-index c.part-item.result c.loop-part-test.true c.part-item.is in
-    rw (c.in_ok-push_names.ensures.ok, append_assoc, ← next) c.loop-part.invariant
+loop-part-preserved t c = grind (arith, names-from, append_assoc)
 
 pub returns-clause-ok : goal.returns-clause-ok
-returns-clause-ok t c =
-    sym (append-nil _) ∙ rw (drop_all c.loop-part.part-index c.deref-part-items.result.now c.loop-part-test.false) at c.loop-part.invariant
+returns-clause-ok t c = grind (arith, nat_tests, append-nil, drop_all)

@@ -1,16 +1,13 @@
-use Rattle.std.proofs.Common.{◌∙◌, sym, refl, rules, true, false, get_or}
+use Rattle.std.proofs.lemmas.Bool.Decides.{nat_tests}
+use Rattle.std.proofs.lemmas.Grind.{common_steps}
+use Rattle.std.proofs.Common.{◌∙◌, sym, refl, rules, false, get_or, arith}
 use Rattle.std.proofs.lemmas.Bool.{not-false, not-true}
 use Rattle.std.proofs.lemmas.List.{drop_all}
 use Rattle.fmd_lang.proofs.NameLemmas.{has, no_name, duplicate-at, has-more}
 use Rattle.fmd_lang.proofs.names.first_duplicate.Goals as goal
 
 pub returns-then-not-branch-clause-ok : goal.returns-then-not-branch-clause-ok
-returns-then-not-branch-clause-ok c =
-    let names = c.args.names.now in
-    let n = c.loop-number.number in
-    let x = (get_or names n no_name).now in
-    let there = not-false (has x c.loop-number.seen.keys) (sym c.in_ok-insert.ensures.added ∙ c.if-not-branch.true) in
-    sym (c.loop-number.invariant.1 ∙ duplicate-at names n true c.loop-number-test.true (sym (c.loop-number.invariant.0 x) ∙ there))
+returns-then-not-branch-clause-ok c = grind (arith, common_steps, no_name, not-false, duplicate-at)
 
 pub loop-number-preserved : goal.loop-number-preserved
 loop-number-preserved c =
@@ -27,5 +24,4 @@ pub loop-number-init : goal.loop-number-init
 loop-number-init c = (λ q. search rules, refl)
 
 pub returns-clause-ok : goal.returns-clause-ok
-returns-clause-ok c =
-    sym (c.loop-number.invariant.1 ∙ rw (drop_all c.loop-number.number c.args.names.now c.loop-number-test.false) refl)
+returns-clause-ok c = grind (arith, nat_tests, drop_all)

@@ -1,4 +1,4 @@
-use Rattle.std.proofs.Common.{◌≡◌, ℕ, ◌∙◌, ◌*◌, ◌^◌, sym, ap, Option, Result, option_map, unwrap_or, Some, None, min}
+use Rattle.std.proofs.Common.{◌≡◌, ℕ, ◌∙◌, ◌*◌, ◌^◌, sym, ap, Option, Result, option_map, unwrap_or, Some, None, min, arith, rules}
 use Rattle.fmd_lang.specs.Numbers as spec
 use Rattle.fmd_lang.specs.Numbers.{number_at, literal_value}
 use Rattle.fmd_lang.specs.declared.fault.FmdFault.{FmdFault}
@@ -20,5 +20,4 @@ returns-in-Some c =
     let value : Some c.in-Some.value ≡ option_map (min (2 ^ 32)) (spec.plain_value (spec.front_of bytes)) =
     sym c.in-Some.is ∙ c.plain_value.ensures
     ∙ ap (λ front. option_map (min (2 ^ 32)) (spec.plain_value front)) c.split_unit-unit.ensures.front in
-    number_at-scaled c.args.at (spec.plain_value (spec.front_of bytes)) c.in-Some.value unit c.scaled.result value
-    (λ n e. c.scaled.ensures n e ∙ ap (λ u. number_at c.args.at (Some (n * u))) c.split_unit-unit.ensures.unit)
+    search (rules, arith, number_at-scaled)

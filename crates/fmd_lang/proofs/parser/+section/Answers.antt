@@ -1,3 +1,4 @@
+use Rattle.std.proofs.lemmas.Bool.Decides.{nat_tests}
 use Rattle.std.proofs.Common.{◌≡◌, ◌<◌, suc, length, ◌∷◌, [], sym, refl, rules, arith, inr, add-one, ◌++◌}
 use Rattle.fmd_lang.specs.Faults.{past}
 use Rattle.fmd_lang.specs.Tokens.{word_of, piece_end}
@@ -32,10 +33,7 @@ section-returns t c =
     )
 
 pub sections-returns-in-CloseBrace : goal.sections-returns-in-CloseBrace
-sections-returns-in-CloseBrace t c =
-    let next = rw add-one at c.in_ok-token.ensures.next in
-    let word = token-mark (past 4) (past 4, c.args.depth) CloseBrace next c.end.ensures c.in-CloseBrace.is (λ e. cc) refl in
-    (omega (arith, c.loop-parts.invariant.0, word.ahead), reads-then c.loop-parts.invariant.1 word.reads)
+sections-returns-in-CloseBrace t c = grind (arith, nat_tests, add-one, token-mark, reads-then)
 
 pub sections-loop-parts-preserved : goal.sections-loop-parts-preserved
 sections-loop-parts-preserved t c =

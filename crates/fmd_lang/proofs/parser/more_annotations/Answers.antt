@@ -1,9 +1,9 @@
 use Rattle.std.proofs.Common.{◌≡◌, ◌≢◌, ℕ, None, refl, sym, ◌∙◌, arith, inr, true}
 use Rattle.fmd_lang.specs.Faults.{in_annotations, next_standing, past}
 use Rattle.fmd_lang.specs.declared.word.Kind.{Kind}
-use Rattle.fmd_lang.specs.declared.word.Kind.TheVariants.{CloseParen, Name}
-use Rattle.fmd_lang.proofs.FormLemmas.{IsAnnotation, annotation-name, flags-snoc}
-use Rattle.fmd_lang.proofs.StepLemmas.{reads-as, reads-then, token-mark, token-refuses, token-takes}
+use Rattle.fmd_lang.specs.declared.word.Kind.TheVariants.{CloseParen}
+use Rattle.fmd_lang.proofs.FormLemmas.{flags-snoc}
+use Rattle.fmd_lang.proofs.StepLemmas.{reads-as, reads-then, token-annotation, token-mark, token-refuses}
 use Rattle.fmd_lang.proofs.parser.more_annotations.Goals as goal
 
 pub returns-in-CloseParen : goal.returns-in-CloseParen
@@ -25,12 +25,7 @@ returns-in-None c =
 
 pub loop-token-preserved : goal.loop-token-preserved
 loop-token-preserved c =
-    let flag = c.in-Some.flag in
-    let token = c.in_ok-token.token in
-    let next = c.in_ok-token.ensures.next in
     let known = sym c.annotation_flag.ensures ∙ c.in-Some.is in
-    let name = sym next.kind ∙ annotation-name token.word.bytes.now flag known in
-    let word =
-    token-takes (IsAnnotation flag) (in_annotations true) (in_annotations true, c.args.depth) Name next c.end-at.ensures name (λ e. cc) (rw known refl) known in
+    let word = token-annotation (in_annotations true) c.in_ok-token.ensures.next c.end-at.ensures known refl in
     let more = reads-then c.loop-token.invariant.1 word.reads in
-    (omega (arith, c.loop-token.invariant.0, word.ahead), reads-as (flags-snoc c.args.first c.loop-token.flags flag) more)
+    (omega (arith, c.loop-token.invariant.0, word.ahead), reads-as (flags-snoc c.args.first c.loop-token.flags c.in-Some.flag) more)

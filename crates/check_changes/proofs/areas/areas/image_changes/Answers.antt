@@ -5,18 +5,10 @@ use Rattle.check_changes.proofs.ImageLemmas.{both-handed, both-then, both-within
 use Rattle.check_changes.proofs.areas.areas.image_changes.Goals as goal
 
 pub returns-in_err-push_changes-clause-after : goal.returns-in_err-push_changes-clause-after
-returns-in_err-push_changes-clause-after g c =
-    let few = c.in_ok-pairs.ensures.count in
-    let same = ap length c.deref.ensures.value in
-    let new = ap length c.in_ok-of-2.ensures in
-    both-handed _ _ c.from_residual-in_err-push_changes.ensures.1 (both-within _ _ (omega (arith, few, same, new)) (omega (arith, few, same, new)) (both-then c.in_ok-blocks.ensures.after c.in_err-push_changes.ensures.after))
+returns-in_err-push_changes-clause-after g c = grind arith
 
 pub returns-clause-after : goal.returns-clause-after
-returns-clause-after g c =
-    let few = c.in_ok-pairs.ensures.count in
-    let same = ap length c.deref.ensures.value in
-    let new = ap length c.in_ok-of-2.ensures in
-    both-within _ _ (omega (arith, few, same, new)) (omega (arith, few, same, new)) (both-then c.in_ok-blocks.ensures.after c.in_ok-push_changes.ensures.after)
+returns-clause-after g c = grind arith
 
 pub returns-clause-areas : goal.returns-clause-areas
 unfolding area_changes

@@ -1,4 +1,4 @@
-use Rattle.std.proofs.Common.{◌*◌, ◌++◌, length, arith}
+use Rattle.std.proofs.Common.{◌*◌, ◌++◌, length, arith, rules}
 use Rattle.check_changes.specs.declared.fault.ChangeFault.TheVariants as faults
 use Rattle.check_changes.specs.Areas.{area_changes_in}
 use Rattle.check_changes.proofs.AreaLemmas.ChangeSteps.{changes_in-more}
@@ -6,20 +6,13 @@ use Rattle.check_changes.proofs.ImageLemmas.{both-handed, both-then, both-within
 use Rattle.check_changes.proofs.areas.areas.push_changes.Goals as goal
 
 pub returns-in_err-push_entry_changes-clause-after : goal.returns-in_err-push_entry_changes-clause-after
-returns-in_err-push_entry_changes-clause-after g c =
-    let had = c.loop-pair.invariant in
-    both-handed _ faults.Memory c.from_residual.ensures.1 (both-within _ _ (omega (arith, had.within)) (omega (arith, had.within)) had.read)
+returns-in_err-push_entry_changes-clause-after g c = grind arith
 
 pub returns-clause-after : goal.returns-clause-after
-returns-clause-after g c =
-    let had = c.loop-pair.invariant in
-    both-within _ _ (omega (arith, had.within)) (omega (arith, had.within)) had.read
+returns-clause-after g c = grind arith
 
 pub returns-in_err-push_content_changes-clause-after : goal.returns-in_err-push_content_changes-clause-after
-returns-in_err-push_content_changes-clause-after g c =
-    let had = c.loop-pair.invariant in
-    let done = c.in_err-push_content_changes.ensures in
-    both-handed _ _ c.from_residual-in_err-push_content_changes.ensures.1 (both-within _ _ (omega (arith, had.within, done.fewer)) (omega (arith, had.within, done.fewer)) (both-then had.read done.after))
+returns-in_err-push_content_changes-clause-after g c = grind arith
 
 pub loop-pair-preserved : goal.loop-pair-preserved
 loop-pair-preserved g c =
