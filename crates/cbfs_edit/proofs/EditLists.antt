@@ -27,11 +27,6 @@ use Rattle.cbfs_edit.specs.declared.fault.EditFault.TheVariants as faults
 
 -- ---- the step of an edit, by its clauses
 
-by-fault : (fault : EditFault) (A B C : Type 0) → (fault ≡ faults.Device → A) → (fault ≡ faults.Source → B) → (fault ≢ faults.Device → fault ≢ faults.Source → C) → by_fault fault A B C
-by-fault faults.Device A B C a b c = a refl
-by-fault faults.Source A B C a b c = b refl
-by-fault other A B C a b c = c (λ e. absurd cc) (λ e. absurd cc)
-
 abbrev removal_reply : Result CellRange EditFault → Reply
 removal_reply (Ok group) = replies.Freed group
 removal_reply (Err fault) = replies.Refused fault
@@ -48,11 +43,9 @@ pub removal_step : {S : Type 0} (facts : S → Device) (name : Bor (List ℕ)) (
     → (honest → IsErrOf result faults.Device → LeavesWhole (bytes_in r old) name.now (bytes_in r now))
     → IsReply facts (Remove name) (removal_reply result) honest (bytes_in r old) (bytes_in r now)
 removal_step facts name r honest old now (Ok group) no_source answer changed refused stopped = λ h. (⊎_elim (λ failed. absurd cc) (λ is. sym is) (answer h), changed h)
-removal_step facts name r honest old now (Err fault) no_source answer changed refused stopped = λ h.
-    by-fault fault _ _ _
-    (λ e. stopped h (told_as fault faults.Device e))
-    (λ e. no_source (told_as fault faults.Source e))
-    (λ other _. (⊎_elim (λ failed. absurd (other (same_fault fault faults.Device failed))) (λ is. sym is) (answer h), ap (λ (l : List ℕ). bytes_in r l) (refused h other)))
+removal_step facts name r honest old now (Err faults.Device) no_source answer changed refused stopped = λ h. stopped h refl
+removal_step facts name r honest old now (Err faults.Source) no_source answer changed refused stopped = λ h. no_source refl
+removal_step facts name r honest old now (Err fault) no_source answer changed refused stopped = λ h. (⊎_elim (λ failed. absurd cc) (λ is. sym is) (answer h), ap (λ (l : List ℕ). bytes_in r l) (refused h (λ e. absurd cc)))
 
 pub sourceless : (fault : EditFault) → (let a : Result CellRange EditFault = Err fault in IsErrOf a faults.Source → ⊥) → by_source fault ≡ 0
 sourceless faults.Source no_source = absurd (no_source (told_as faults.Source faults.Source refl))
@@ -72,20 +65,14 @@ pub addition_step : {S : Type 0} (facts : S → Device) (name : Bor (List ℕ)) 
     → IsReply facts (Add name kind hash spot source) (addition_reply result) honest (bytes_in r old) (bytes_in r now)
 addition_step facts name kind hash spot source r honest old now (Ok placed) answer changed refused stopped before = λ h true_source.
     (⊎_elim (λ failed. absurd cc) (λ rest. ⊎_elim (λ failed. absurd cc) (λ is. sym is) rest) (answer h), changed h true_source)
-addition_step facts name kind hash spot source r honest old now (Err fault) answer changed refused stopped before = λ h true_source.
-    by-fault fault _ _ _
-    (λ e. stopped h true_source (told_as fault faults.Device e))
-    (λ e. before h (told_as fault faults.Source e))
-    (λ other not_source. (
-      ⊎_elim (λ failed. absurd (other (same_fault fault faults.Device failed))) (λ rest. ⊎_elim (λ failed. absurd (not_source (same_fault fault faults.Source failed))) (λ is. placed-refused _ fault is) rest) (answer h),
-      ap (λ (l : List ℕ). bytes_in r l) (refused h other not_source),
-    ))
+addition_step facts name kind hash spot source r honest old now (Err faults.Device) answer changed refused stopped before = λ h true_source. stopped h true_source refl
+addition_step facts name kind hash spot source r honest old now (Err faults.Source) answer changed refused stopped before = λ h true_source. before h refl
+addition_step facts name kind hash spot source r honest old now (Err fault) answer changed refused stopped before = λ h true_source. (
+  ⊎_elim (λ failed. absurd cc) (λ rest. ⊎_elim (λ failed. absurd cc) (λ is. placed-refused _ fault is) rest) (answer h),
+  ap (λ (l : List ℕ). bytes_in r l) (refused h (λ e. absurd cc) (λ e. absurd cc)),
+)
 
 -- ---- a list with one more step
-
--- two calls
-pub changed_more : {F : Type 0} (region : Range) (n k r q : ℕ) (a b c : Pages F) → HasChanged region n r a b → HasChanged region k q b c → HasChanged region (n + k) (r + q) a c
-changed_more region n k r q a b c first second = search rules
 
 module _ {S : Type 0} (facts : S → Device) (region : Range) where
   run-push : (olds news : List (Edit S)) (replies : List Reply) (before mid after : Device) (old new : Edit S) (reply : Reply) → Run facts region olds news replies before mid → Step facts region old new mid reply after
@@ -132,7 +119,7 @@ module _ {F S : Type 0} (facts : S → Device) where
             sum_by_more (edit_calls region.size) olds i e in_olds ∙ ap (λ (k : Edit S). sum_by (edit_calls region.size) (take i olds) + edit_calls region.size k) (sym was) in
             let faults : sum_by (faults_of by_device) (take (i + 1) (set replies i reply)) ≡ sum_by (faults_of by_device) (take i replies) + faults_of by_device reply =
             ap (λ (rs : List Reply). sum_by (faults_of by_device) rs) (take_more_set replies i reply in_replies) ∙ sum_by-append (faults_of by_device) (take i replies) (reply ∷ []) ∙ omega arith in
-            rw (calls, faults) (changed_more region _ _ _ _ old now new so_far.after after);
+            rw (calls, faults) (search rules);
         as_many = length-set edits i f ∙ so_far.as_many;
         replied = length-set replies i reply ∙ so_far.replied;
         others =

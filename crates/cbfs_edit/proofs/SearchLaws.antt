@@ -23,7 +23,9 @@ use Rattle.cbfs_walk.specs.declared.walk.WalkFault.{WalkFault}
 use Rattle.cbfs_edit.specs.Removals.{group_of, LosesOne, removed, removal_in, unless_damaged, edit_fault_of}
 use Rattle.cbfs_edit.specs.declared.fault.EditFault.TheVariants as faults
 use Rattle.cbfs_edit.specs.declared.group.CellRange.{CellRange}
-use Rattle.cbfs_edit.proofs.Groups.{group_none}
+use Rattle.cbfs_edit.proofs.Groups.{group_none, groups_exact}
+use Rattle.cbfs_edit.proofs.Runs.{runs_ascend}
+use Rattle.cbfs_edit.proofs.Places.{places_exact}
 use Rattle.cbfs_edit.proofs.Lists.{one_split}
 use Rattle.cbfs_edit.proofs.Removals.{others_have_not, removal_takes_one}
 use Rattle.std.proofs.lemmas.Map.Made.{Contains-tail}
@@ -179,3 +181,5 @@ removals_keep x name group small is c has other =
     let loses = removal_takes_one x name group small is in
     let differs : loses.component ≡ c → ⊥ = λ e. absurd (let k : true ≡ false = sym loses.was.named ∙ ap (λ (d : Component). bytes_eq d.name name) e ∙ other in cc) in
     subst (λ (l : List Component). Contains l c) (sym loses.is) (one_less loses.was.before loses.was.after loses.component c differs (subst (λ (l : List Component). Contains l c) loses.was.whole has))
+
+pub ruleset laws = (removal_takes_one, groups_exact, runs_ascend, places_exact, additions_add_one, additions_found, removals_keep)
