@@ -14,7 +14,6 @@ use Rattle.cbfs_edit.specs.declared.fault.EditFault.{EditFault}
 use Rattle.cbfs_edit.specs.declared.group.CellRange.{CellRange}
 use Rattle.cbfs_edit.specs.declared.place.Place.{Place}
 use Rattle.cbfs_edit.specs.declared.place.Spot.{Spot}
-use Rattle.cbfs_edit.proofs.AdditionLemmas.{same_fault, told_as}
 use Rattle.std.proofs.lemmas.List.{take_all, take_more, take_more_set, drop-set-lt, drop-drop, get_or-drop}
 use Rattle.std.proofs.Math.ListN.{length-set}
 use Rattle.std.proofs.lemmas.List.Sums.{sum_by_more, sum_by-append}
@@ -48,12 +47,12 @@ removal_step facts name r honest old now (Err faults.Source) no_source answer ch
 removal_step facts name r honest old now (Err fault) no_source answer changed refused stopped = λ h. (⊎_elim (λ failed. absurd cc) (λ is. sym is) (answer h), ap (λ (l : List ℕ). bytes_in r l) (refused h (λ e. absurd cc)))
 
 pub sourceless : (fault : EditFault) → (let a : Result CellRange EditFault = Err fault in IsErrOf a faults.Source → ⊥) → by_source fault ≡ 0
-sourceless faults.Source no_source = absurd (no_source (told_as faults.Source faults.Source refl))
+sourceless faults.Source no_source = absurd (no_source refl)
 sourceless fault no_source = refl
 
 placed-refused : (place : Result Place EditFault) (fault : EditFault) → Err fault ≡ placed_of place → place ≡ Err fault
 placed-refused (Ok place) fault is = absurd cc
-placed-refused (Err other) fault is = ap (λ (e : EditFault). Err e) (sym (same_fault fault other is))
+placed-refused (Err other) fault is = let e : other ≡ fault = cc in ap (λ (f : EditFault). Err f) e
 
 pub addition_step : {S : Type 0} (facts : S → Device) (name : Bor (List ℕ)) (kind : ℕ) (hash : HashChoice) (spot : Spot) (source : S) (r : Range) (honest : Type 0) (old now : List ℕ) (result : Result Placed EditFault)
     → let new = new_component name.now kind hash (facts source).content in
