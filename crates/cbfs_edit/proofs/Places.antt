@@ -28,8 +28,7 @@ some_unit unit good = omega (arith, eqb-false unit 0 good)
 
 next-whole : (from unit : ℕ) → 0 < unit → next_multiple_of from unit % unit ≡ 0
 next-whole from unit some =
-    let less : from % unit < unit = mod-lt from some in
-    let same : from + (unit - from % unit) ≡ (from / unit + 1) * unit = omega (arith, less, div-add-mod from unit) in
+    let same : from + (unit - from % unit) ≡ (from / unit + 1) * unit = omega (arith, mod-lt from some, div-add-mod from unit) in
     add-mod-mod from (unit - from % unit) unit ∙ ap (λ n. n % unit) same ∙ mul-mod_left (from / unit + 1) unit
 
 -- the least multiple from a number on
@@ -39,10 +38,10 @@ multiple_least unit from d some below whole =
     let here : unit * (next / unit) + next % unit ≡ next = div-add-mod next unit in
     let there : unit * (d / unit) + d % unit ≡ d = div-add-mod d unit in
     let near : next < from + unit = omega arith in
-    let below_next : next / unit * unit < (d / unit + 1) * unit = omega (arith, here, there, next-whole from unit some) in
-    let fewer : next / unit < d / unit + 1 = lt_of_mul-lt-mul_right unit below_next in
+    let whole_next = next-whole from unit some in
+    let fewer : next / unit < d / unit + 1 = lt_of_mul-lt-mul_right unit (omega (arith, here, there, whole_next)) in
     let enough : next / unit * unit ≤ d / unit * unit = mul-le-mul_right unit (omega (arith, fewer)) in
-    omega (arith, enough, here, there, next-whole from unit some)
+    omega (arith, enough, here, there, whole_next)
 
 -- the least allowed place from a place on
 pub least_from-least : (spot : Spot) (from d : ℕ) → is_bad_align spot ≡ false → from ≤ d → Allows spot d → least_from spot from ≤ d
@@ -138,10 +137,7 @@ module _ (wanted : Wanted) (size : ℕ) where
   without_room runs none = All-weaker (HasNoRoom wanted size) (λ run. HasRoom run → ⊥) (λ run no room. no room.0 room.1) runs none
 
   same_place : (p q : Place) → p.run ≡ q.run → p.header ≡ q.header → p.content ≡ q.content → p ≡ q
-  same_place p q run header content =
-      ap (λ (r : CellRange). let k : Place = record { run = r; header = p.header; content = p.content } in k) run
-      ∙ ap (λ n. let k : Place = record { run = q.run; header = n; content = p.content } in k) header
-      ∙ ap (λ n. let k : Place = record { run = q.run; header = q.header; content = n } in k) content
+  same_place p q run header content = let same : (let k : Place = record { run = p.run; header = p.header; content = p.content } in k) ≡ q = rw (run, header, content) refl in same
 
   pub one_place : (runs : List CellRange) (p q : Option Place) → IsPlaceAmong wanted size runs p → IsPlaceAmong wanted size runs q → p ≡ q
   one_place runs None None is other = refl

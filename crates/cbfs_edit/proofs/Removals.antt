@@ -74,8 +74,7 @@ removal_leaves r name group old mid new lies small same (inr e) stop = left (rw 
 -- the image after a change of its region
 pub image_of : (r : Range) (u old mid new : List ℕ) → LiesIn r old → mid ≡ old → length new ≡ length mid → SameOutside r.start r.size mid new → bytes_in r new ≡ u → new ≡ overwritten old r.start u
 image_of r u old mid new lies same size outside is =
-    let lies_mid : LiesIn r mid = omega (arith, lies, ap length same) in
-    subst (λ (l : List ℕ). new ≡ overwritten l r.start u) same (image_is r mid new u lies_mid size outside is)
+    subst (λ (l : List ℕ). new ≡ overwritten l r.start u) same (image_is r mid new u (omega (arith, lies, ap length same)) size outside is)
 
 -- ---- the first component with the name is removed, all others remain
 
@@ -93,19 +92,15 @@ others_have_not name at (c ∷ cells) none =
       | inr e ↦ rw e (All-cons (IsOther name) (component_at at c) (components_from (at + length c) cells) (All-head (IsNot name) c cells none e) later)
     ]
 
--- a component, then the components of later cells
-one_then : (at : ℕ) (c : List ℕ) (cells : List (List ℕ)) → IsComponent c → components_from at (c ∷ cells) ≡ component_at at c ∷ components_from (at + length c) cells
-unfolding components_from
-one_then at c cells is = rw is refl
-
 -- a component between free cells, then later cells
 row_of_one : (at end : ℕ) (row more after : List (List ℕ)) (c : List ℕ) → AllFree row → AllFree more → IsComponent c → at + length (concat row) + length c + length (concat more) ≡ end
     → components_from at (row ++ (c ∷ (more ++ after))) ≡ component_at (at + length (concat row)) c ∷ components_from end after
+unfolding components_from
 row_of_one at end row more after c free free_more is ends =
     let place : ℕ = at + length (concat row) in
     components-append at row (c ∷ (more ++ after))
     ∙ ap (λ (l : List Component). l ++ components_from place (c ∷ (more ++ after))) (components-free at row free)
-    ∙ one_then place c (more ++ after) is
+    ∙ rw is refl
     ∙ ap (λ (l : List Component). component_at place c ∷ l)
     (components-append (place + length c) more after
     ∙ ap (λ (l : List Component). l ++ components_from (place + length c + length (concat more)) after) (components-free (place + length c) more free_more)

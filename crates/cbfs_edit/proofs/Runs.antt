@@ -11,7 +11,7 @@ use Rattle.cbfs_edit.specs.Removals.{IsCellRange, by_rows}
 use Rattle.cbfs_edit.specs.Runs.{add_run, runs, runs_from, IsRunOf}
 use Rattle.cbfs_edit.specs.Laws.{RunsAreExact, RunsAscend, EmptiedRunsKeepTheComponents}
 use Rattle.cbfs_edit.specs.declared.group.CellRange.{CellRange}
-use Rattle.cbfs_edit.proofs.Groups.{IsFree, EndsWithComponent, BeginsWithComponent, length-concat-push, over_row, ends_after, ends_push, not_alone, between}
+use Rattle.cbfs_edit.proofs.Groups.{IsFree, EndsWithComponent, BeginsWithComponent, length-concat-push, length-placed, over_row, ends_after, ends_push, not_alone, between}
 use Rattle.flash_format.proofs.Splices.{concat-append, AllFree, components-free, group-components}
 use Rattle.std.proofs.lemmas.List.Kept.{AllPairs-cons}
 use Rattle.flash_format.proofs.CutSteps.{cell_span}
@@ -54,15 +54,11 @@ maximal start at done row [] run ends free begun is has = elim (run-cases start 
 ]
 maximal start at done row (c ∷ cells) run ends free begun is has =
     let next = at + length c in
-    let moved : done ++ ((row ++ c ∷ []) ++ cells) ≡ done ++ (row ++ c ∷ cells) = ap (λ (l : List (List ℕ)). done ++ l) (append_assoc row (c ∷ []) cells) in
-    let passed : ((done ++ row) ++ c ∷ []) ++ ([] ++ cells) ≡ done ++ (row ++ c ∷ cells) = append_assoc (done ++ row) (c ∷ []) cells ∙ append_assoc done row (c ∷ cells) in
-    let longer : start + length (concat (row ++ c ∷ [])) ≡ next = omega (arith, length-concat-push row c) in
-    let before : length (concat ((done ++ row) ++ c ∷ [])) ≡ next = omega (arith, length-concat-push (done ++ row) c, ap length (concat-append done row), length-append (concat done) (concat row)) in
     elim (cases_Bool (is_free (head_of c))) [
-      | inl e ↦ subst (λ (l : List (List ℕ)). IsRunOf l run) moved (maximal start next done (row ++ c ∷ []) cells run ends (All-push IsFree row c free e) begun longer (rw e at has))
+      | inl e ↦ simp append_assoc at (maximal start next done (row ++ c ∷ []) cells run ends (All-push IsFree row c free e) begun (omega (arith, length-concat-push row c)) (rw e at has))
       | inr e ↦ elim (run-cases start at (runs_from next next cells) run (rw e at has)) [
         | inl here ↦ closed start at done row (c ∷ cells) run ends free e begun is here.0 here.1
-        | inr there ↦ subst (λ (l : List (List ℕ)). IsRunOf l run) passed (maximal next next ((done ++ row) ++ c ∷ []) [] cells run (ends_push (done ++ row) c e) (All-nil IsFree) before (omega arith) there)
+        | inr there ↦ simp append_assoc at (maximal next next ((done ++ row) ++ c ∷ []) [] cells run (ends_push (done ++ row) c e) (All-nil IsFree) (omega (arith, length-placed done row c)) (omega arith) there)
       ]
     ]
 
