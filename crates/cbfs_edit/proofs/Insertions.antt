@@ -2,7 +2,7 @@
 use Rattle.std.proofs.Common.{◌≡◌, ⊎_elim, ℕ, ◌+◌, ◌-◌, ◌≤◌, true, false, List, [], ◌++◌, length, take, drop, replicate, Option, Some, None, sym, ◌∙◌, ap, arith, rules, append_assoc, length-append, length-drop, take-append-drop, ◌⊎◌, inl, inr, ◌^◌, ◌<◌, Result, Ok, Err, subst, refl}
 use Rattle.std.specs.Prelude.{◌==◌, is_some, max, OnErr, option_copied}
 use Rattle.std.proofs.lemmas.Bool.{cases_eq, eq-eqb, ne_eqb, cond_both, eqb-false}
-use Rattle.std.proofs.lemmas.List.{append-nil, length-replicate, length-take-le}
+use Rattle.std.proofs.lemmas.List.{append-nil, drop_at, length-replicate, length-take-le}
 use Rattle.flash_format.specs.Head.{round64}
 use Rattle.flash_format.specs.Made.{algorithm, header_length, empty_header, empty_entry, padding, KeepsFour, hash_len, made, made_metadata, metadata_of, described_len}
 use Rattle.flash_format.proofs.EmptyEntryLaws.{length-empty_header}
@@ -13,7 +13,7 @@ use Rattle.cbfs_edit.specs.declared.place.Place.{Place}
 use Rattle.cbfs_edit.specs.Removals.{last_four, kept_at, removed, space_end}
 use Rattle.cbfs_edit.specs.Additions.{empty_between, NewComponent, added, digest_of, metadata_len_of, component_of_label, wanted_for, HasRoom, held_back, with_metadata, with_bound, shown_by, with_component, IsUnfinished}
 use Rattle.cbfs_edit.proofs.Changes.{is_some-cond, keeps, kept-none}
-use Rattle.cbfs_edit.proofs.Lists.{over_part, padding-begins, padding-split}
+use Rattle.cbfs_edit.proofs.Lists.{over_part, drop-padding, padding-begins}
 use Rattle.flash_format.specs.declared.digest.Digest.{Digest}
 use Rattle.flash_format.specs.declared.meta.Meta.{Meta}
 use Rattle.flash_device.specs.Regions.{Range, LiesIn, bytes_in}
@@ -104,26 +104,22 @@ module _ (x : List ℕ) (place : Place) (end : ℕ) (metadata : List ℕ) (room 
         let apart : end + 64 ≤ e = omega (arith, other, room.cell.inside, room.cell.end_aligned, room.run.end_aligned) in
         let n = e - end - header_length in
         let gap : List ℕ = replicate (end - d) 0xff in
-        let q : List ℕ = take header_length (padding (header_length + n) last) in
-        let rest : List ℕ = padding n last in
-        let tail_is : tail ≡ gap ++ (q ++ rest) =
-        (let sum : e - d ≡ (end - d) + (header_length + n) = omega (arith, apart, fits) in ap (λ k. padding k last) sum)
-        ∙ padding-begins (end - d) (header_length + n) last (omega arith)
-        ∙ ap (λ (l : List ℕ). gap ++ l) (padding-split header_length n last) in
-        let q_long : length q ≡ header_length = length-take-le header_length (padding (header_length + n) last) (omega (arith, length-padding (header_length + n) last four)) in
+        let rest : List ℕ = padding (header_length + n) last in
+        let tail_is : tail ≡ gap ++ rest = (let sum : e - d ≡ (end - d) + (header_length + n) = omega (arith, apart, fits) in ap (λ k. padding k last) sum) ∙ padding-begins (end - d) (header_length + n) last (omega arith) in
         let total : length (p ++ tail) ≡ e - s = omega (arith, length-append p tail, length-padding (e - d) last four, long, fits, apart, room.content_below, room.metadata_is, room.start_below) in
         let same_size : length y ≡ length x = ap length is ∙ length-overwritten x s (p ++ tail) (omega (arith, total, room.run.some, room.run.inside)) in
         let header : List ℕ = empty_header (e - end) (e == length y) in
+        let header_long : length header ≡ header_length = length-empty_header (e - end) (e == length y) in
         let header_is : header ≡ empty_header (e - end) (is_some last) =
         ap (λ k. empty_header (e - end) (e == k)) same_size ∙ ap (λ b. empty_header (e - end) b) (sym (is_some-cond (e == length x) (last_four x))) in
         let nothing : kept_at x end ≡ None = kept-none x end (omega (arith, apart, room.run.inside)) in
         let there : (end == e) ≡ false = ne_eqb end e other in
         rw (there, nothing) (
-        ap (λ (l : List ℕ). overwritten l end header) (is ∙ ap (λ (l : List ℕ). overwritten x s (p ++ l)) tail_is ∙ ap (λ (l : List ℕ). overwritten x s l) (sym (append_assoc p gap (q ++ rest))))
-        ∙ over_part x s (p ++ gap) q rest header end (omega (arith, room.run.some, room.run.inside))
+        ap (λ (l : List ℕ). overwritten l end header) (is ∙ ap (λ (l : List ℕ). overwritten x s (p ++ l)) tail_is ∙ ap (λ (l : List ℕ). overwritten x s l) (sym (append_assoc p gap rest)))
+        ∙ over_part x s (p ++ gap) rest header (padding n last) end (omega (arith, room.run.some, room.run.inside))
         (omega (arith, length-append p gap, length-replicate {A = ℕ} (end - d) 0xff, long, fits, room.content_below, room.metadata_is, room.start_below))
-        (length-empty_header (e - end) (e == length y) ∙ sym q_long)
-        ∙ ap (λ (l : List ℕ). overwritten x s ((p ++ gap) ++ (l ++ rest))) header_is
+        (omega (arith, header_long, length-padding (header_length + n) last four)) (ap (λ k. drop k rest) header_long ∙ drop-padding header_length n last)
+        ∙ ap (λ (l : List ℕ). overwritten x s ((p ++ gap) ++ (l ++ padding n last))) header_is
         ∙ ap (λ (l : List ℕ). overwritten x s l) (append_assoc p gap (empty_entry (e - end) last))
         )
 
@@ -142,40 +138,34 @@ module _ (x : List ℕ) (place : Place) (end : ℕ) (metadata : List ℕ) (room 
         let size = e - s in
         let header : List ℕ = empty_header size (is_some last) in
         let space : List ℕ = replicate g 0xff in
-        let u1 : List ℕ = take v (padding b last) in
-        let u2 : List ℕ = take (length content) (padding (length content + (e - d)) last) in
+        let part : List ℕ = take v (padding b last) in
+        let rest : List ℕ = padding (length content + (e - d)) last in
+        let begin : List ℕ = shown_by place metadata in
         let sum : size - header_length ≡ g + b = omega (arith, f.rest_long, f.room, fits, room.cell.inside, room.run.some) in
-        let enough : 4 ≤ b = omega (arith, sum, f.room, room.run.some) in
-        let pad : padding (size - header_length) last ≡ space ++ (u1 ++ (u2 ++ tail)) =
+        let pad : padding (size - header_length) last ≡ space ++ (part ++ rest) =
         ap (λ k. padding k last) sum
-        ∙ padding-begins g b last enough
-        ∙ ap (λ (l : List ℕ). space ++ l) (padding-split v (length content + (e - d)) last ∙ ap (λ (l : List ℕ). u1 ++ l) (padding-split (length content) (e - d) last)) in
-        let u1_long : length u1 ≡ v = length-take-le v (padding b last) (omega (arith, length-padding b last four)) in
-        let u2_long : length u2 ≡ length content = length-take-le (length content) (padding (length content + (e - d)) last) (omega (arith, length-padding (length content + (e - d)) last four)) in
+        ∙ padding-begins g b last (omega (arith, sum, f.room, room.run.some))
+        ∙ ap (λ (l : List ℕ). space ++ l) (sym (take-append-drop v (padding b last)) ∙ ap (λ (l : List ℕ). part ++ l) (drop-padding v (length content + (e - d)) last)) in
+        let part_long : length part ≡ v = length-take-le v (padding b last) (omega (arith, length-padding b last four)) in
+        let rest_long = length-padding (length content + (e - d)) last four in
         let header_long : length header ≡ header_length = length-empty_header size (is_some last) in
         let space_long : length space ≡ g = length-replicate {A = ℕ} g 0xff in
         let inside : s ≤ length x = omega (arith, room.run.some, room.run.inside) in
-        let emptied : removed x place.run ≡ overwritten x s ((header ++ (space ++ u1)) ++ (u2 ++ tail)) =
-        ap (λ (l : List ℕ). overwritten x s (header ++ l)) pad ∙ ap (λ (l : List ℕ). overwritten x s l) (simp append_assoc) in
-        let copied : overwritten (removed x place.run) place.content content ≡ overwritten x s ((header ++ (space ++ u1)) ++ (content ++ tail)) =
-        ap (λ (l : List ℕ). overwritten l place.content content) emptied
-        ∙ over_part x s (header ++ (space ++ u1)) u2 tail content place.content inside
-        (omega (arith, length-append header (space ++ u1), length-append space u1, header_long, space_long, u1_long, f.rest_long)) (sym u2_long) in
-        let copied_again : overwritten (removed x place.run) place.content content ≡ overwritten x s ((header ++ space) ++ (u1 ++ (content ++ tail))) =
-        copied ∙ ap (λ (l : List ℕ). overwritten x s l) (simp append_assoc) in
+        let copied : overwritten (removed x place.run) place.content content ≡ overwritten x s ((header ++ (space ++ part)) ++ (content ++ tail)) =
+        ap (λ (l : List ℕ). overwritten l place.content content) (ap (λ (l : List ℕ). overwritten x s (header ++ l)) pad ∙ ap (λ (l : List ℕ). overwritten x s l) (simp append_assoc))
+        ∙ over_part x s (header ++ (space ++ part)) rest content tail place.content inside
+        (omega (arith, length-append header (space ++ part), length-append space part, header_long, space_long, part_long, f.rest_long)) (omega (arith, rest_long)) (drop-padding (length content) (e - d) last) in
         let described : with_metadata (overwritten (removed x place.run) place.content content) place metadata ≡ overwritten x s ((header ++ space) ++ (d1 ++ (content ++ tail))) =
-        ap (λ (l : List ℕ). with_metadata l place metadata) copied_again
-        ∙ over_part x s (header ++ space) u1 (content ++ tail) d1 (place.header + held_back place) inside
-        (omega (arith, length-append header space, header_long, space_long, f.rest_at)) (sym u1_long) in
+        ap (λ (l : List ℕ). with_metadata l place metadata) (copied ∙ ap (λ (l : List ℕ). overwritten x s l) (simp append_assoc))
+        ∙ over_part x s (header ++ space) (part ++ (content ++ tail)) d1 (content ++ tail) (place.header + held_back place) inside
+        (omega (arith, length-append header space, header_long, space_long, f.rest_at)) (omega (arith, part_long, length-append part (content ++ tail))) (drop_at part (content ++ tail) v part_long) in
         let p : List ℕ = header ++ (space ++ (d1 ++ content)) in
         let p_long : length p ≡ d - s =
         omega (arith, length-append header (space ++ (d1 ++ content)), length-append space (d1 ++ content), length-append d1 content, header_long, space_long, f.rest_long) in
-        let bounded_is : with_bound (with_metadata (overwritten (removed x place.run) place.content content) place metadata) end e ≡ overwritten x s (p ++ after) =
-        bound _ p p_long (described ∙ ap (λ (l : List ℕ). overwritten x s l) (simp append_assoc)) in
-        let begin : List ℕ = shown_by place metadata in
-        ap (λ (l : List ℕ). overwritten l s begin) (bounded_is ∙ ap (λ (l : List ℕ). overwritten x s l) (append_assoc header (space ++ (d1 ++ content)) after))
-        ∙ over_part x s [] header ((space ++ (d1 ++ content)) ++ after) begin s inside (omega arith) (f.begin_long ∙ sym header_long)
-        ∙ ap (λ (l : List ℕ). overwritten x s l) (let e1 : begin ++ ((space ++ (d1 ++ content)) ++ after) ≡ (begin ++ (space ++ d1)) ++ (content ++ after) = simp append_assoc in e1)
+        let behind : List ℕ = (space ++ (d1 ++ content)) ++ after in
+        ap (λ (l : List ℕ). overwritten l s begin) (bound _ p p_long (described ∙ ap (λ (l : List ℕ). overwritten x s l) (simp append_assoc)) ∙ ap (λ (l : List ℕ). overwritten x s l) (append_assoc header (space ++ (d1 ++ content)) after))
+        ∙ over_part x s [] (header ++ behind) begin behind s inside (omega arith) (omega (arith, f.begin_long, header_long, length-append header behind)) (drop_at header behind (length begin) (header_long ∙ sym f.begin_long))
+        ∙ ap (λ (l : List ℕ). overwritten x s l) (let e1 : begin ++ behind ≡ (begin ++ (space ++ d1)) ++ (content ++ after) = simp append_assoc in e1)
         ∙ ap (λ (l : List ℕ). overwritten x s (l ++ (content ++ after))) f.whole
         ∙ ap (λ (l : List ℕ). overwritten x s l) (simp append_assoc)
 

@@ -1,5 +1,5 @@
 -- Parts of lists: an element between others, and writes of bytes and padding.
-use Rattle.std.proofs.Common.{◌≡◌, List, [], ◌∷◌, ◌++◌, All, refl, subst, inl, inr, ℕ, ◌+◌, ◌-◌, ◌≤◌, length, take, drop, replicate, Option, Some, None, sym, ◌∙◌, ap, arith, append_assoc, take-append-drop, length-append}
+use Rattle.std.proofs.Common.{◌≡◌, List, [], ◌∷◌, ◌++◌, All, refl, subst, inl, inr, ℕ, ◌+◌, ◌-◌, ◌≤◌, length, take, drop, replicate, Option, Some, None, sym, ◌∙◌, ap, arith, append_assoc, length-append, length-drop}
 use Rattle.std.proofs.lemmas.List.Elements.{All-head, All-tail}
 use Rattle.std.proofs.lemmas.Bool.{cases_lt}
 use Rattle.std.proofs.Math.Seq.{drop-append-add}
@@ -30,28 +30,24 @@ one_split P (y ∷ before) after (y' ∷ before') after' x x' here here' none no
 
 -- ---- writes over recent writes
 
-over_middle : (p v r w : List ℕ) (at : ℕ) → length p ≡ at → length w ≡ length v → overwritten (p ++ (v ++ r)) at w ≡ p ++ (w ++ r)
-over_middle p v r w at place same =
-    ap (λ (l : List ℕ). l ++ (w ++ drop (at + length w) (p ++ (v ++ r)))) (take_at p (v ++ r) at place)
-    ∙ ap (λ n. p ++ (w ++ drop (at + n) (p ++ (v ++ r)))) same
-    ∙ ap (λ (l : List ℕ). p ++ (w ++ l))
-    (sym (drop-drop (length v) at (p ++ (v ++ r))) ∙ ap (λ (l : List ℕ). drop (length v) l) (drop_at p (v ++ r) at place) ∙ drop_at v r (length v) refl)
-
-regroup : (a u v w z : List ℕ) → a ++ ((u ++ (v ++ w)) ++ z) ≡ (a ++ u) ++ (v ++ (w ++ z))
-regroup a u v w z = simp append_assoc
+over_tail : (a t w : List ℕ) (at : ℕ) → length a ≡ at → overwritten (a ++ t) at w ≡ a ++ (w ++ drop (length w) t)
+over_tail a t w at place =
+    ap (λ (l : List ℕ). l ++ (w ++ drop (at + length w) (a ++ t))) (take_at a t at place)
+    ∙ ap (λ (l : List ℕ). a ++ (w ++ l)) (sym (drop-drop (length w) at (a ++ t)) ∙ ap (λ (l : List ℕ). drop (length w) l) (drop_at a t at place))
 
 -- a write over the middle of a recent write
-pub over_part : (x : List ℕ) (at : ℕ) (u v w new : List ℕ) (place : ℕ) → at ≤ length x → at + length u ≡ place → length new ≡ length v
-    → overwritten (overwritten x at (u ++ (v ++ w))) place new ≡ overwritten x at (u ++ (new ++ w))
-over_part x at u v w new place inside is same =
-    let a : List ℕ = take at x in
-    let z : List ℕ = drop (at + length (u ++ (v ++ w))) x in
-    let long : length (u ++ (v ++ w)) ≡ length (u ++ (new ++ w)) = omega (arith, length-append u (v ++ w), length-append v w, length-append u (new ++ w), length-append new w) in
-    let begins : length (a ++ u) ≡ place = omega (arith, length-append a u, length-take-le at x inside) in
-    ap (λ (l : List ℕ). overwritten l place new) (regroup a u v w z)
-    ∙ over_middle (a ++ u) v (w ++ z) new place begins same
-    ∙ sym (regroup a u new w z)
-    ∙ ap (λ n. a ++ ((u ++ (new ++ w)) ++ drop (at + n) x)) long
+pub over_part : (x : List ℕ) (at : ℕ) (u r new rest : List ℕ) (place : ℕ) → at ≤ length x → at + length u ≡ place → length new ≤ length r → drop (length new) r ≡ rest
+    → overwritten (overwritten x at (u ++ r)) place new ≡ overwritten x at (u ++ (new ++ rest))
+over_part x at u r new rest place inside is fits is_rest =
+    let a : List ℕ = take at x ++ u in
+    let z : List ℕ = drop (at + length (u ++ r)) x in
+    let begins : length a ≡ place = omega (arith, length-append (take at x) u, length-take-le at x inside) in
+    let long : length (u ++ r) ≡ length (u ++ (new ++ rest)) = omega (arith, length-append u r, length-append u (new ++ rest), length-append new rest, length-drop (length new) r, ap length is_rest, fits) in
+    ap (λ (l : List ℕ). overwritten l place new) (let e : take at x ++ ((u ++ r) ++ z) ≡ a ++ (r ++ z) = simp append_assoc in e)
+    ∙ over_tail a (r ++ z) new place begins
+    ∙ ap (λ (l : List ℕ). a ++ (new ++ l)) (drop-append-le (length new) r z fits ∙ ap (λ (l : List ℕ). l ++ z) is_rest)
+    ∙ (let e : a ++ (new ++ (rest ++ z)) ≡ take at x ++ ((u ++ (new ++ rest)) ++ z) = simp append_assoc in e)
+    ∙ ap (λ n. take at x ++ ((u ++ (new ++ rest)) ++ drop (at + n) x)) long
 
 -- ---- padding of an empty entry, in parts
 
@@ -87,11 +83,6 @@ padding-begins a b (Some last) some =
     ∙ ap (λ (l : List ℕ). l ++ drop (4 - (a + b)) last) (sym (replicate-append-replicate a (b - 4) 0xff))
     ∙ ap (λ n. (replicate a 0xff ++ replicate (b - 4) 0xff) ++ drop n last) (none ∙ sym none_left)
     ∙ append_assoc (replicate a 0xff) (replicate (b - 4) 0xff) (drop (4 - b) last)
-
--- two parts, the first the rest of a longer padding
-pub padding-split : (a b : ℕ) (last : Option (List ℕ)) → padding (a + b) last ≡ take a (padding (a + b) last) ++ padding b last
-padding-split a b last =
-    sym (take-append-drop a (padding (a + b) last)) ∙ ap (λ (l : List ℕ). take a (padding (a + b) last) ++ l) (drop-padding a b last)
 
 -- ---- the content of an addition
 
