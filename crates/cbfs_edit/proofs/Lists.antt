@@ -1,5 +1,5 @@
 -- Parts of lists: an element between others, and writes of bytes and padding.
-use Rattle.std.proofs.Common.{◌≡◌, List, [], ◌∷◌, ◌++◌, All, refl, subst, inl, inr, ℕ, ◌+◌, ◌-◌, ◌≤◌, length, take, drop, replicate, Option, Some, None, sym, ◌∙◌, ap, arith, append_assoc, length-append, length-drop}
+use Rattle.std.proofs.Common.{◌≡◌, List, [], ◌∷◌, ◌++◌, All, refl, subst, zero, suc, rules, ℕ, ◌+◌, ◌-◌, ◌≤◌, length, take, drop, replicate, Option, Some, None, sym, ◌∙◌, ap, arith, append_assoc, length-append, length-drop}
 use Rattle.std.proofs.lemmas.List.Elements.{All-head, All-tail}
 use Rattle.std.proofs.lemmas.Bool.{cases_lt}
 use Rattle.std.proofs.Math.Seq.{drop-append-add}
@@ -52,46 +52,31 @@ over_part x at u r new rest place inside is fits is_rest =
 -- ---- padding of an empty entry, in parts
 
 drop_over : (n : ℕ) (xs ys : List ℕ) → drop n (xs ++ ys) ≡ drop n xs ++ drop (n - length xs) ys
-drop_over n xs ys = elim (cases_lt (length xs) n) [
-  | inl past ↦
-      let sum : n ≡ length xs + (n - length xs) = omega (arith, past) in
-      ap (λ k. drop k (xs ++ ys)) sum ∙ drop-append-add xs ys (n - length xs) ∙ ap (λ (l : List ℕ). l ++ drop (n - length xs) ys) (sym (drop_all n xs (omega (arith, past))))
-  | inr within ↦
-      let none : n - length xs ≡ 0 = omega (arith, within) in
-      drop-append-le n xs ys within ∙ ap (λ k. drop n xs ++ drop k ys) (sym none)
-]
+drop_over n [] ys = let e : n - 0 ≡ n = omega arith in rw (drop_all {X = ℕ} n [] (omega arith), e) refl
+drop_over zero (x ∷ xs) ys = search rules
+drop_over (suc n) (x ∷ xs) ys = let e : suc n - suc (length xs) ≡ n - length xs = omega arith in rw e (drop_over n xs ys)
 
 -- the rest of a padding
 pub drop-padding : (a b : ℕ) (last : Option (List ℕ)) → drop a (padding (a + b) last) ≡ padding b last
-drop-padding a b None = let e : a + b - a ≡ b = omega arith in drop-replicate a (a + b) 0xff ∙ ap (λ n. replicate n 0xff) e
+drop-padding a b None = let e : a + b - a ≡ b = omega arith in rw (drop-replicate {X = ℕ} a (a + b) 0xff, e) refl
 drop-padding a b (Some last) =
-    let filler : List ℕ = replicate (a + b - 4) 0xff in
     let first : a + b - 4 - a ≡ b - 4 = omega arith in
-    let rest : 4 - (a + b) + (a - length filler) ≡ 4 - b = omega (arith, length-replicate {A = ℕ} (a + b - 4) 0xff) in
-    drop_over a filler (drop (4 - (a + b)) last)
-    ∙ ap (λ (l : List ℕ). l ++ drop (a - length filler) (drop (4 - (a + b)) last)) (drop-replicate a (a + b - 4) 0xff ∙ ap (λ n. replicate n 0xff) first)
-    ∙ ap (λ (l : List ℕ). replicate (b - 4) 0xff ++ l) (drop-drop (a - length filler) (4 - (a + b)) last ∙ ap (λ n. drop n last) rest)
+    let rest : 4 - (a + b) + (a - (a + b - 4)) ≡ 4 - b = omega arith in
+    drop_over a (replicate (a + b - 4) 0xff) (drop (4 - (a + b)) last) ∙ rw (drop-replicate {X = ℕ} a (a + b - 4) 0xff, first, length-replicate {A = ℕ} (a + b - 4) 0xff, drop-drop {A = ℕ} (a - (a + b - 4)) (4 - (a + b)) last, rest) refl
 
 -- a padding begins with 0xff
 pub padding-begins : (a b : ℕ) (last : Option (List ℕ)) → 4 ≤ b → padding (a + b) last ≡ replicate a 0xff ++ padding b last
-padding-begins a b None some = sym (replicate-append-replicate a b 0xff)
+padding-begins a b None some = sym (replicate-append-replicate {A = ℕ} a b 0xff)
 padding-begins a b (Some last) some =
-    let sum : a + (b - 4) ≡ a + b - 4 = omega arith in
+    let sum : a + b - 4 ≡ a + (b - 4) = omega arith in
     let none : 4 - (a + b) ≡ 0 = omega arith in
     let none_left : 4 - b ≡ 0 = omega arith in
-    ap (λ n. replicate n 0xff ++ drop (4 - (a + b)) last) (sym sum)
-    ∙ ap (λ (l : List ℕ). l ++ drop (4 - (a + b)) last) (sym (replicate-append-replicate a (b - 4) 0xff))
-    ∙ ap (λ n. (replicate a 0xff ++ replicate (b - 4) 0xff) ++ drop n last) (none ∙ sym none_left)
-    ∙ append_assoc (replicate a 0xff) (replicate (b - 4) 0xff) (drop (4 - b) last)
+    rw (sum, none, none_left, ← replicate-append-replicate {A = ℕ} a (b - 4) 0xff) (append_assoc (replicate a 0xff) (replicate (b - 4) 0xff) last)
 
 -- ---- the content of an addition
 
 part_at : (x before part after : List ℕ) (at : ℕ) → x ≡ before ++ (part ++ after) → length before ≡ at → slice_range x at (at + length part) ≡ part
-part_at x before part after at is long =
-    slice_range_is x at (length part)
-    ∙ ap (λ (l : List ℕ). take (length part) (drop at l)) is
-    ∙ ap (λ (l : List ℕ). take (length part) l) (drop_at before (part ++ after) at long)
-    ∙ take_at part after (length part) (omega arith)
+part_at x before part after at is long = rw is (slice_range_is (before ++ (part ++ after)) at (length part) ∙ rw (drop_at before (part ++ after) at long) (take_at part after (length part) refl))
 
 -- content after metadata
 pub content_at : (x before metadata content pad after : List ℕ) (start at : ℕ) → start ≤ length x → start + length before + length metadata ≡ at
