@@ -115,7 +115,7 @@ module _ {F S : Type 0} (facts : S → Device) where
       record {
         after =
             let calls : sum_by (edit_calls region.size) (take (i + 1) olds) ≡ sum_by (edit_calls region.size) (take i olds) + edit_calls region.size e =
-            sum_by_more (edit_calls region.size) olds i e in_olds ∙ ap (λ (k : Edit S). sum_by (edit_calls region.size) (take i olds) + edit_calls region.size k) (sym was) in
+            sum_by_more (edit_calls region.size) olds i e in_olds ∙ rw (← was) refl in
             let faults : sum_by (faults_of by_device) (take (i + 1) (set replies i reply)) ≡ sum_by (faults_of by_device) (take i replies) + faults_of by_device reply =
             ap (λ (rs : List Reply). sum_by (faults_of by_device) rs) (take_more_set replies i reply in_replies) ∙ sum_by-append (faults_of by_device) (take i replies) (reply ∷ []) ∙ omega arith in
             rw (calls, faults) (search rules);
@@ -131,10 +131,7 @@ module _ {F S : Type 0} (facts : S → Device) where
 
   pub applied_none : (region : Range) (olds : List (Edit S)) (replies : List Reply) (old : Pages F) → length olds ≡ length replies → Applied region olds olds replies 0 old old
   applied_none region olds replies old same = record {
-    after = record {
-      calls = record { no_fewer = omega arith; no_more = omega arith; faults = omega arith; same_honesty = refl; same_length = refl };
-      outside = λ h. record { before = refl; after = refl };
-    };
+    after = search rules;
     as_many = refl;
     replied = sym same;
     others = refl;

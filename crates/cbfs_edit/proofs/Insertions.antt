@@ -189,30 +189,24 @@ room-for size label content wanted place m digest small fits short is is_name is
     let few = hash_short (digest_of label.hash content) in
     search rules
 
--- after any error
-pub on_err : {A E : Type 0} (r : Result A E) (P : Type 0) → P → OnErr r P
-on_err (Ok a) P p = tt
-on_err (Err e) P p = p
-
 -- the end of writes after the content: the content, the run's first header, or the run's end
 -- without four bytes
 finished-last : (z : List ℕ) (place : Place) (end to : ℕ) (metadata : List ℕ) → HasRoom (length z) place end (length metadata) → place.content ≤ to → place.run.end ≤ to + 4 → drop to (with_component z place end metadata) ≡ drop to z
 finished-last z place end to metadata room content last =
     let k = has_metadata z place end metadata room in
-    let at = place.header + held_back place in
+    let IsAlike : List ℕ → Type 0 = λ l. (drop to l ≡ drop to z) × (length l ≡ length z) in
+    let more = λ (l : List ℕ) (at : ℕ) (u : List ℕ) (below : at + length u ≤ to) (inside : at + length u ≤ length z) (is : IsAlike l).
+    (let e : IsAlike (overwritten l at u) = (drop-overwritten l at u to below (omega (arith, is.1, inside)) ∙ is.0, length-overwritten l at u (omega (arith, is.1, inside)) ∙ is.1) in e) in
     let rest : List ℕ = drop (held_back place) metadata in
-    let f : List ℕ = overwritten z at rest in
-    let f_size : length f ≡ length z = length-overwritten z at rest (omega (arith, k.rest_at, k.rest_long, room.content_below, room.cell.inside, room.run.inside)) in
+    let f : List ℕ = overwritten z (place.header + held_back place) rest in
+    let first = more z (place.header + held_back place) rest (omega (arith, k.rest_at, k.rest_long, content)) (omega (arith, k.rest_at, k.rest_long, room.content_below, room.cell.inside, room.run.inside)) (refl, refl) in
     let header : List ℕ = empty_header (place.run.end - end) (place.run.end == length f) in
     let long : length header ≡ header_length = length-empty_header (place.run.end - end) (place.run.end == length f) in
-    let there : end ≤ length f = omega (arith, f_size, room.cell.inside, room.run.inside) in
-    let IsAlike : List ℕ → Type 0 = λ l. (drop to l ≡ drop to z) × (place.run.start ≤ length l) in
-    let first : IsAlike f = (drop-overwritten z at rest to (omega (arith, k.rest_at, k.rest_long, content)) (omega (arith, k.rest_at, k.rest_long, room.content_below, room.cell.inside, room.run.inside)), omega (arith, f_size, room.run.some, room.run.inside)) in
     let second : IsAlike (with_bound f end place.run.end) =
     cond_both (end == place.run.end) f (overwritten f end header) IsAlike (λ e. first)
     (λ e. let fits : end + header_length ≤ place.run.end - 4 = omega (arith, eqb-false end place.run.end e, room.cell.inside, room.cell.end_aligned, room.run.end_aligned) in
-    (drop-overwritten f end header to (omega (arith, long, fits, last)) there ∙ first.0, omega (arith, length-overwritten f end header (omega (arith, long, fits, f_size, room.run.inside)), first.1))) in
-    drop-overwritten (with_bound f end place.run.end) place.run.start (shown_by place metadata) to (omega (arith, k.begin_long, room.start_below, room.metadata_is, room.metadata_long, content)) second.1 ∙ second.0
+    more f end header (omega (arith, long, fits, last)) (omega (arith, long, fits, room.run.inside)) first) in
+    (more (with_bound f end place.run.end) place.run.start (shown_by place metadata) (omega (arith, k.begin_long, room.start_below, room.metadata_is, room.metadata_long, content)) (omega (arith, k.begin_long, room.run.some, room.run.inside)) second).0
 
 module _ (r : Range) (old : List ℕ) (label : Label) (content : List ℕ) (wanted : Wanted) (place : Place) (lies : LiesIn r old) (in_region : Fits wanted r.size place) (short : length label.name.now ≤ 127)
     (is : wanted ≡ wanted_for (component_of_label label content) wanted.spot) where

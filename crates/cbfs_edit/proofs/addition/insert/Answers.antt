@@ -1,12 +1,13 @@
 use Rattle.std.proofs.Common.{rules, arith}
 use Rattle.flash_device.proofs.DeviceLemmas.{honest_still}
-use Rattle.cbfs_edit.proofs.Insertions.{empty_stop, copied_stop, on_err, room-for, shown_stop, shown_added}
+use Rattle.flash_device.proofs.CopyLemmas.{OnErr-from}
+use Rattle.cbfs_edit.proofs.Insertions.{empty_stop, copied_stop, room-for, shown_stop, shown_added}
 use Rattle.cbfs_edit.proofs.addition.insert.Goals as goal
 
 pub returns-in_err-write_empty_entry-clause-stopped : goal.returns-in_err-write_empty_entry-clause-stopped
 returns-in_err-write_empty_entry-clause-stopped g c honest =
     let q = c.requires in
-    on_err c.from_residual.result _ (
+    OnErr-from c.from_residual.result (
     empty_stop c.args.region _ c.args.label.now (g.S.Source.facts c.args.source.now).content c.args.wanted c.args.place q.region.inside q.fits q.name q.wanted
     _ c.write_empty_entry.ensures.after.calls.same_length _ (c.write_empty_entry.ensures.left honest)
     )
@@ -15,7 +16,7 @@ pub returns-in_err-digest-clause-stopped : goal.returns-in_err-digest-clause-sto
 returns-in_err-digest-clause-stopped g c honest =
     let q = c.requires in
     let second = honest_still c.write_empty_entry.ensures.after.calls.same_honesty honest in
-    on_err c.from_residual-in_err-digest.result _ (
+    OnErr-from c.from_residual-in_err-digest.result (
     copied_stop c.args.region _ c.args.label.now (g.S.Source.facts c.args.source.now).content c.args.wanted c.args.place q.region.inside q.fits q.name q.wanted
     _ c.write_empty_entry.ensures.after.calls.same_length _ c.copy_content.ensures.after.after.calls.same_length (c.in_ok-write_empty_entry.ensures.written honest) (c.copy_content.ensures.after.torn second) _
     )
@@ -26,7 +27,7 @@ returns-in_err-describe-clause-stopped g c honest =
     let m = c.meta_of-meta in
     let second = honest_still c.write_empty_entry.ensures.after.calls.same_honesty honest in
     let third = honest_still c.copy_content.ensures.after.after.calls.same_honesty second in
-    on_err c.from_residual-in_err-describe.result _ (
+    OnErr-from c.from_residual-in_err-describe.result (
     shown_stop c.args.region _ c.args.label.now (g.S.Source.facts c.args.source.now).content c.args.wanted c.args.place q.region.inside q.fits q.name q.wanted
     _ c.write_empty_entry.ensures.after.calls.same_length _ c.copy_content.ensures.after.after.calls.same_length (c.in_ok-write_empty_entry.ensures.written honest) (c.copy_content.ensures.after.torn second)
     m.result c.in_ok-digest.digest m.ensures.name m.ensures.kind m.ensures.digest m.ensures.gap m.ensures.len (c.in_ok-digest.ensures.digest_len _) c.describe.ensures.metadata q.region.below
