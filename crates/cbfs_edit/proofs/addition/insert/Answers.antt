@@ -48,7 +48,4 @@ returns-clause-added g c honest source_honest =
     (c.in_ok-digest.ensures.digest source_honest) (c.in_ok-digest.ensures.after.copied second source_honest) (c.in_ok-describe.ensures.after.written third)
 
 pub describe-requires-clause-room : goal.describe-requires-clause-room
-describe-requires-clause-room g c =
-    let q = c.requires in
-    let m = c.meta_of-meta in
-    room-for c.args.region.size c.args.label.now (g.S.Source.facts c.args.source.now).content c.args.wanted c.args.place m.result c.in_ok-digest.digest (omega (arith, q.region.inside, q.region.below)) q.fits q.name q.wanted m.ensures.name m.ensures.digest m.ensures.gap (c.in_ok-digest.ensures.digest_len _)
+describe-requires-clause-room g c = search (rules, room-for)

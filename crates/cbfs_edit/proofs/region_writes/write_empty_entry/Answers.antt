@@ -6,9 +6,7 @@ use Rattle.cbfs_edit.proofs.EmptyEntries.{commit_left, fill_done, fill_left, sam
 use Rattle.cbfs_edit.proofs.region_writes.write_empty_entry.Goals as goal
 
 pub returns-in_err-commit_in : goal.returns-in_err-commit_in
-returns-in_err-commit_in g c =
-    let left = λ (honest : IsTrue c.args.paged.now.device.honest). commit_left c.args.region c.args.group _ c.empty_header-header.result c.size.result c.requires.region.inside c.requires.group c.size.ensures c.empty_header-header.ensures _ (c.commit_in.ensures.left honest) in
-    record { after = search rules; written = search rules; left = left }
+returns-in_err-commit_in g c = search (rules, commit_left)
 
 pub returns : goal.returns
 returns g c =
