@@ -51,25 +51,22 @@ pub removal_leaves : (r : Range) (name : List ℕ) (group : CellRange) (old mid 
     → (let a : Result CellRange EditFault = Ok group in IsErrOf a faults.Device ⊎ (a ≡ removal_in (bytes_in r old) name))
     → IsOldOrEmptied group (space_end r.size group.end) (bytes_in r mid) (bytes_in r new) → LeavesWhole (bytes_in r old) name (bytes_in r new)
 removal_leaves r name group old mid new lies small same (inl e) stop = absurd cc
-removal_leaves r name group old mid new lies small same (inr e) stop = left (rw same at stop)
-  where
-    left : IsOldOrEmptied group (space_end r.size group.end) (bytes_in r old) (bytes_in r new) → LeavesWhole (bytes_in r old) name (bytes_in r new)
-    left (inl unchanged) = inl unchanged
-    left (inr emptied) =
-        let x : List ℕ = bytes_in r old in
-        let y : List ℕ = bytes_in r new in
-        let size : length x ≡ r.size = length-bytes_in r old lies in
-        let is : IsAccepted x name group = accepted x name group (sym e) in
-        let to = space_end r.size group.end in
-        let near = space_end-near r.size group.end in
-        let whole = emptied-wider x group is.range to y emptied group.end near.0 in
-        let x_small : length x < 2 ^ 32 = omega (arith, size, lies, small) in
-        inr (
-          group,
-          sym e,
-          emptied-stopped x group is.range to y emptied (removed x group) (length x - 4) (omega (arith, near.1, is.range.some)) near.0 (omega (arith, size, space_end-below r.size group.end (omega (arith, size, is.range.inside)) is.range.end_aligned (omega (arith, size, is.whole))))
-              (inr (emptied-same x group is.range y whole is.cells x_small).components) (emptied-end x group is.range y whole is.cells x_small),
-        )
+removal_leaves r name group old mid new lies small same (inr e) (inl unchanged) = inl (unchanged ∙ ap (λ (l : List ℕ). bytes_in r l) same)
+removal_leaves r name group old mid new lies small same (inr e) (inr stop) =
+    let emptied = rw same at stop in
+    let x : List ℕ = bytes_in r old in
+    let y : List ℕ = bytes_in r new in
+    let size : length x ≡ r.size = length-bytes_in r old lies in
+    let is : IsAccepted x name group = accepted x name group (sym e) in
+    let near = space_end-near r.size group.end in
+    let whole = emptied-wider x group is.range (space_end r.size group.end) y emptied group.end near.0 in
+    let x_small : length x < 2 ^ 32 = omega (arith, size, lies, small) in
+    inr (
+      group,
+      sym e,
+      emptied-stopped x group is.range (space_end r.size group.end) y emptied (removed x group) (length x - 4) (omega (arith, near.1, is.range.some)) near.0 (omega (arith, size, space_end-below r.size group.end (omega (arith, size, is.range.inside)) is.range.end_aligned (omega (arith, size, is.whole))))
+          (inr (emptied-same x group is.range y whole is.cells x_small).components) (emptied-end x group is.range y whole is.cells x_small),
+    )
 
 -- the image after a change of its region
 pub image_of : (r : Range) (u old mid new : List ℕ) → LiesIn r old → mid ≡ old → length new ≡ length mid → SameOutside r.start r.size mid new → bytes_in r new ≡ u → new ≡ overwritten old r.start u
