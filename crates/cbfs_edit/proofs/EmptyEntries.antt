@@ -201,28 +201,22 @@ module _ (r : Range) (group : CellRange) (old header : List ℕ) (told : ℕ) (l
   a_header : header ≡ empty_header (group.end - group.start) (group.end == length x)
   a_header = is_header ∙ ap (λ n. empty_header (group.end - group.start) (group.end == n)) (is_told ∙ sym long)
 
-  abbrev upto : ℕ
-  upto = space_end r.size group.end
-
-  committed : (y : List ℕ) → y ≡ overwritten x group.start header → IsEmptied group upto x y
+  committed : (y : List ℕ) → y ≡ overwritten x group.start header → IsEmptied group (space_end r.size group.end) x y
   committed y is =
-      subst (λ (l : List ℕ). IsEmptied group upto x l) (sym (is ∙ ap (λ (h : List ℕ). overwritten x group.start h) a_header)) (emptied-commit x group range upto)
+      subst (λ (l : List ℕ). IsEmptied group (space_end r.size group.end) x l) (sym (is ∙ ap (λ (h : List ℕ). overwritten x group.start h) a_header)) (emptied-commit x group range (space_end r.size group.end))
 
   -- a refused commit is complete or absent
-  pub commit_left : (y : List ℕ) → (y ≡ x) ⊎ (y ≡ overwritten x group.start header) → IsOldOrEmptied group upto x y
+  pub commit_left : (y : List ℕ) → (y ≡ x) ⊎ (y ≡ overwritten x group.start header) → IsOldOrEmptied group (space_end r.size group.end) x y
   commit_left y (inl same) = inl same
   commit_left y (inr is) = inr (committed y is)
 
-  module _ (y z : List ℕ) (n : ℕ) (is : y ≡ overwritten x group.start header) (is_n : n ≡ upto - (group.start + header_length)) where
+  module _ (y z : List ℕ) (n : ℕ) (is : y ≡ overwritten x group.start header) (is_n : n ≡ (space_end r.size group.end) - (group.start + header_length)) where
     -- any change of the empty entry's space
-    pub fill_left : length z ≡ length y → SameOutside (group.start + header_length) n y z → IsOldOrEmptied group upto x z
+    pub fill_left : length z ≡ length y → SameOutside (group.start + header_length) n y z → IsOldOrEmptied group (space_end r.size group.end) x z
     fill_left size same =
-        inr (emptied-write x group range upto y (committed y is) z (group.start + header_length) n size (omega arith) (omega (arith, is_n, (space_end-near r.size group.end).1, range.some)) same)
+        inr (emptied-write x group range (space_end r.size group.end) y (committed y is) z (group.start + header_length) n size (omega arith) (omega (arith, is_n, (space_end-near r.size group.end).1, range.some)) same)
 
     pub fill_done : z ≡ overwritten y (group.start + header_length) (replicate n 0xff) → z ≡ removed x group
     fill_done at =
-        at
-        ∙ ap (λ (l : List ℕ). overwritten l (group.start + header_length) (replicate n 0xff)) (is ∙ ap (λ (h : List ℕ). overwritten x group.start h) a_header)
-        ∙ ap (λ k. overwritten (overwritten x group.start (empty_header (group.end - group.start) (group.end == length x))) (group.start + header_length) (replicate k 0xff))
-        (is_n ∙ ap (λ k. space_end k group.end - (group.start + header_length)) (sym long))
-        ∙ filled x group range
+        let is_space : n ≡ space_end (length x) group.end - (group.start + header_length) = is_n ∙ ap (λ k. space_end k group.end - (group.start + header_length)) (sym long) in
+        at ∙ rw (is, a_header, is_space) (filled x group range)

@@ -37,19 +37,10 @@ pub record HasMetadata (x : List ℕ) (place : Place) (metadata : List ℕ) : Ty
   pub room : place.run.start + header_length + space + 4 ≤ place.run.end
 
 module _ (x : List ℕ) (place : Place) (end : ℕ) (metadata : List ℕ) (room : HasRoom (length x) place end (length metadata)) where
-  abbrev s : ℕ
-  s = place.run.start
-
-  abbrev h : ℕ
-  h = place.header
-
-  abbrev e : ℕ
-  e = place.run.end
-
-  at_start : h ≡ s → HasMetadata x place metadata
+  at_start : place.header ≡ place.run.start → HasMetadata x place metadata
   at_start same =
-      let here : (h == s) ≡ true = eq-eqb h s same in
-      let none : (s == h) ≡ true = eq-eqb s h (sym same) in
+      let here : (place.header == place.run.start) ≡ true = eq-eqb place.header place.run.start same in
+      let none : (place.run.start == place.header) ≡ true = eq-eqb place.run.start place.header (sym same) in
       record {
         space = 0;
         rest_at = rw here (omega arith);
@@ -59,115 +50,115 @@ module _ (x : List ℕ) (place : Place) (end : ℕ) (metadata : List ℕ) (room 
         room = omega (arith, room.run.some);
       }
 
-  later : (h ≡ s → ⊥) → HasMetadata x place metadata
+  later : (place.header ≡ place.run.start → ⊥) → HasMetadata x place metadata
   later other =
-      let apart : s + 64 ≤ h = omega (arith, other, room.start_below, room.run.start_aligned, room.cell.start_aligned) in
-      let there : (h == s) ≡ false = ne_eqb h s other in
-      let some : (s == h) ≡ false = ne_eqb s h (λ q. absurd (omega (arith, q, apart))) in
-      let nothing : kept_at x h ≡ None = kept-none x h (omega (arith, room.metadata_is, room.metadata_long, room.content_below, room.cell.inside, room.run.inside)) in
+      let apart : place.run.start + 64 ≤ place.header = omega (arith, other, room.start_below, room.run.start_aligned, room.cell.start_aligned) in
+      let there : (place.header == place.run.start) ≡ false = ne_eqb place.header place.run.start other in
+      let some : (place.run.start == place.header) ≡ false = ne_eqb place.run.start place.header (λ q. absurd (omega (arith, q, apart))) in
+      let nothing : kept_at x place.header ≡ None = kept-none x place.header (omega (arith, room.metadata_is, room.metadata_long, room.content_below, room.cell.inside, room.run.inside)) in
       record {
-        space = h - s - header_length;
+        space = place.header - place.run.start - header_length;
         rest_at = rw there (omega (arith, apart));
-        begin_long = rw there (length-empty_header (h - s) false);
+        begin_long = rw there (length-empty_header (place.header - place.run.start) false);
         rest_long = rw there (omega (arith, room.metadata_is, apart));
-        whole = rw (there, some, nothing) (sym (append_assoc (empty_header (h - s) false) (replicate (h - s - header_length) 0xff) metadata));
+        whole = rw (there, some, nothing) (sym (append_assoc (empty_header (place.header - place.run.start) false) (replicate (place.header - place.run.start - header_length) 0xff) metadata));
         room = omega (arith, apart, room.metadata_is, room.metadata_long, room.content_below, room.cell.inside);
       }
 
   pub has_metadata : HasMetadata x place metadata
-  has_metadata = ⊎_elim at_start later (cases_eq h s)
+  has_metadata = ⊎_elim at_start later (cases_eq place.header place.run.start)
 
   module _ (content : List ℕ) (fits : place.content + length content ≤ end) where
     abbrev d : ℕ
     d = place.content + length content
 
     abbrev last : Option (List ℕ)
-    last = kept_at x e
+    last = kept_at x place.run.end
 
     abbrev tail : List ℕ
-    tail = padding (e - d) last
+    tail = padding (place.run.end - d) last
 
     four : KeepsFour last
-    four = keeps x e (omega (arith, room.run.some, room.run.inside))
+    four = keeps x place.run.end (omega (arith, room.run.some, room.run.inside))
 
     -- the header of the empty entry after the component, if any
     abbrev after : List ℕ
-    after = padding (end - d) (kept_at x end) ++ empty_between x end e
+    after = padding (end - d) (kept_at x end) ++ empty_between x end place.run.end
 
-    bound_same : (y : List ℕ) (p : List ℕ) → end ≡ e → y ≡ overwritten x s (p ++ tail) → with_bound y end e ≡ overwritten x s (p ++ after)
+    bound_same : (y : List ℕ) (p : List ℕ) → end ≡ place.run.end → y ≡ overwritten x place.run.start (p ++ tail) → with_bound y end place.run.end ≡ overwritten x place.run.start (p ++ after)
     bound_same y p same is =
-        let here : (end == e) ≡ true = eq-eqb end e same in
-        rw here (is ∙ ap (λ k. overwritten x s (p ++ padding (k - d) (kept_at x k))) (sym same) ∙ ap (λ (l : List ℕ). overwritten x s (p ++ l)) (sym (append-nil (padding (end - d) (kept_at x end)))))
+        let here : (end == place.run.end) ≡ true = eq-eqb end place.run.end same in
+        rw here (is ∙ ap (λ k. overwritten x place.run.start (p ++ padding (k - d) (kept_at x k))) (sym same) ∙ ap (λ (l : List ℕ). overwritten x place.run.start (p ++ l)) (sym (append-nil (padding (end - d) (kept_at x end)))))
 
-    bound_other : (y : List ℕ) (p : List ℕ) → length p ≡ d - s → (end ≡ e → ⊥) → y ≡ overwritten x s (p ++ tail) → with_bound y end e ≡ overwritten x s (p ++ after)
+    bound_other : (y : List ℕ) (p : List ℕ) → length p ≡ d - place.run.start → (end ≡ place.run.end → ⊥) → y ≡ overwritten x place.run.start (p ++ tail) → with_bound y end place.run.end ≡ overwritten x place.run.start (p ++ after)
     bound_other y p long other is =
-        let apart : end + 64 ≤ e = omega (arith, other, room.cell.inside, room.cell.end_aligned, room.run.end_aligned) in
-        let n = e - end - header_length in
+        let apart : end + 64 ≤ place.run.end = omega (arith, other, room.cell.inside, room.cell.end_aligned, room.run.end_aligned) in
+        let n = place.run.end - end - header_length in
         let gap : List ℕ = replicate (end - d) 0xff in
         let rest : List ℕ = padding (header_length + n) last in
-        let tail_is : tail ≡ gap ++ rest = (let sum : e - d ≡ (end - d) + (header_length + n) = omega (arith, apart, fits) in ap (λ k. padding k last) sum) ∙ padding-begins (end - d) (header_length + n) last (omega arith) in
-        let total : length (p ++ tail) ≡ e - s = omega (arith, length-append p tail, length-padding (e - d) last four, long, fits, apart, room.content_below, room.metadata_is, room.start_below) in
-        let same_size : length y ≡ length x = ap length is ∙ length-overwritten x s (p ++ tail) (omega (arith, total, room.run.some, room.run.inside)) in
-        let header : List ℕ = empty_header (e - end) (e == length y) in
-        let header_long : length header ≡ header_length = length-empty_header (e - end) (e == length y) in
-        let header_is : header ≡ empty_header (e - end) (is_some last) =
-        ap (λ k. empty_header (e - end) (e == k)) same_size ∙ ap (λ b. empty_header (e - end) b) (sym (is_some-cond (e == length x) (last_four x))) in
+        let tail_is : tail ≡ gap ++ rest = (let sum : place.run.end - d ≡ (end - d) + (header_length + n) = omega (arith, apart, fits) in ap (λ k. padding k last) sum) ∙ padding-begins (end - d) (header_length + n) last (omega arith) in
+        let total : length (p ++ tail) ≡ place.run.end - place.run.start = omega (arith, length-append p tail, length-padding (place.run.end - d) last four, long, fits, apart, room.content_below, room.metadata_is, room.start_below) in
+        let same_size : length y ≡ length x = ap length is ∙ length-overwritten x place.run.start (p ++ tail) (omega (arith, total, room.run.some, room.run.inside)) in
+        let header : List ℕ = empty_header (place.run.end - end) (place.run.end == length y) in
+        let header_long : length header ≡ header_length = length-empty_header (place.run.end - end) (place.run.end == length y) in
+        let header_is : header ≡ empty_header (place.run.end - end) (is_some last) =
+        ap (λ k. empty_header (place.run.end - end) (place.run.end == k)) same_size ∙ ap (λ b. empty_header (place.run.end - end) b) (sym (is_some-cond (place.run.end == length x) (last_four x))) in
         let nothing : kept_at x end ≡ None = kept-none x end (omega (arith, apart, room.run.inside)) in
-        let there : (end == e) ≡ false = ne_eqb end e other in
+        let there : (end == place.run.end) ≡ false = ne_eqb end place.run.end other in
         rw (there, nothing) (
-        ap (λ (l : List ℕ). overwritten l end header) (is ∙ ap (λ (l : List ℕ). overwritten x s (p ++ l)) tail_is ∙ ap (λ (l : List ℕ). overwritten x s l) (sym (append_assoc p gap rest)))
-        ∙ over_part x s (p ++ gap) rest header (padding n last) end (omega (arith, room.run.some, room.run.inside))
+        ap (λ (l : List ℕ). overwritten l end header) (is ∙ ap (λ (l : List ℕ). overwritten x place.run.start (p ++ l)) tail_is ∙ ap (λ (l : List ℕ). overwritten x place.run.start l) (sym (append_assoc p gap rest)))
+        ∙ over_part x place.run.start (p ++ gap) rest header (padding n last) end (omega (arith, room.run.some, room.run.inside))
         (omega (arith, length-append p gap, length-replicate {A = ℕ} (end - d) 0xff, long, fits, room.content_below, room.metadata_is, room.start_below))
         (omega (arith, header_long, length-padding (header_length + n) last four)) (ap (λ k. drop k rest) header_long ∙ drop-padding header_length n last)
-        ∙ ap (λ (l : List ℕ). overwritten x s ((p ++ gap) ++ (l ++ padding n last))) header_is
-        ∙ ap (λ (l : List ℕ). overwritten x s l) (append_assoc p gap (empty_entry (e - end) last))
+        ∙ ap (λ (l : List ℕ). overwritten x place.run.start ((p ++ gap) ++ (l ++ padding n last))) header_is
+        ∙ ap (λ (l : List ℕ). overwritten x place.run.start l) (append_assoc p gap (empty_entry (place.run.end - end) last))
         )
 
-    bound : (y : List ℕ) (p : List ℕ) → length p ≡ d - s → y ≡ overwritten x s (p ++ tail) → with_bound y end e ≡ overwritten x s (p ++ after)
-    bound y p long is = ⊎_elim (λ same. bound_same y p same is) (λ other. bound_other y p long other is) (cases_eq end e)
+    bound : (y : List ℕ) (p : List ℕ) → length p ≡ d - place.run.start → y ≡ overwritten x place.run.start (p ++ tail) → with_bound y end place.run.end ≡ overwritten x place.run.start (p ++ after)
+    bound y p long is = ⊎_elim (λ same. bound_same y p same is) (λ other. bound_other y p long other is) (cases_eq end place.run.end)
 
     -- all writes
     pub inserted : with_component (overwritten (removed x place.run) place.content content) place end metadata
-        ≡ overwritten x s (empty_between x s h ++ ((metadata ++ content) ++ after))
+        ≡ overwritten x place.run.start (empty_between x place.run.start place.header ++ ((metadata ++ content) ++ after))
     inserted =
         let f = has_metadata in
         let g = f.space in
         let d1 : List ℕ = drop (held_back place) metadata in
         let v = length d1 in
-        let b = v + (length content + (e - d)) in
-        let size = e - s in
+        let b = v + (length content + (place.run.end - d)) in
+        let size = place.run.end - place.run.start in
         let header : List ℕ = empty_header size (is_some last) in
         let space : List ℕ = replicate g 0xff in
         let part : List ℕ = take v (padding b last) in
-        let rest : List ℕ = padding (length content + (e - d)) last in
+        let rest : List ℕ = padding (length content + (place.run.end - d)) last in
         let begin : List ℕ = shown_by place metadata in
         let sum : size - header_length ≡ g + b = omega (arith, f.rest_long, f.room, fits, room.cell.inside, room.run.some) in
         let pad : padding (size - header_length) last ≡ space ++ (part ++ rest) =
         ap (λ k. padding k last) sum
         ∙ padding-begins g b last (omega (arith, sum, f.room, room.run.some))
-        ∙ ap (λ (l : List ℕ). space ++ l) (sym (take-append-drop v (padding b last)) ∙ ap (λ (l : List ℕ). part ++ l) (drop-padding v (length content + (e - d)) last)) in
+        ∙ ap (λ (l : List ℕ). space ++ l) (sym (take-append-drop v (padding b last)) ∙ ap (λ (l : List ℕ). part ++ l) (drop-padding v (length content + (place.run.end - d)) last)) in
         let part_long : length part ≡ v = length-take-le v (padding b last) (omega (arith, length-padding b last four)) in
-        let rest_long = length-padding (length content + (e - d)) last four in
+        let rest_long = length-padding (length content + (place.run.end - d)) last four in
         let header_long : length header ≡ header_length = length-empty_header size (is_some last) in
         let space_long : length space ≡ g = length-replicate {A = ℕ} g 0xff in
-        let inside : s ≤ length x = omega (arith, room.run.some, room.run.inside) in
-        let copied : overwritten (removed x place.run) place.content content ≡ overwritten x s ((header ++ (space ++ part)) ++ (content ++ tail)) =
-        ap (λ (l : List ℕ). overwritten l place.content content) (ap (λ (l : List ℕ). overwritten x s (header ++ l)) pad ∙ ap (λ (l : List ℕ). overwritten x s l) (simp append_assoc))
-        ∙ over_part x s (header ++ (space ++ part)) rest content tail place.content inside
-        (omega (arith, length-append header (space ++ part), length-append space part, header_long, space_long, part_long, f.rest_long)) (omega (arith, rest_long)) (drop-padding (length content) (e - d) last) in
-        let described : with_metadata (overwritten (removed x place.run) place.content content) place metadata ≡ overwritten x s ((header ++ space) ++ (d1 ++ (content ++ tail))) =
-        ap (λ (l : List ℕ). with_metadata l place metadata) (copied ∙ ap (λ (l : List ℕ). overwritten x s l) (simp append_assoc))
-        ∙ over_part x s (header ++ space) (part ++ (content ++ tail)) d1 (content ++ tail) (place.header + held_back place) inside
+        let inside : place.run.start ≤ length x = omega (arith, room.run.some, room.run.inside) in
+        let copied : overwritten (removed x place.run) place.content content ≡ overwritten x place.run.start ((header ++ (space ++ part)) ++ (content ++ tail)) =
+        ap (λ (l : List ℕ). overwritten l place.content content) (ap (λ (l : List ℕ). overwritten x place.run.start (header ++ l)) pad ∙ ap (λ (l : List ℕ). overwritten x place.run.start l) (simp append_assoc))
+        ∙ over_part x place.run.start (header ++ (space ++ part)) rest content tail place.content inside
+        (omega (arith, length-append header (space ++ part), length-append space part, header_long, space_long, part_long, f.rest_long)) (omega (arith, rest_long)) (drop-padding (length content) (place.run.end - d) last) in
+        let described : with_metadata (overwritten (removed x place.run) place.content content) place metadata ≡ overwritten x place.run.start ((header ++ space) ++ (d1 ++ (content ++ tail))) =
+        ap (λ (l : List ℕ). with_metadata l place metadata) (copied ∙ ap (λ (l : List ℕ). overwritten x place.run.start l) (simp append_assoc))
+        ∙ over_part x place.run.start (header ++ space) (part ++ (content ++ tail)) d1 (content ++ tail) (place.header + held_back place) inside
         (omega (arith, length-append header space, header_long, space_long, f.rest_at)) (omega (arith, part_long, length-append part (content ++ tail))) (drop_at part (content ++ tail) v part_long) in
         let p : List ℕ = header ++ (space ++ (d1 ++ content)) in
-        let p_long : length p ≡ d - s =
+        let p_long : length p ≡ d - place.run.start =
         omega (arith, length-append header (space ++ (d1 ++ content)), length-append space (d1 ++ content), length-append d1 content, header_long, space_long, f.rest_long) in
         let behind : List ℕ = (space ++ (d1 ++ content)) ++ after in
-        ap (λ (l : List ℕ). overwritten l s begin) (bound _ p p_long (described ∙ ap (λ (l : List ℕ). overwritten x s l) (simp append_assoc)) ∙ ap (λ (l : List ℕ). overwritten x s l) (append_assoc header (space ++ (d1 ++ content)) after))
-        ∙ over_part x s [] (header ++ behind) begin behind s inside (omega arith) (omega (arith, f.begin_long, header_long, length-append header behind)) (drop_at header behind (length begin) (header_long ∙ sym f.begin_long))
-        ∙ ap (λ (l : List ℕ). overwritten x s l) (let e1 : begin ++ behind ≡ (begin ++ (space ++ d1)) ++ (content ++ after) = simp append_assoc in e1)
-        ∙ ap (λ (l : List ℕ). overwritten x s (l ++ (content ++ after))) f.whole
-        ∙ ap (λ (l : List ℕ). overwritten x s l) (simp append_assoc)
+        ap (λ (l : List ℕ). overwritten l place.run.start begin) (bound _ p p_long (described ∙ ap (λ (l : List ℕ). overwritten x place.run.start l) (simp append_assoc)) ∙ ap (λ (l : List ℕ). overwritten x place.run.start l) (append_assoc header (space ++ (d1 ++ content)) after))
+        ∙ over_part x place.run.start [] (header ++ behind) begin behind place.run.start inside (omega arith) (omega (arith, f.begin_long, header_long, length-append header behind)) (drop_at header behind (length begin) (header_long ∙ sym f.begin_long))
+        ∙ ap (λ (l : List ℕ). overwritten x place.run.start l) (let e1 : begin ++ behind ≡ (begin ++ (space ++ d1)) ++ (content ++ after) = simp append_assoc in e1)
+        ∙ ap (λ (l : List ℕ). overwritten x place.run.start (l ++ (content ++ after))) f.whole
+        ∙ ap (λ (l : List ℕ). overwritten x place.run.start l) (simp append_assoc)
 
 -- ---- the stages: the empty entry over the run, the content, the metadata with the last commit
 
