@@ -1,14 +1,14 @@
 //! The search for a removal's cells.
 ghost use Rattle.std.specs.Prelude.{◌≡◌, ◌⊎◌, ℕ, ◌+◌, ◌/◌, ◌<◌, ◌≤◌, List, [], ◌∷◌, IfOk, IfErr};
-ghost use Rattle.std.specs.Prelude.{IsErrOf};
+ghost use Rattle.std.specs.Prelude.{⊤};
 ghost use Rattle.flash_device.specs.Device.{fault_count};
 ghost use Rattle.flash_device.specs.Pages.{HasRead, HasAnswered, OnHonestIn};
 ghost use Rattle.flash_device.specs.Regions.{LiesOn};
 ghost use Rattle.cbfs_walk.specs.Cells.{IsCellOn, IsCellIn, cell_in};
 ghost use Rattle.cbfs_walk.specs.Walks.{StandsIn};
 ghost use Rattle.cbfs_edit.specs.Removals.{IsCellRange, removal_in};
-ghost use Rattle.cbfs_edit.specs.Changes.{by_device};
-ghost use Rattle.cbfs_edit.specs.Searches.{group_by, IsBefore};
+ghost use Rattle.cbfs_edit.specs.Changes.{by_fault};
+ghost use Rattle.cbfs_edit.specs.Searches.{group_by, HasSearched, IsBefore};
 
 use crate::fault::EditFault;
 use cbfs_walk::{Cell, Step, Walk, cells_stand_in_their_image, name_is};
@@ -43,13 +43,8 @@ pub fn find_group<F: Flash>(
 ) -> Result<CellRange, EditFault>
     requires { LiesOn region paged.old.device }
 
-    ensures after { HasRead (region.size / 16 + 1) (fault_count by_device result)
-        paged.old paged.new }
-    ensures no_source { IsErrOf result EditFault.Source → ⊥ }
-    ensures group { IfOk result (λ group. IsCellRange group region.size) }
-
-    ensures answer { OnHonestIn paged.old.device region (λ x.
-        IsErrOf result EditFault.Device ⊎ (result ≡ removal_in x name.now)) }
+    ensures { HasSearched region (λ group. IsCellRange group region.size)
+        (λ x. removal_in x name.now) paged.old paged.new result }
 {
     let mut walk = Walk::new(region);
     let mut search = Search::Looking { start: 0 };
@@ -110,7 +105,7 @@ fn group_in(search: Search) -> Result<CellRange, EditFault>
     ensures is { (name : List ℕ) (at : ℕ) → result ≡ group_by name search at [] }
     ensures group { IfOk result (λ group.
         (at size : ℕ) → IsBefore at search → at ≤ size → IsCellRange group size) }
-    ensures fault { IfErr result (λ fault. fault ≡ EditFault.NotFound) }
+    ensures fault { IfErr result (λ fault. by_fault fault ⊥ ⊥ ⊤) }
 {
     match search {
         Search::Looking { .. } => Err(EditFault::NotFound),
