@@ -56,15 +56,15 @@ pub record HasWrittenIn {F T E : Type 0} (region : Range) (n : ℕ)
 
 -- A copy of a source into a region. `copied` and `torn` require an honest device, `copied` also an
 -- honest source.
-pub record HasCopied {F T : Type 0} (region : Range) (at : ℕ)
-    (old new : Pages F) (input input_now : Device) (result : Result T CopyInFault) : Type 0 where
-  pub after : HasChanged region ((length input.content + 4095) / 4096)
+pub record HasCopied {F S T : Type 0} (facts : S → Device) (region : Range) (at : ℕ)
+    (old new : Pages F) (input input_now : S) (result : Result T CopyInFault) : Type 0 where
+  pub after : HasChanged region ((length (facts input).content + 4095) / 4096)
       (stop_count by_device result) old new
-  pub source : Reads ((length input.content + 4095) / 4096) (stop_count by_source result)
-      input input_now
+  pub source : Reads ((length (facts input).content + 4095) / 4096) (stop_count by_source result)
+      (facts input) (facts input_now)
   pub copied : OnHonestChange region old new (λ x y.
-      IsTrue input.honest → OnOk result (y ≡ overwritten x at input.content))
-  pub torn : OnHonestChange region old new (SameOutside at (length input.content))
+      IsTrue (facts input).honest → OnOk result (y ≡ overwritten x at (facts input).content))
+  pub torn : OnHonestChange region old new (SameOutside at (length (facts input).content))
 
 -- between the commits of an edit: an empty entry's header over the group, then arbitrary bytes up
 -- to `to`

@@ -88,8 +88,7 @@ fn copy_content<F: Flash, S: Source>(
 ) -> Result<Option<Digest>, CopyInFault>
     requires { Reaches region (at + length (S.facts source.old).content) paged.old.device }
 
-    ensures after { HasCopied region at paged.old paged.new (S.facts source.old)
-        (S.facts source.new) result }
+    ensures after { HasCopied S.facts region at paged.old paged.new source.old source.new result }
     ensures digest_len { IfOk result (λ digest.
         (content : List ℕ) → hash_len digest ≡ hash_len (digest_of hash content)) }
 
@@ -121,8 +120,7 @@ fn copy_hashed<F: Flash, S: Source, H: sha2::Digest>(
 ) -> Result<H::Output, CopyInFault>
     requires { Reaches region (at + length (S.facts source.old).content) paged.old.device }
 
-    ensures after { HasCopied region at paged.old paged.new (S.facts source.old)
-        (S.facts source.new) result }
+    ensures after { HasCopied S.facts region at paged.old paged.new source.old source.new result }
 
     // For an honest source.
     ensures digest { IsTrue (S.facts source.old).honest →

@@ -53,8 +53,7 @@ pub fn copy_into<F: Flash, S: Source, W: Watch>(
 ) -> Result<(), CopyInFault>
     requires { Reaches region (at + length (S.facts source.old).content) paged.old.device }
 
-    ensures after { HasCopied region at paged.old paged.new (S.facts source.old)
-        (S.facts source.new) result }
+    ensures after { HasCopied S.facts region at paged.old paged.new source.old source.new result }
 
     // For an honest source.
     ensures shown { IsTrue (S.facts source.old).honest → (seen : List ℕ) → W.saw watch.old seen →
