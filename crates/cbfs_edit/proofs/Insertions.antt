@@ -36,7 +36,7 @@ pub record HasMetadata (x : List ℕ) (place : Place) (metadata : List ℕ) : Ty
   pub whole : shown_by place metadata ++ (replicate space 0xff ++ drop (held_back place) metadata) ≡ empty_between x place.run.start place.header ++ metadata
   pub room : place.run.start + header_length + space + 4 ≤ place.run.end
 
-module _ (x : List ℕ) (place : Place) (end : ℕ) (metadata : List ℕ) (room : HasRoom (length x) place end (length metadata)) where
+module _ (x : List ℕ) (place : Place) (end : ℕ) (metadata : List ℕ) (room : HasRoom place end (length metadata) (length x)) where
   at_start : place.header ≡ place.run.start → HasMetadata x place metadata
   at_start same =
       let here : (place.header == place.run.start) ≡ true = eq-eqb place.header place.run.start same in
@@ -173,7 +173,7 @@ described-is m name kind digest gap n is_name is_kind is_digest is_gap is_len = 
 -- room for the metadata
 pub room-for : (size : ℕ) (label : Label) (content : List ℕ) (wanted : Wanted) (place : Place) (m : Meta) (digest : Option Digest) → size < 2 ^ 32 → Fits wanted size place → length label.name.now ≤ 127
     → wanted ≡ wanted_for (component_of_label label content) wanted.spot → m.name.now ≡ label.name.now → option_copied m.digest ≡ digest → m.gap ≡ place.content - place.header - wanted.metadata_len → hash_len digest ≡ hash_len (digest_of label.hash content)
-    → HasRoom size place (round64 (place.content + wanted.len)) (described_len m)
+    → HasRoom place (round64 (place.content + wanted.len)) (described_len m) size
 room-for size label content wanted place m digest small fits short is is_name is_digest is_gap digest_len =
     let header : wanted.metadata_len ≡ metadata_len_of (component_of_label label content) = ap (λ (w : Wanted). w.metadata_len) is in
     let long : described_len m ≡ wanted.metadata_len + (place.content - place.header - wanted.metadata_len) = rw (is_name, is_digest, is_gap, digest_len, header) refl in
@@ -182,7 +182,7 @@ room-for size label content wanted place m digest small fits short is is_name is
 
 -- the end of writes after the content: the content, the run's first header, or the run's end
 -- without four bytes
-finished-last : (z : List ℕ) (place : Place) (end to : ℕ) (metadata : List ℕ) → HasRoom (length z) place end (length metadata) → place.content ≤ to → place.run.end ≤ to + 4 → drop to (with_component z place end metadata) ≡ drop to z
+finished-last : (z : List ℕ) (place : Place) (end to : ℕ) (metadata : List ℕ) → HasRoom place end (length metadata) (length z) → place.content ≤ to → place.run.end ≤ to + 4 → drop to (with_component z place end metadata) ≡ drop to z
 finished-last z place end to metadata room content last =
     let k = has_metadata z place end metadata room in
     let IsAlike : List ℕ → Type 0 = λ l. (drop to l ≡ drop to z) × (length l ≡ length z) in
@@ -258,8 +258,8 @@ module _ (r : Range) (old : List ℕ) (label : Label) (content : List ℕ) (want
         abbrev end : ℕ
         end = round64 (place.content + wanted.len)
 
-        room : HasRoom (length x) place end (length metadata)
-        room = subst (λ n. HasRoom (length x) place end n) (sym metadata_len) (room-for (length x) label content wanted place meta digest (omega (arith, size, lies, small)) fits short is is_name is_digest is_gap digest_len)
+        room : HasRoom place end (length metadata) (length x)
+        room = subst (λ n. HasRoom place end n (length x)) (sym metadata_len) (room-for (length x) label content wanted place meta digest (omega (arith, size, lies, small)) fits short is is_name is_digest is_gap digest_len)
 
         module _ (shown : List ℕ) (shown_long : length shown ≡ length copied) where
           abbrev w : List ℕ
@@ -290,7 +290,7 @@ module _ (r : Range) (old : List ℕ) (label : Label) (content : List ℕ) (want
           shown_stop Sound Honest sound digest_is second (inl third) =
               let behind : run.start + header_length ≤ to = omega (arith, near.1, fits.run.some) in
               let first = further x z (run.start + (to - run.start)) to (omega (arith, behind)) (emptied-outside x run fits.run to z copied_emptied behind).after in
-              let last = finished-last z place end to metadata (subst (λ n. HasRoom n place end (length metadata)) (sym copied_emptied.same_length) room) (omega arith) (omega (arith, near.1)) in
+              let last = finished-last z place end to metadata (subst (λ n. HasRoom place end (length metadata) n) (sym copied_emptied.same_length) room) (omega arith) (omega (arith, near.1)) in
               inr ((sound, λ honest. shown_added (digest_is honest) (second honest) third), ap (λ (l : List ℕ). drop to l) third ∙ last ∙ first)
           shown_stop Sound Honest sound digest_is second (inr unfinished) =
               let from = run.start + header_length in

@@ -132,9 +132,8 @@ abbrev pub added_to : List ℕ → NewComponent → Spot → List ℕ
 added_to x new spot = option_map_or (added x new) (result_ok (addition_in x new spot)) x
 
 -- room for the metadata, and for a cell up to `end`
-pub record HasRoom (size : ℕ) (place : Place) (end metadata : ℕ) : Type 0 where
+pub record HasRoom (place : Place) (end metadata size : ℕ) : Type 0 where
   pub run : IsCellRange place.run size
-  pub small : size < 2 ^ 32
   pub start_below : place.run.start ≤ place.header
   pub cell : IsCellRange (record { start = place.header; end = end }) place.run.end
   pub metadata_is : place.header + metadata ≡ place.content

@@ -4,7 +4,7 @@ use Rattle.std.specs.Prelude.{◌-◌, max, drop, Ok, ◌==◌}
 use Rattle.flash_device.specs.Device.{overwritten, SameOutside, Device, Reads, fault_count}
 use Rattle.flash_device.specs.Device.{refusals}
 use Rattle.flash_device.specs.Pages.{Pages, HasChanged}
-use Rattle.flash_device.specs.Regions.{Range, bytes_in}
+use Rattle.flash_device.specs.Regions.{Range, LiesOn, bytes_in}
 use Rattle.flash_device.specs.declared.paged.CopyInFault.{CopyInFault}
 use Rattle.flash_device.specs.declared.paged.CopyInFault.TheVariants as causes
 use Rattle.flash_format.specs.Made.{header_length, empty_header}
@@ -44,6 +44,11 @@ abbrev pub OnHonestChange : {F : Type 0} → Range → Pages F → Pages F
     → (List ℕ → List ℕ → Type 0) → Type 0
 OnHonestChange region old new P = IsTrue old.device.honest
     → P (bytes_in region old.device.content) (bytes_in region new.device.content)
+
+-- a property of the size of a region on a device
+pub record HoldsOn (Is : ℕ → Type 0) (r : Range) (device : Device) : Type 0 where
+  pub region : LiesOn r device
+  pub is : Is r.size
 
 -- A write into a region by at most n calls. On an honest device, success applies `done`, and `Left`
 -- holds in any case.

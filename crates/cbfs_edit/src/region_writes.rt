@@ -4,7 +4,7 @@ ghost use Rattle.std.specs.Prelude.{OnOk, OnErr, replicate};
 ghost use Rattle.flash_format.specs.Made.{header_length};
 ghost use Rattle.flash_device.specs.Device.{overwritten, SameOutside};
 ghost use Rattle.flash_device.specs.Regions.{LiesOn, Reaches};
-ghost use Rattle.cbfs_edit.specs.Changes.{HasCopied, HasWrittenIn, IsOldOrEmptied};
+ghost use Rattle.cbfs_edit.specs.Changes.{HasCopied, HasWrittenIn, HoldsOn, IsOldOrEmptied};
 ghost use Rattle.cbfs_edit.specs.Removals.{IsCellRange, removed, space_end};
 
 use crate::group::CellRange;
@@ -89,8 +89,7 @@ pub fn write_empty_entry<F: Flash>(
     region: Region,
     group: CellRange,
 ) -> Result<(), FlashFault>
-    requires region { LiesOn region paged.old.device }
-    requires group { IsCellRange group region.size }
+    requires { HoldsOn (IsCellRange group) region paged.old.device }
 
     ensures { HasWrittenIn region (region.size / 4096 + 2) (λ x. removed x group)
         (IsOldOrEmptied group (space_end region.size group.end)) paged.old paged.new result }

@@ -7,7 +7,7 @@ use Rattle.cbfs_edit.proofs.addition.insert.Goals as goal
 pub returns-in_err-write_empty_entry-clause-stopped : goal.returns-in_err-write_empty_entry-clause-stopped
 returns-in_err-write_empty_entry-clause-stopped g c honest =
     OnErr-from c.from_residual.result (
-    empty_stop c.args.region _ c.args.label.now (g.S.Source.facts c.args.source.now).content c.args.wanted c.args.place c.requires.region.inside c.requires.fits c.requires.name c.requires.wanted
+    empty_stop c.args.region _ c.args.label.now (g.S.Source.facts c.args.source.now).content c.args.wanted c.args.place c.requires.fits.region.inside c.requires.fits.is c.requires.name c.requires.wanted
     _ c.write_empty_entry.ensures.after.calls.same_length _ (c.write_empty_entry.ensures.left honest)
     )
 
@@ -15,7 +15,7 @@ pub returns-in_err-digest-clause-stopped : goal.returns-in_err-digest-clause-sto
 returns-in_err-digest-clause-stopped g c honest =
     let second = honest_still c.write_empty_entry.ensures.after.calls.same_honesty honest in
     OnErr-from c.from_residual-in_err-digest.result (
-    copied_stop c.args.region _ c.args.label.now (g.S.Source.facts c.args.source.now).content c.args.wanted c.args.place c.requires.region.inside c.requires.fits c.requires.name c.requires.wanted
+    copied_stop c.args.region _ c.args.label.now (g.S.Source.facts c.args.source.now).content c.args.wanted c.args.place c.requires.fits.region.inside c.requires.fits.is c.requires.name c.requires.wanted
     _ c.write_empty_entry.ensures.after.calls.same_length _ c.copy_content.ensures.after.after.calls.same_length (c.in_ok-write_empty_entry.ensures.written honest) (c.copy_content.ensures.after.torn second) _
     )
 
@@ -25,9 +25,9 @@ returns-in_err-describe-clause-stopped g c honest =
     let second = honest_still c.write_empty_entry.ensures.after.calls.same_honesty honest in
     let third = honest_still c.copy_content.ensures.after.after.calls.same_honesty second in
     OnErr-from c.from_residual-in_err-describe.result (
-    shown_stop c.args.region _ c.args.label.now (g.S.Source.facts c.args.source.now).content c.args.wanted c.args.place c.requires.region.inside c.requires.fits c.requires.name c.requires.wanted
+    shown_stop c.args.region _ c.args.label.now (g.S.Source.facts c.args.source.now).content c.args.wanted c.args.place c.requires.fits.region.inside c.requires.fits.is c.requires.name c.requires.wanted
     _ c.write_empty_entry.ensures.after.calls.same_length _ c.copy_content.ensures.after.after.calls.same_length (c.in_ok-write_empty_entry.ensures.written honest) (c.copy_content.ensures.after.torn second)
-    m.result c.in_ok-digest.digest m.ensures.name m.ensures.kind m.ensures.digest m.ensures.gap m.ensures.len (c.in_ok-digest.ensures.digest_len _) c.describe.ensures.metadata c.requires.region.below
+    m.result c.in_ok-digest.digest m.ensures.name m.ensures.kind m.ensures.digest m.ensures.gap m.ensures.len (c.in_ok-digest.ensures.digest_len _) c.describe.ensures.metadata c.requires.fits.region.below
     _ c.describe.ensures.after.after.calls.same_length
     _ _ (search rules) c.in_ok-digest.ensures.digest (c.in_ok-digest.ensures.after.copied second) (c.describe.ensures.after.left third)
     )
@@ -37,9 +37,9 @@ returns-clause-added g c honest source_honest =
     let m = c.meta_of-meta in
     let second = honest_still c.write_empty_entry.ensures.after.calls.same_honesty honest in
     let third = honest_still c.copy_content.ensures.after.after.calls.same_honesty second in
-    shown_added c.args.region _ c.args.label.now (g.S.Source.facts c.args.source.now).content c.args.wanted c.args.place c.requires.region.inside c.requires.fits c.requires.name c.requires.wanted
+    shown_added c.args.region _ c.args.label.now (g.S.Source.facts c.args.source.now).content c.args.wanted c.args.place c.requires.fits.region.inside c.requires.fits.is c.requires.name c.requires.wanted
     _ c.write_empty_entry.ensures.after.calls.same_length _ c.copy_content.ensures.after.after.calls.same_length (c.in_ok-write_empty_entry.ensures.written honest) (c.copy_content.ensures.after.torn second)
-    m.result c.in_ok-digest.digest m.ensures.name m.ensures.kind m.ensures.digest m.ensures.gap m.ensures.len (c.in_ok-digest.ensures.digest_len _) c.describe.ensures.metadata c.requires.region.below
+    m.result c.in_ok-digest.digest m.ensures.name m.ensures.kind m.ensures.digest m.ensures.gap m.ensures.len (c.in_ok-digest.ensures.digest_len _) c.describe.ensures.metadata c.requires.fits.region.below
     _ c.describe.ensures.after.after.calls.same_length
     (c.in_ok-digest.ensures.digest source_honest) (c.in_ok-digest.ensures.after.copied second source_honest) (c.in_ok-describe.ensures.after.written third)
 

@@ -8,5 +8,5 @@ pub returns : goal.returns
 returns g c = record {
   after = search rules;
   written = λ honest. on_ok_weaker c.write_in.result (λ e. search (rules, bound-is, length-bytes_in)) (c.write_in.ensures.written honest);
-  left = λ honest. bound-within c.args.region.size c.args.place c.args.end (c.args.place.content - c.args.place.header) c.requires.room _ _ _ (search rules) c.if-end-place.false (c.write_in.ensures.left honest);
+  left = λ honest. bound-within c.args.region.size c.args.place c.args.end (c.args.place.content - c.args.place.header) c.requires.is _ _ _ (search rules) c.if-end-place.false (c.write_in.ensures.left honest);
 }

@@ -13,5 +13,5 @@ returns g c =
       after = search rules;
       written = λ honest. on_ok_weaker c.write_in.result (λ e. e ∙ rw (take_rest c.args.metadata.now c.held_back-skip.result, held) refl) (c.write_in.ensures.written honest);
       left = λ honest.
-          metadata-within c.args.region.size c.args.place c.args.end (length c.args.metadata.now) c.requires.room _ _ _ _ (omega (arith, held)) (omega (arith, held)) (c.write_in.ensures.left honest);
+          metadata-within c.args.region.size c.args.place c.args.end (length c.args.metadata.now) c.requires.is _ _ _ _ (omega (arith, held)) (omega (arith, held)) (c.write_in.ensures.left honest);
     }
