@@ -70,10 +70,9 @@ fn pass<F: Flash>(
 
     ensures after { HasAnswered 1 paged.old paged.new result }
     ensures before { IfOk result (IsBefore (cell.now.at + cell.now.span)) }
-    ensures passed { OnHonestIn paged.old.device region (λ x.
-        StandsIn x cell.now → IfOk result (λ next.
-        (cells : List (List ℕ)) → group_by name.now search cell.now.at (cell_in x cell.now ∷ cells)
-        ≡ group_by name.now next (cell.now.at + cell.now.span) cells)) }
+    ensures passed { OnHonestIn paged.old.device region (λ x. StandsIn x cell.now → IfOk result
+        (λ next. (cells : List (List ℕ)) → group_by name.now search cell.now.at (cell_in x cell.now
+        ∷ cells) ≡ group_by name.now next (cell.now.at + cell.now.span) cells)) }
 {
     cells_stand_in_their_image();
     let end = cell.at + cell.span;
@@ -103,8 +102,7 @@ fn pass<F: Flash>(
 #[tactic(auto, unfolding(crate::specs::Removals::by_rows))]
 fn group_in(search: Search) -> Result<CellRange, EditFault>
     ensures is { (name : List ℕ) (at : ℕ) → result ≡ group_by name search at [] }
-    ensures group { IfOk result (λ group.
-        (at size : ℕ) → IsBefore at search → at ≤ size → IsCellRange group size) }
+    ensures group { (at : ℕ) → IsBefore at search → IfOk result (λ group. IsCellRange group at) }
     ensures fault { IfErr result (λ fault. by_fault fault ⊥ ⊥ ⊤) }
 {
     match search {

@@ -103,9 +103,8 @@ fn pass<F: Flash>(
     ensures after { HasAnswered 1 paged.old paged.new result }
     ensures before { IfOk result (IsSurvey wanted region.size (cell.now.at + cell.now.span)) }
     ensures passed { OnHonestIn paged.old.device region (λ x. StandsIn x cell.now
-        → IfOk result (λ next. (cells : List (List ℕ))
-        → place_by name.now wanted region.size survey (cell_in x cell.now ∷ cells)
-        ≡ place_by name.now wanted region.size next cells)) }
+        → IfOk result (λ next. (cells : List (List ℕ)) → place_by name.now wanted region.size survey
+        (cell_in x cell.now ∷ cells) ≡ place_by name.now wanted region.size next cells)) }
 {
     cells_stand_in_their_image();
     let end = survey.row.end + cell.span;

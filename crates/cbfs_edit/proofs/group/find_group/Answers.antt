@@ -21,7 +21,7 @@ loop-cell-preserved g c =
 pub returns-in-Tail : goal.returns-in-Tail
 returns-in-Tail g c =
     searched c.args.region (group_by c.args.name.now) _ _ c.loop-cell.walk c.loop-cell.search _ _ c.requires c.loop-cell.invariant _ c.in-Tail.is _ _ c.group_in.result c.group_in.ensures.fault
-    (IfOk-weaker c.group_in.result _ _ (λ group within. within c.loop-cell.walk.at c.args.region.size c.loop-cell.invariant.before c.loop-cell.invariant.inside) c.group_in.ensures.group)
+    (IfOk-weaker c.group_in.result _ _ (λ group within. search rules) (c.group_in.ensures.group c.loop-cell.walk.at c.loop-cell.invariant.before))
     (c.group_in.ensures.is c.args.name.now _) c.in_ok-cell.ensures.after c.in_ok-cell.ensures.answer
 
 pub returns-in_err-cell : goal.returns-in_err-cell
