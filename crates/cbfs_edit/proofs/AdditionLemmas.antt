@@ -188,6 +188,9 @@ module _ (x : List ℕ) (new : NewComponent) (spot : Spot) (place : Place) (is :
   near : (space_end (length x) place.run.end ≤ place.run.end) × (place.run.end ≤ space_end (length x) place.run.end + 4)
   near = space_end-near (length x) place.run.end
 
+  below : space_end (length x) place.run.end ≤ length x - 4
+  below = space_end-below (length x) place.run.end range.inside range.end_aligned there.sound.whole
+
   -- a stop before the last commit
   pub add_leaves_before : (y : List ℕ) → IsOldOrEmptied place.run to x y → AddLeavesBefore x new spot y
   add_leaves_before y (inl same) = (inl same, ap (λ (l : List ℕ). components l) same)
@@ -195,14 +198,11 @@ module _ (x : List ℕ) (new : NewComponent) (spot : Spot) (place : Place) (is :
       let within : to ≤ place.run.end = omega (arith, near, fits.inside) in
       let whole = emptied-wider x place.run range to y emptied place.run.end within in
       let kept = emptied_runs x place.run y there.sound.whole is.region is_run whole in
-      let below = space_end-below (length x) place.run.end range.inside range.end_aligned there.sound.whole in
       (inr (place, is.placed, emptied-stopped x place.run range to y emptied (added x new place) (kept_from x new place) (omega (arith, near, range.some)) within (omega (arith, below)) (inl kept.components) kept.end), kept.components)
 
   -- a stop after the last commit
   pub add_leaves_done : (y : List ℕ) → y ≡ added x new place → drop to y ≡ drop to x → AddLeavesWhole x new spot y
   add_leaves_done y done last =
-      let u : List ℕ = before ++ (made_at x new place ++ after) in
-      let below = space_end-below (length x) place.run.end range.inside range.end_aligned there.sound.whole in
       inr (
         place,
         is.placed,
@@ -212,7 +212,7 @@ module _ (x : List ℕ) (new : NewComponent) (spot : Spot) (place : Place) (is :
           same_length = ap length done ∙ added_length;
           outside =
               subst (λ (l : List ℕ). SameOutside place.run.start (place.run.end - place.run.start) x l) (sym done)
-              (SameOutside-overwritten x place.run.start (place.run.end - place.run.start) u (omega (arith, whole_long)) (omega (arith, range.some, range.inside)));
+              (SameOutside-overwritten x place.run.start (place.run.end - place.run.start) (before ++ (made_at x new place ++ after)) (omega (arith, whole_long)) (omega (arith, range.some, range.inside)));
           last = further x y to (kept_from x new place) (omega (arith, below)) last;
         },
       )

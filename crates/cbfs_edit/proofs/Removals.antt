@@ -16,7 +16,7 @@ use Rattle.cbfs_edit.proofs.Sound.{accepted_by, found-some}
 use Rattle.cbfs_edit.proofs.EmptyEntries.{group_range, emptied-end, emptied-same, emptied-stopped, emptied-wider, space_end-below, space_end-near, emptied-components, removed-whole}
 use Rattle.std.specs.Str.{bytes_eq}
 use Rattle.std.specs.List.{concat}
-use Rattle.std.proofs.lemmas.Bool.{cases_Bool}
+use Rattle.std.proofs.lemmas.Bool.{cond_both}
 use Rattle.std.proofs.lemmas.List.Elements.{All-nil, All-cons, All-head, All-tail}
 use Rattle.flash_format.specs.Head.{head_of, is_free}
 use Rattle.flash_format.specs.Components.{Component, component_at, components_from}
@@ -84,10 +84,7 @@ unfolding components_from
 others_have_not name at [] none = All-nil (IsOther name)
 others_have_not name at (c ∷ cells) none =
     let later : All (IsOther name) (components_from (at + length c) cells) = others_have_not name (at + length c) cells (All-tail (IsNot name) c cells none) in
-    elim (cases_Bool (is_free (head_of c))) [
-      | inl e ↦ rw e later
-      | inr e ↦ rw e (All-cons (IsOther name) (component_at at c) (components_from (at + length c) cells) (All-head (IsNot name) c cells none e) later)
-    ]
+    cond_both (is_free (head_of c)) _ _ (All (IsOther name)) (λ e. later) (λ e. All-cons (IsOther name) (component_at at c) (components_from (at + length c) cells) (All-head (IsNot name) c cells none e) later)
 
 -- a component between free cells, then later cells
 row_of_one : (at end : ℕ) (row more after : List (List ℕ)) (c : List ℕ) → AllFree row → AllFree more → IsComponent c → at + length (concat row) + length c + length (concat more) ≡ end

@@ -1,6 +1,6 @@
 -- The runs are the maximal sequences of free cells, in order. An empty entry over a run keeps the
 -- components.
-use Rattle.std.proofs.Common.{◌≡◌, ℕ, ◌+◌, ◌<◌, ◌⊎◌, inl, inr, zero, suc, List, [], ◌∷◌, ◌++◌, length, sym, ◌∙◌, ap, subst, refl, arith, All, Contains, append_assoc, length-append, ◌≤◌, ◌%◌}
+use Rattle.std.proofs.Common.{◌≡◌, ℕ, ◌+◌, ◌<◌, ◌⊎◌, ⊎_elim, inl, inr, zero, suc, List, [], ◌∷◌, ◌++◌, length, sym, ◌∙◌, ap, subst, refl, arith, All, Contains, append_assoc, length-append, ◌≤◌, ◌%◌}
 use Rattle.std.specs.Prelude.{nat_lt}
 use Rattle.std.specs.List.{concat, AllPairs}
 use Rattle.std.proofs.lemmas.Bool.{cases_Bool, lt-ltb, ltb-true, cond_both}
@@ -38,10 +38,7 @@ Contains-cases y ys x (suc k, below, is) = inr (k, omega arith, is)
 
 run-cases : (start end : ℕ) (others : List CellRange) (run : CellRange) → Contains (add_run start end others) run → ((start < end) × (record { start = start; end = end } ≡ run)) ⊎ Contains others run
 run-cases start end others run has = elim (cases_Bool (nat_lt start end)) [
-  | inl some ↦ elim (Contains-cases (record { start = start; end = end }) others run (rw some at has)) [
-    | inl here ↦ inl (ltb-true start end some, here)
-    | inr there ↦ inr there
-  ]
+  | inl some ↦ ⊎_elim (λ here. inl (ltb-true start end some, here)) (λ there. inr there) (Contains-cases (record { start = start; end = end }) others run (rw some at has))
   | inr none ↦ inr (rw none at has)
 ]
 
@@ -68,10 +65,7 @@ run_maximal x run has = maximal 0 0 [] [] _ run tt (All-nil IsFree) refl refl ha
 -- ---- each such sequence is a run
 
 later_is : (run : CellRange) (others : List CellRange) (start end : ℕ) → Contains others run → Contains (add_run start end others) run
-later_is run others start end has = elim (cases_Bool (nat_lt start end)) [
-  | inl some ↦ rw some (suc has.0, omega (arith, has.1), has.2)
-  | inr none ↦ rw none has
-]
+later_is run others start end has = cond_both (nat_lt start end) _ others (λ (l : List CellRange). Contains l run) (λ some. (suc has.0, omega (arith, has.1), has.2)) (λ none. has)
 
 here_is : (start end : ℕ) (others : List CellRange) → start < end → Contains (add_run start end others) (record { start = start; end = end })
 here_is start end others some = rw (lt-ltb start end some) (0, omega arith, refl)

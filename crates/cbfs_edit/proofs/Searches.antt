@@ -1,5 +1,5 @@
 -- Searches over the cells of a region.
-use Rattle.std.proofs.Common.{◌≡◌, ◌≢◌, ℕ, ◌+◌, ◌-◌, ◌/◌, ◌%◌, ◌≤◌, ◌⊎◌, inl, inr, IsTrue, List, [], ◌∷◌, length, Option, Some, None, Result, Ok, Err, refl, sym, ap, subst, ◌∙◌, arith, Bool, true, false, cond}
+use Rattle.std.proofs.Common.{◌≡◌, ◌≢◌, ℕ, ◌+◌, ◌-◌, ◌/◌, ◌%◌, ◌≤◌, ◌⊎◌, ⊎_elim, inl, inr, IsTrue, List, [], ◌∷◌, length, Option, Some, None, Result, Ok, Err, refl, sym, ap, subst, ◌∙◌, arith, Bool, true, false, cond}
 use Rattle.std.specs.Prelude.{IfErr, IfOk, ⊤, IsErrOf, ◌||◌, is_some, nat_lt, ok_or}
 use mathlib.Core.Path.{fun_ext}
 use Rattle.flash_format.specs.Cut.{Cut, cut}
@@ -164,10 +164,7 @@ module _ {F S A : Type 0} (r : Range) (sense : S → ℕ → Reading A) (by : Li
 
   module _ (step : Step) (last : IsLast step) where
     last_found : found_by x (sense s w.at) (Ok step) ≡ sense s w.at []
-    last_found = elim last [
-      | inl tail ↦ ap (λ (t : Step). found_by x (sense s w.at) (Ok t)) tail.1
-      | inr end ↦ ap (λ (t : Step). found_by x (sense s w.at) (Ok t)) end
-    ]
+    last_found = ⊎_elim (λ tail. ap (λ (t : Step). found_by x (sense s w.at) (Ok t)) tail.1) (λ end. ap (λ (t : Step). found_by x (sense s w.at) (Ok t)) end) last
 
     pub searched : (Is : A → Type 0) (mid : Pages F) (result : Result A EditFault) → IfErr result (λ fault. by_fault fault ⊥ ⊥ ⊤) → IfOk result Is → result ≡ sense s w.at [] → HasRead (reads_at w.region.size w.at (Ok step)) 0 now mid
         → (IsTrue now.device.honest → w.ended ≡ None → (let a : StepResult = Ok step in IsErrOf a walk.Device ⊎ (a ≡ answer_at (bytes_in w.region now.device.content) w.at))) → HasSearched r Is by old mid result
@@ -181,12 +178,10 @@ module _ {F S A : Type 0} (r : Range) (sense : S → ℕ → Reading A) (by : Li
 
   pub surveying_err : (fault : WalkFault) → (answer : IsTrue now.device.honest → w.ended ≡ None → (let a : StepResult = Err fault in IsErrOf a walk.Device ⊎ (a ≡ answer_at (bytes_in w.region now.device.content) w.at)))
       → IsTrue old.device.honest → (let a : Result A EditFault = Err (edit_fault_of fault) in IsErrOf a faults.Device ⊎ (a ≡ by x))
-  surveying_err fault answer h = go (answer (honest_still i.read.device.calls.same_honesty h) i.going)
-    where
-      go : (let a : StepResult = Err fault in IsErrOf a walk.Device ⊎ (a ≡ answer_at (bytes_in w.region now.device.content) w.at))
-          → (let a : Result A EditFault = Err (edit_fault_of fault) in IsErrOf a faults.Device ⊎ (a ≡ by x))
-      go (inl device) = let is : fault ≡ walk.Device = cc in inl (ap (λ (f : WalkFault). let a : Result A EditFault = Err (edit_fault_of f) in a) is)
-      go (inr is) = inr (sym ((answered (Err fault) h is).1 ∙ found_refusal x (sense s w.at) fault))
+  surveying_err fault answer h =
+      ⊎_elim (λ device. let is : fault ≡ walk.Device = cc in inl (ap (λ (f : WalkFault). let a : Result A EditFault = Err (edit_fault_of f) in a) is))
+      (λ is. inr (sym ((answered (Err fault) h is).1 ∙ found_refusal x (sense s w.at) fault)))
+      (answer (honest_still i.read.device.calls.same_honesty h) i.going)
 
 -- ---- the search for a group
 

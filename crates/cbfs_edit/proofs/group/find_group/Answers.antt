@@ -10,13 +10,8 @@ loop-cell-init g c = rw c.new-walk.ensures (surveying_start c.args.region (group
 
 pub loop-cell-preserved : goal.loop-cell-preserved
 loop-cell-preserved g c =
-    let is = c.in-Cell.is in
-    let given = rw is at c.in_ok-cell.ensures.cell in
-    let reads = rw is at c.in_ok-cell.ensures.after in
-    let answer = rw is at c.in_ok-cell.ensures.answer in
-    let moved = rw is at c.in_ok-cell.ensures.moved in
     surveying_more c.args.region (group_by c.args.name.now) _ IsBefore c.loop-cell.walk c.loop-cell.search _ _ c.requires c.loop-cell.invariant c.in-Cell.cell _ c.in_ok-search-in-Cell.search _ _ _
-    given reads refl c.in_ok-search-in-Cell.ensures.after.read answer moved c.in_ok-search-in-Cell.ensures.before c.in_ok-search-in-Cell.ensures.passed
+    (rw c.in-Cell.is at c.in_ok-cell.ensures.cell) (rw c.in-Cell.is at c.in_ok-cell.ensures.after) refl c.in_ok-search-in-Cell.ensures.after.read (rw c.in-Cell.is at c.in_ok-cell.ensures.answer) (rw c.in-Cell.is at c.in_ok-cell.ensures.moved) c.in_ok-search-in-Cell.ensures.before c.in_ok-search-in-Cell.ensures.passed
 
 pub returns-in-Tail : goal.returns-in-Tail
 returns-in-Tail g c =

@@ -17,13 +17,8 @@ loop-cell-init g c =
 
 pub loop-cell-preserved : goal.loop-cell-preserved
 loop-cell-preserved g c =
-    let is = c.in-Cell.is in
-    let given = rw is at c.in_ok-cell.ensures.cell in
-    let reads = rw is at c.in_ok-cell.ensures.after in
-    let answer = rw is at c.in_ok-cell.ensures.answer in
-    let moved = rw is at c.in_ok-cell.ensures.moved in
     surveying_more c.args.region (λ s at cells. place_by c.args.name.now c.args.wanted c.args.region.size s cells) _ (IsSurvey c.args.wanted c.args.region.size) c.loop-cell.walk c.loop-cell.survey _ _ c.requires.region c.loop-cell.invariant c.in-Cell.cell _ c.in_ok-survey-in-Cell.survey _ _ _
-    given reads refl c.in_ok-survey-in-Cell.ensures.after.read answer moved c.in_ok-survey-in-Cell.ensures.before c.in_ok-survey-in-Cell.ensures.passed
+    (rw c.in-Cell.is at c.in_ok-cell.ensures.cell) (rw c.in-Cell.is at c.in_ok-cell.ensures.after) refl c.in_ok-survey-in-Cell.ensures.after.read (rw c.in-Cell.is at c.in_ok-cell.ensures.answer) (rw c.in-Cell.is at c.in_ok-cell.ensures.moved) c.in_ok-survey-in-Cell.ensures.before c.in_ok-survey-in-Cell.ensures.passed
 
 pub returns-in-Tail : goal.returns-in-Tail
 returns-in-Tail g c =
