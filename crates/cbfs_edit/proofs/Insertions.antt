@@ -166,10 +166,6 @@ pub hash_short : (d : Option Digest) → hash_len d ≤ 76
 hash_short None = omega arith
 hash_short (Some digest) = omega (arith, few_bytes (algorithm digest))
 
-pub described-is : (m : Meta) (name : List ℕ) (kind : ℕ) (digest : Option Digest) (gap n : ℕ) → m.name.now ≡ name → m.kind ≡ kind → option_copied m.digest ≡ digest → m.gap ≡ gap → m.len ≡ n
-    → metadata_of m ≡ made_metadata name kind digest gap n
-described-is m name kind digest gap n is_name is_kind is_digest is_gap is_len = rw (is_name, is_kind, is_digest, is_gap, is_len) refl
-
 -- room for the metadata
 pub room-for : (size : ℕ) (label : Label) (content : List ℕ) (wanted : Wanted) (place : Place) (m : Meta) (digest : Option Digest) → size < 2 ^ 32 → Fits wanted size place → length label.name.now ≤ 127
     → wanted ≡ wanted_for (component_of_label label content) wanted.spot → m.name.now ≡ label.name.now → option_copied m.digest ≡ digest → m.gap ≡ place.content - place.header - wanted.metadata_len → hash_len digest ≡ hash_len (digest_of label.hash content)
@@ -274,7 +270,7 @@ module _ (r : Range) (old : List ℕ) (label : Label) (content : List ℕ) (want
               let long : length whole ≡ d - place.header = omega (arith, length-append metadata content, room.metadata_is) in
               let pad : end - d ≡ round64 (length whole) - length whole = omega (arith, long, fits.header.aligned, fits.header.room, len) in
               let is_metadata : metadata ≡ made_metadata new.name new.kind new.digest gap (length content) =
-              described-is meta label.name.now label.kind new.digest gap (length content) is_name is_kind (is_digest ∙ digest_is) (is_gap ∙ ap (λ n. place.content - place.header - n) is_header) (is_len ∙ len) in
+              rw (is_name, is_kind, is_digest, digest_is, is_gap, is_header, is_len, len) refl in
               let before : List ℕ = empty_between x run.start place.header in
               third
               ∙ ap (λ (l : List ℕ). with_component l place end metadata) (second ∙ ap (λ (l : List ℕ). overwritten l place.content content) emptied)

@@ -84,8 +84,5 @@ pub content_at : (x before metadata content pad after : List ℕ) (start at : �
 content_at x before metadata content pad after start at inside there =
     let all : List ℕ = before ++ (((metadata ++ content) ++ pad) ++ after) in
     let rest : List ℕ = drop (start + length all) x in
-    part_at (overwritten x start all) (take start x ++ (before ++ metadata)) content (pad ++ (after ++ rest)) at (parted (take start x) rest)
+    part_at (overwritten x start all) (take start x ++ (before ++ metadata)) content (pad ++ (after ++ rest)) at (simp append_assoc)
     (omega (arith, length-append (take start x) (before ++ metadata), length-append before metadata, length-take-le start x inside))
-  where
-    parted : (p r : List ℕ) → p ++ ((before ++ (((metadata ++ content) ++ pad) ++ after)) ++ r) ≡ (p ++ (before ++ metadata)) ++ (content ++ (pad ++ (after ++ r)))
-    parted p r = simp append_assoc

@@ -91,14 +91,8 @@ row_of_one : (at end : ℕ) (row more after : List (List ℕ)) (c : List ℕ) �
     → components_from at (row ++ (c ∷ (more ++ after))) ≡ component_at (at + length (concat row)) c ∷ components_from end after
 unfolding components_from
 row_of_one at end row more after c free free_more is ends =
-    let place : ℕ = at + length (concat row) in
-    components-append at row (c ∷ (more ++ after))
-    ∙ ap (λ (l : List Component). l ++ components_from place (c ∷ (more ++ after))) (components-free at row free)
-    ∙ rw is refl
-    ∙ ap (λ (l : List Component). component_at place c ∷ l)
-    (components-append (place + length c) more after
-    ∙ ap (λ (l : List Component). l ++ components_from (place + length c + length (concat more)) after) (components-free (place + length c) more free_more)
-    ∙ ap (λ n. components_from n after) ends)
+    let next : ℕ = at + length (concat row) + length c in
+    rw (components-append at row (c ∷ (more ++ after)), components-free at row free, is, components-append next more after, components-free next more free_more, ends) refl
 
 pub removal_takes_one : RemovalsTakeOneComponent
 removal_takes_one x name group small is =
@@ -114,9 +108,7 @@ removal_takes_one x name group small is =
         after = components_from group.end r.after;
         whole =
             ap (λ (l : List (List ℕ)). components_from 0 l) (whole_of name (cut x).cells group g)
-            ∙ components-append 0 r.before (g.row_before ++ (g.component ∷ (g.row_after ++ r.after)))
-            ∙ ap (λ n. components_from 0 r.before ++ components_from n (g.row_before ++ (g.component ∷ (g.row_after ++ r.after)))) first
-            ∙ ap (λ (l : List Component). components_from 0 r.before ++ l) (row_of_one group.start group.end g.row_before g.row_after r.after g.component g.row_before_free g.row_after_free g.is_component (end_of name (cut x).cells group g));
+            ∙ rw (components-append 0 r.before (g.row_before ++ (g.component ∷ (g.row_after ++ r.after))), first) (ap (λ (l : List Component). components_from 0 r.before ++ l) (row_of_one group.start group.end g.row_before g.row_after r.after g.component g.row_before_free g.row_after_free g.is_component (end_of name (cut x).cells group g)));
         named = g.named;
         none_before = others_have_not name 0 r.before g.first;
       };

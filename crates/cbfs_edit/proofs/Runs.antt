@@ -166,10 +166,6 @@ emptied_runs x run y aligned small has is =
     record {
       components =
           emptied-components x run r.range y is g small
-          ∙ sym (
-          group-components x run.start run.end g
-          ∙ ap (λ (l : List Component). components_from 0 g.before ++ l ++ components_from run.end g.after) (components-free run.start g.group r.free)
-          ∙ ap (λ (l : List Component). l ++ components_from run.end g.after) (append-nil (components_from 0 g.before))
-          );
+          ∙ sym (group-components x run.start run.end g ∙ rw (components-free run.start g.group r.free, append-nil (components_from 0 g.before)) refl);
       end = emptied-end x run r.range y is g small;
     }

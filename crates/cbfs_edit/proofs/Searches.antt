@@ -63,10 +63,7 @@ found_whole : {A : Type 0} (x : List ℕ) (read : Reading A) → unless_unsound 
 unfolding found_from reading_of
 found_whole {A} x read = go (shape_fault x)
   where
-    taken : Reading A → Result A EditFault
-    taken = read_cut 0 (cut x)
-
-    go : (o : Option WalkFault) → refused_or (λ fault. Err (edit_fault_of fault)) o (taken read) ≡ refused_or refused o taken read
+    go : (o : Option WalkFault) → refused_or (λ fault. Err (edit_fault_of fault)) o (read_cut 0 (cut x) read) ≡ refused_or refused o (read_cut 0 (cut x)) read
     go None = refl
     go (Some fault) = refl
 
