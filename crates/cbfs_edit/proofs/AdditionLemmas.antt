@@ -92,22 +92,19 @@ space x start end order start_aligned end_aligned some =
     (λ e. empty_is_space (end - start) (kept_at x end) (omega (arith, eqb-false start end e, order, start_aligned, end_aligned)) (keeps x end some))
 
 module _ (x : List ℕ) (new : NewComponent) (spot : Spot) (place : Place) (is : IsAdded x new spot place) where
-  abbrev wanted : Wanted
-  wanted = wanted_for new spot
-
   abbrev end : ℕ
   end = cell_end new place
 
   fine : IsAccepted x new spot place
   fine = accepted x new spot place is.placed
 
-  pub there : IsAnsweredPlace x new.name wanted place
-  there = answered_place x new.name wanted place fine.placed
+  pub there : IsAnsweredPlace x new.name (wanted_for new spot) place
+  there = answered_place x new.name (wanted_for new spot) place fine.placed
 
-  first : IsFirstPlace wanted (length x) (runs x) place
+  first : IsFirstPlace (wanted_for new spot) (length x) (runs x) place
   first =
-      let is_wanted : IsWanted wanted = record { metadata_len = omega (arith, hash_short new.digest, fine.name_short); len = is.content; spot = fine.spot_good } in
-      subst (λ (o : Option Place). IsPlaceAmong wanted (length x) (runs x) o) there.found (first_place-right wanted (length x) (runs x) is_wanted)
+      let is_wanted : IsWanted (wanted_for new spot) = record { metadata_len = omega (arith, hash_short new.digest, fine.name_short); len = is.content; spot = fine.spot_good } in
+      subst (λ (o : Option Place). IsPlaceAmong (wanted_for new spot) (length x) (runs x) o) there.found (first_place-right (wanted_for new spot) (length x) (runs x) is_wanted)
 
   is_run : Contains (runs x) place.run
   is_run = subst (λ (l : List CellRange). Contains l place.run) (sym first.whole) (Contains-append_right first.before (place.run ∷ first.later) place.run (0, omega arith, refl))
@@ -118,8 +115,8 @@ module _ (x : List ℕ) (new : NewComponent) (spot : Spot) (place : Place) (is :
   range : IsCellRange place.run (length x)
   range = the_run.range
 
-  fits : Fits wanted (length x) place
-  fits = fits_there wanted (length x) place range first.allowed.after_header first.allowed.ends first.header
+  fits : Fits (wanted_for new spot) (length x) place
+  fits = fits_there (wanted_for new spot) (length x) place range first.allowed.after_header first.allowed.ends first.header
 
   some : 4 ≤ length x
   some = omega (arith, range.some, range.inside)

@@ -203,9 +203,6 @@ module _ (r : Range) (old : List ℕ) (label : Label) (content : List ℕ) (want
   abbrev new : NewComponent
   new = component_of_label label content
 
-  abbrev run : CellRange
-  run = place.run
-
   abbrev to : ℕ
   to = written_to r.size wanted.len place
 
@@ -221,29 +218,29 @@ module _ (r : Range) (old : List ℕ) (label : Label) (content : List ℕ) (want
   fits : Fits wanted (length x) place
   fits = subst (λ n. Fits wanted n place) (sym size) in_region
 
-  near : (space_end r.size run.end ≤ run.end) × (run.end ≤ space_end r.size run.end + 4)
-  near = space_end-near r.size run.end
+  near : (space_end r.size place.run.end ≤ place.run.end) × (place.run.end ≤ space_end r.size place.run.end + 4)
+  near = space_end-near r.size place.run.end
 
   module _ (empty_entry : List ℕ) (empty_long : length empty_entry ≡ length old) where
     abbrev y : List ℕ
     y = bytes_in r empty_entry
 
     -- the empty entry
-    pub empty_stop : (Done : Type 0) → IsOldOrEmptied run (space_end r.size run.end) x y → IsInsertStop run to Done x y
-    empty_stop Done stop = inl (old_or-wider x run fits.run (space_end r.size run.end) to y (omega arith) stop)
+    pub empty_stop : (Done : Type 0) → IsOldOrEmptied place.run (space_end r.size place.run.end) x y → IsInsertStop place.run to Done x y
+    empty_stop Done stop = inl (old_or-wider x place.run fits.run (space_end r.size place.run.end) to y (omega arith) stop)
 
-    module _ (copied : List ℕ) (copied_long : length copied ≡ length empty_entry) (emptied : y ≡ removed x run) (torn : SameOutside place.content (length content) y (bytes_in r copied)) where
+    module _ (copied : List ℕ) (copied_long : length copied ≡ length empty_entry) (emptied : y ≡ removed x place.run) (torn : SameOutside place.content (length content) y (bytes_in r copied)) where
       abbrev z : List ℕ
       z = bytes_in r copied
 
-      copied_emptied : IsEmptied run to x z
+      copied_emptied : IsEmptied place.run to x z
       copied_emptied =
-          let empty : IsEmptied run (space_end r.size run.end) x y = subst (λ n. IsEmptied run (space_end n run.end) x y) size (subst (λ (l : List ℕ). IsEmptied run (space_end (length x) run.end) x l) (sym emptied) (removed-emptied x run fits.run)) in
-          emptied-write x run fits.run to y (emptied-wider x run fits.run (space_end r.size run.end) y empty to (omega arith)) z place.content (length content)
+          let empty : IsEmptied place.run (space_end r.size place.run.end) x y = subst (λ n. IsEmptied place.run (space_end n place.run.end) x y) size (subst (λ (l : List ℕ). IsEmptied place.run (space_end (length x) place.run.end) x l) (sym emptied) (removed-emptied x place.run fits.run)) in
+          emptied-write x place.run fits.run to y (emptied-wider x place.run fits.run (space_end r.size place.run.end) y empty to (omega arith)) z place.content (length content)
           (same_region_length r old empty_entry copied lies empty_long copied_long) (omega (arith, fits.start_below, fits.header.room, is_header)) (omega (arith, len)) torn
 
       -- the content
-      pub copied_stop : (Done : Type 0) → IsInsertStop run to Done x z
+      pub copied_stop : (Done : Type 0) → IsInsertStop place.run to Done x z
       copied_stop Done = inl (inr copied_emptied)
 
       module _ (meta : Meta) (digest : Option Digest) (is_name : meta.name.now ≡ label.name.now) (is_kind : meta.kind ≡ label.kind) (is_digest : option_copied meta.digest ≡ digest) (is_gap : meta.gap ≡ place.content - place.header - wanted.metadata_len)
@@ -271,24 +268,24 @@ module _ (r : Range) (old : List ℕ) (label : Label) (content : List ℕ) (want
               let pad : end - d ≡ round64 (length whole) - length whole = omega (arith, long, fits.header.aligned, fits.header.room, len) in
               let is_metadata : metadata ≡ made_metadata new.name new.kind new.digest gap (length content) =
               rw (is_name, is_kind, is_digest, digest_is, is_gap, is_header, is_len, len) refl in
-              let before : List ℕ = empty_between x run.start place.header in
+              let before : List ℕ = empty_between x place.run.start place.header in
               third
               ∙ ap (λ (l : List ℕ). with_component l place end metadata) (second ∙ ap (λ (l : List ℕ). overwritten l place.content content) emptied)
               ∙ inserted x place end metadata room content (omega (arith, len))
-              ∙ ap (λ (l : List ℕ). overwritten x run.start (before ++ l)) (sym (append_assoc whole (padding (end - d) (kept_at x end)) (empty_between x end run.end)))
-              ∙ ap (λ n. overwritten x run.start (before ++ ((whole ++ padding n (kept_at x end)) ++ empty_between x end run.end))) pad
-              ∙ ap (λ (f : List ℕ). overwritten x run.start (before ++ (((f ++ content) ++ padding (round64 (length (f ++ content)) - length (f ++ content)) (kept_at x end)) ++ empty_between x end run.end))) is_metadata
-              ∙ ap (λ n. overwritten x run.start (before ++ (made new.name new.kind new.digest gap content (kept_at x n) ++ empty_between x n run.end))) (ap (λ n. round64 (place.content + n)) len)
+              ∙ ap (λ (l : List ℕ). overwritten x place.run.start (before ++ l)) (sym (append_assoc whole (padding (end - d) (kept_at x end)) (empty_between x end place.run.end)))
+              ∙ ap (λ n. overwritten x place.run.start (before ++ ((whole ++ padding n (kept_at x end)) ++ empty_between x end place.run.end))) pad
+              ∙ ap (λ (f : List ℕ). overwritten x place.run.start (before ++ (((f ++ content) ++ padding (round64 (length (f ++ content)) - length (f ++ content)) (kept_at x end)) ++ empty_between x end place.run.end))) is_metadata
+              ∙ ap (λ n. overwritten x place.run.start (before ++ (made new.name new.kind new.digest gap content (kept_at x n) ++ empty_between x n place.run.end))) (ap (λ n. round64 (place.content + n)) len)
 
           -- the metadata with the last commit
           pub shown_stop : (Sound Honest : Type 0) → Sound → (Honest → digest ≡ digest_of label.hash content) → (Honest → z ≡ overwritten y place.content content) → (w ≡ with_component z place end metadata) ⊎ IsUnfinished place z w
-              → IsInsertStop run to (Sound × (Honest → w ≡ added x new place)) x w
+              → IsInsertStop place.run to (Sound × (Honest → w ≡ added x new place)) x w
           shown_stop Sound Honest sound digest_is second (inl third) =
-              let behind : run.start + header_length ≤ to = omega (arith, near.1, fits.run.some) in
-              let first = further x z (run.start + (to - run.start)) to (omega (arith, behind)) (emptied-outside x run fits.run to z copied_emptied behind).after in
+              let behind : place.run.start + header_length ≤ to = omega (arith, near.1, fits.run.some) in
+              let first = further x z (place.run.start + (to - place.run.start)) to (omega (arith, behind)) (emptied-outside x place.run fits.run to z copied_emptied behind).after in
               let last = finished-last z place end to metadata (subst (λ n. HasRoom place end (length metadata) n) (sym copied_emptied.same_length) room) (omega arith) (omega (arith, near.1)) in
               inr ((sound, λ honest. shown_added (digest_is honest) (second honest) third), ap (λ (l : List ℕ). drop to l) third ∙ last ∙ first)
           shown_stop Sound Honest sound digest_is second (inr unfinished) =
-              let from = run.start + header_length in
-              inl (inr (emptied-write x run fits.run to z copied_emptied w from (max place.content (run.end - 4) - from) (same_region_length r old copied shown lies (copied_long ∙ empty_long) shown_long) (omega arith)
+              let from = place.run.start + header_length in
+              inl (inr (emptied-write x place.run fits.run to z copied_emptied w from (max place.content (place.run.end - 4) - from) (same_region_length r old copied shown lies (copied_long ∙ empty_long) shown_long) (omega arith)
               (omega (arith, near.1, fits.run.some, fits.start_below, fits.header.room, is_header)) unfinished))

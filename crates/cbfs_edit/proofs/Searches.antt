@@ -164,7 +164,7 @@ module _ {F S A : Type 0} (r : Range) (sense : S → ℕ → Reading A) (by : Li
     last_found = ⊎_elim (λ tail. ap (λ (t : Step). found_by x (sense s w.at) (Ok t)) tail.1) (λ end. ap (λ (t : Step). found_by x (sense s w.at) (Ok t)) end) last
 
     pub searched : (Is : A → Type 0) (mid : Pages F) (result : Result A EditFault) → IfErr result (λ fault. by_fault fault ⊥ ⊥ ⊤) → IfOk result Is → result ≡ sense s w.at [] → HasRead (reads_at w.region.size w.at (Ok step)) 0 now mid
-        → (IsTrue now.device.honest → w.ended ≡ None → (let a : StepResult = Ok step in IsErrOf a walk.Device ⊎ (a ≡ answer_at (bytes_in w.region now.device.content) w.at))) → HasSearched r Is by old mid result
+        → (IsTrue now.device.honest → w.ended ≡ None → (let a : StepResult = Ok step in IsErrOf a walk.Device ⊎ (a ≡ answer_at (bytes_in w.region now.device.content) w.at))) → HasSearched by r Is old mid result
     searched Is mid result own found is reading answer = record {
       after = rw (faultless result own).0 (HasRead-within (w.at / 16 + reads_over (w.region.size - w.at)) (r.size / 16 + 1) 0 old mid (omega (arith, i.inside, i.aligned, ap (λ (k : Range). k.size) i.region))
           (HasRead-then (w.at / 16) (reads_over (w.region.size - w.at)) 0 old now mid i.read (rw (last_reads step w.region.size w.at last) at reading)));

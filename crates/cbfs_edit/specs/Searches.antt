@@ -20,10 +20,9 @@ use Rattle.cbfs_edit.specs.declared.place.Survey.{Survey}
 use Rattle.cbfs_edit.specs.declared.place.Wanted.{Wanted}
 use Rattle.cbfs_edit.specs.declared.place.Place.{Place}
 
--- A search of a region. On an honest device, success and errors except the device's are `answer`.
-pub record HasSearched {F T : Type 0} (region : Range) (Is : T → Type 0)
-    (by : List ℕ → Result T EditFault) (old new : Pages F) (result : Result T EditFault)
-    : Type 0 where
+-- A search of a region. On an honest device, the result is `by` of its bytes, or a device fault.
+pub record HasSearched {F T : Type 0} (by : List ℕ → Result T EditFault) (region : Range)
+    (Is : T → Type 0) (old new : Pages F) (result : Result T EditFault) : Type 0 where
   pub after : HasRead (region.size / 16 + 1) (fault_count by_device result) old new
   pub no_source : IsErrOf result Source → ⊥
   pub found : IfOk result Is

@@ -43,8 +43,8 @@ pub fn find_group<F: Flash>(
 ) -> Result<CellRange, EditFault>
     requires { LiesOn region paged.old.device }
 
-    ensures { HasSearched region (λ group. IsCellRange group region.size)
-        (λ x. removal_in x name.now) paged.old paged.new result }
+    ensures { HasSearched (λ x. removal_in x name.now) region
+        (λ group. IsCellRange group region.size) paged.old paged.new result }
 {
     let mut walk = Walk::new(region);
     let mut search = Search::Looking { start: 0 };

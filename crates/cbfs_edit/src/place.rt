@@ -70,7 +70,7 @@ pub fn find_place<F: Flash>(
     requires region { LiesOn region paged.old.device }
     requires wanted { IsWanted wanted }
 
-    ensures { HasSearched region (Fits wanted region.size) (λ x. placing_in x name.now wanted)
+    ensures { HasSearched (λ x. placing_in x name.now wanted) region (Fits wanted region.size)
         paged.old paged.new result }
 {
     let mut walk = Walk::new(region);
