@@ -1,11 +1,11 @@
 -- Formatting.
-use Rattle.std.proofs.Common.{◌≡◌, ◌⊎◌, inl, inr, ℕ, ◌+◌, ◌-◌, ◌%◌, ◌^◌, ◌<◌, ◌≤◌, Bool, true, cond, Some, None, List, [], ◌∷◌, ◌++◌, length, drop, sym, ◌∙◌, ap, refl, arith, length-append}
+use Rattle.std.proofs.Common.{◌≡◌, ◌⊎◌, inl, inr, ℕ, ◌+◌, ◌-◌, ◌%◌, ◌^◌, ◌<◌, ◌≤◌, Bool, true, Some, List, [], ◌∷◌, ◌++◌, length, drop, sym, ◌∙◌, ap, refl, arith, length-append}
 use Rattle.std.specs.Prelude.{◌==◌}
 use Rattle.std.proofs.lemmas.List.{append-nil, drop_all}
 use Rattle.std.proofs.lemmas.Bool.{eq-eqb}
 use Rattle.std.proofs.lemmas.List.Elements.{All-nil, All-cons}
 use Rattle.flash_format.specs.Head.{head_of, is_free}
-use Rattle.flash_format.specs.Made.{header_length, empty_header, empty_entry, padding}
+use Rattle.flash_format.specs.Made.{header_length, empty_header, padding}
 use Rattle.flash_format.specs.Entry.{entry, cell}
 use Rattle.flash_format.specs.Cut.{complete, IsCell}
 use Rattle.flash_format.proofs.CutLaws.{cut_unique}
@@ -13,7 +13,7 @@ use Rattle.flash_format.proofs.EmptyEntryLaws.{empty_header-cell, length-empty_h
 use Rattle.flash_format.proofs.MadeLaws.{length-padding}
 use Rattle.flash_device.specs.Device.{overwritten}
 use Rattle.flash_device.proofs.BytesLemmas.{further}
-use Rattle.cbfs_edit.specs.Removals.{IsCellRange, removed, last_four, kept_at, space_end}
+use Rattle.cbfs_edit.specs.Removals.{IsCellRange, removed, last_four, space_end}
 use Rattle.cbfs_edit.specs.Changes.{IsOldOrEmptied}
 use Rattle.cbfs_edit.specs.Formats.{formatted, IsOneFreeCell}
 use Rattle.cbfs_edit.specs.Laws.{FormattedIsOneFreeCell}

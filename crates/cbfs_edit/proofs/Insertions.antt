@@ -1,6 +1,6 @@
 -- The writes of a component: their result, and the region after a stop.
-use Rattle.std.proofs.Common.{◌≡◌, ⊎_elim, ℕ, ◌+◌, ◌-◌, ◌≤◌, true, false, List, [], ◌++◌, length, take, drop, replicate, Option, Some, None, sym, ◌∙◌, ap, arith, rules, append_assoc, length-append, length-drop, take-append-drop, ◌⊎◌, inl, inr, ◌^◌, ◌<◌, Result, Ok, Err, subst, refl}
-use Rattle.std.specs.Prelude.{◌==◌, is_some, max, OnErr, option_copied}
+use Rattle.std.proofs.Common.{◌≡◌, ⊎_elim, ℕ, ◌+◌, ◌-◌, ◌≤◌, true, false, List, [], ◌++◌, length, take, drop, replicate, Option, Some, None, sym, ◌∙◌, ap, arith, rules, append_assoc, length-append, length-drop, take-append-drop, ◌⊎◌, inl, inr, ◌^◌, ◌<◌, subst, refl}
+use Rattle.std.specs.Prelude.{◌==◌, is_some, max, option_copied}
 use Rattle.std.proofs.lemmas.Bool.{cases_eq, eq-eqb, ne_eqb, cond_both, eqb-false}
 use Rattle.std.proofs.lemmas.List.{append-nil, drop_at, length-replicate, length-take-le}
 use Rattle.flash_format.specs.Head.{round64}
@@ -21,7 +21,6 @@ use Rattle.flash_device.proofs.DeviceLemmas.{length-bytes_in}
 use Rattle.cbfs_edit.specs.Places.{Fits}
 use Rattle.cbfs_edit.specs.Changes.{IsEmptied, IsInsertStop, IsOldOrEmptied, written_to}
 use Rattle.cbfs_edit.specs.declared.addition.Label.{Label}
-use Rattle.cbfs_edit.specs.declared.group.CellRange.{CellRange}
 use Rattle.cbfs_edit.specs.declared.place.Wanted.{Wanted}
 use Rattle.cbfs_edit.proofs.EmptyEntries.{emptied-outside, emptied-wider, emptied-write, old_or-wider, removed-emptied, same_region_length, space_end-near}
 

@@ -1,8 +1,6 @@
 -- Parts of lists: an element between others, and writes of bytes and padding.
 use Rattle.std.proofs.Common.{◌≡◌, List, [], ◌∷◌, ◌++◌, All, refl, subst, zero, suc, rules, ℕ, ◌+◌, ◌-◌, ◌≤◌, length, take, drop, replicate, Option, Some, None, sym, ◌∙◌, ap, arith, append_assoc, length-append, length-drop}
 use Rattle.std.proofs.lemmas.List.Elements.{All-head, All-tail}
-use Rattle.std.proofs.lemmas.Bool.{cases_lt}
-use Rattle.std.proofs.Math.Seq.{drop-append-add}
 use Rattle.std.proofs.lemmas.List.{take_at, drop_all, drop_at, drop-drop, drop-append-le, length-replicate, length-take-le, drop-replicate, replicate-append-replicate}
 use Rattle.flash_format.specs.Made.{padding}
 use Rattle.flash_device.specs.Device.{overwritten}

@@ -1,5 +1,5 @@
 -- The place of a new component is the least allowed place in the first run with one.
-use Rattle.std.proofs.Common.{◌≡◌, ℕ, ◌+◌, ◌-◌, ◌*◌, ◌/◌, ◌%◌, ◌<◌, ◌≤◌, Bool, true, false, cond, List, [], ◌∷◌, ◌++◌, length, All, Contains, ap, subst, sym, ◌∙◌, refl, arith, rules, Option, Some, None, Ok, Err}
+use Rattle.std.proofs.Common.{◌≡◌, ℕ, ◌+◌, ◌-◌, ◌*◌, ◌/◌, ◌%◌, ◌<◌, ◌≤◌, Bool, true, false, cond, List, [], ◌∷◌, length, All, Contains, ap, subst, sym, ◌∙◌, refl, arith, rules, Option, Some, None, Ok, Err}
 use Rattle.std.specs.Prelude.{◌&&◌, nat_le, MatchOption, is_some, ok_or}
 use Rattle.std.specs.List.{cons_option, filter_map, slice_get}
 use Rattle.std.specs.Int.{next_multiple_of}

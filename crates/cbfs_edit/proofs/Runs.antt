@@ -12,12 +12,12 @@ use Rattle.cbfs_edit.specs.Runs.{add_run, runs, runs_from, IsRunOf}
 use Rattle.cbfs_edit.specs.Laws.{RunsAreExact, RunsAscend, EmptiedRunsKeepTheComponents}
 use Rattle.cbfs_edit.specs.declared.group.CellRange.{CellRange}
 use Rattle.cbfs_edit.proofs.Groups.{IsFree, EndsWithComponent, BeginsWithComponent, length-concat-push, length-placed, over_row, ends_after, ends_push, not_alone, between}
-use Rattle.flash_format.proofs.Splices.{concat-append, AllFree, components-free, group-components}
+use Rattle.flash_format.proofs.Splices.{AllFree, components-free, group-components}
 use Rattle.std.proofs.lemmas.List.Kept.{AllPairs-cons}
 use Rattle.flash_format.proofs.CutSteps.{cell_span}
 use Rattle.flash_format.proofs.CutLaws.{cut_exists}
 use Rattle.std.proofs.lemmas.List.{append-nil}
-use Rattle.flash_format.specs.Components.{Component, components_from}
+use Rattle.flash_format.specs.Components.{components_from}
 use Rattle.flash_format.specs.Splices.{CellsBetween}
 use Rattle.cbfs_edit.proofs.EmptyEntries.{group_range, emptied-components, emptied-end}
 

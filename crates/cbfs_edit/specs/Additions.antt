@@ -4,7 +4,7 @@ use Rattle.std.specs.Option.{option_map, option_map_or}
 use Rattle.std.specs.Result.{result_map_both, result_ok}
 use Rattle.std.specs.Prelude.{◌≡◌, ℕ, ◌+◌, ◌-◌, ◌==◌, ◌||◌, max, Bool, List, [], ◌∷◌, ◌++◌, length}
 use Rattle.std.specs.Prelude.{slice_range, nat_lt, Option, Some, None, Result, Err, if◌then◌else◌}
-use Rattle.std.specs.Prelude.{◌^◌, ◌<◌, ◌≤◌, false, take, drop}
+use Rattle.std.specs.Prelude.{◌≤◌, false, take, drop}
 use Rattle.flash_format.specs.Head.{round64}
 use Rattle.flash_format.specs.Made.{header_length, empty_entry, empty_header, hash_len, meta_length}
 use Rattle.flash_format.specs.Made.{made}

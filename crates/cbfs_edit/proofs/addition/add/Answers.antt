@@ -1,9 +1,8 @@
-use Rattle.std.proofs.Common.{inl, inr, IsTrue, Err, Some, ap, ◌∙◌, sym, arith, rules}
+use Rattle.std.proofs.Common.{inr, IsTrue, Some, ap, ◌∙◌, sym, arith, rules}
 use Rattle.std.proofs.lemmas.Result.{err_from_is_err_and}
 use Rattle.flash_device.specs.Regions.{bytes_in}
 use Rattle.flash_device.proofs.DeviceLemmas.{honest_still, length-bytes_in}
 use Rattle.cbfs_edit.specs.Additions.{new_component, placed_of}
-use Rattle.cbfs_edit.specs.declared.fault.EditFault.TheVariants as faults
 use Rattle.cbfs_edit.specs.declared.place.Wanted.{Wanted}
 use Rattle.cbfs_edit.proofs.AdditionLemmas.{own-is, no_fault, digest-sized, found_err, place_found, written, stop_leaves, copy_cause, copy_only, copy_source}
 use Rattle.cbfs_edit.proofs.Removals.{image_of}
@@ -48,8 +47,8 @@ returns-in_err-insert g c =
     let fault = c.in_err-insert.field-0.0 in
     let refused = err_from_is_err_and c.from_residual-in_err-insert.result c.from_residual-in_err-insert.ensures.1 in
     let leaves = λ (honest : IsTrue c.args.paged.now.device.honest). stop_leaves c.args.region c.args.paged.now.device new c.args.spot c.in_ok-place.place _ _ (IsTrue (g.S.Source.facts c.args.source.now).honest) _ _ _ c.requires c.ranges.kind.fits (omega (arith, c.len.ensures))
-        (digest-sized c.args.hash new.content) (sym (length-bytes_in c.args.region _ c.requires.inside)) (ap (λ (w : Wanted). w.len) (c.wanted_of-wanted.ensures new.content c.len.ensures.length)) (c.find_place.ensures.after.device.unchanged honest) (is honest)
-        (c.in_err-insert.ensures.stopped (honest_still c.find_place.ensures.after.device.calls.same_honesty honest)) in
+    (digest-sized c.args.hash new.content) (sym (length-bytes_in c.args.region _ c.requires.inside)) (ap (λ (w : Wanted). w.len) (c.wanted_of-wanted.ensures new.content c.len.ensures.length)) (c.find_place.ensures.after.device.unchanged honest) (is honest)
+    (c.in_err-insert.ensures.stopped (honest_still c.find_place.ensures.after.device.calls.same_honesty honest)) in
     rw (refused.1, refused.2) (record {
       after = search rules;
       source = search rules;

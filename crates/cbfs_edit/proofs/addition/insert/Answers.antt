@@ -1,4 +1,4 @@
-use Rattle.std.proofs.Common.{rules, arith}
+use Rattle.std.proofs.Common.{rules}
 use Rattle.flash_device.proofs.DeviceLemmas.{honest_still}
 use Rattle.flash_device.proofs.CopyLemmas.{OnErr-from}
 use Rattle.cbfs_edit.proofs.Insertions.{empty_stop, copied_stop, room-for, shown_stop, shown_added}

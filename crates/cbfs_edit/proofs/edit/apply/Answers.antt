@@ -1,4 +1,4 @@
-use Rattle.std.proofs.Common.{Err, refl, rules}
+use Rattle.std.proofs.Common.{rules}
 use Rattle.cbfs_edit.proofs.EditLists.{addition_step, removal_step, sourceless}
 use Rattle.cbfs_edit.proofs.edit.apply.Goals as goal
 

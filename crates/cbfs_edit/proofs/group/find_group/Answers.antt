@@ -1,5 +1,5 @@
-use Rattle.std.proofs.Common.{inr, ◌∙◌, refl, arith, rules}
-use Rattle.std.proofs.lemmas.Result.{IfErr-weaker, IfOk-weaker, err_from_is_err_and}
+use Rattle.std.proofs.Common.{refl, arith, rules}
+use Rattle.std.proofs.lemmas.Result.{IfOk-weaker, err_from_is_err_and}
 use Rattle.cbfs_edit.specs.Removals.{removal_in}
 use Rattle.cbfs_edit.specs.Searches.{IsBefore, group_by}
 use Rattle.cbfs_edit.proofs.Searches.{surveying_start, surveying_more, searched, surveying_err, group_searched}

@@ -1,8 +1,6 @@
-use Rattle.std.proofs.Common.{◌∙◌, ◌+◌, ℕ, List, ap, length, drop, arith, rules, refl}
+use Rattle.std.proofs.Common.{◌∙◌, length, arith, rules, refl}
 use Rattle.std.proofs.lemmas.List.{take_rest}
 use Rattle.std.proofs.lemmas.Result.{on_ok_weaker}
-use Rattle.flash_device.specs.Device.{overwritten}
-use Rattle.flash_device.specs.Regions.{bytes_in}
 use Rattle.cbfs_edit.proofs.Changes.{metadata-within}
 use Rattle.cbfs_edit.proofs.insertion.write_metadata.Goals as goal
 

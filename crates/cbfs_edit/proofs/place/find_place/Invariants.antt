@@ -1,5 +1,4 @@
 use Rattle.std.proofs.Common.{◌-◌}
-use Rattle.flash_device.specs.Regions.{bytes_in}
 use Rattle.cbfs_edit.specs.Places.{placing_in}
 use Rattle.cbfs_edit.specs.Searches.{IsSurvey, place_by}
 use Rattle.cbfs_edit.proofs.Searches.{Surveying}

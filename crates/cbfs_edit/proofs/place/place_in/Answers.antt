@@ -1,4 +1,4 @@
-use Rattle.std.proofs.Common.{arith, rules}
+use Rattle.std.proofs.Common.{rules}
 use Rattle.cbfs_edit.proofs.Places.{fits_at}
 use Rattle.cbfs_edit.proofs.place.place_in.Goals as goal
 

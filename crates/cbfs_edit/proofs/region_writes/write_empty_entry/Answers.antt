@@ -1,4 +1,4 @@
-use Rattle.std.proofs.Common.{◌-◌, ◌+◌, IsTrue, ap, rules}
+use Rattle.std.proofs.Common.{◌-◌, ◌+◌, ap, rules}
 use Rattle.std.proofs.lemmas.Result.{on_ok_weaker}
 use Rattle.flash_format.specs.Made.{header_length}
 use Rattle.flash_device.proofs.DeviceLemmas.{honest_still}

@@ -1,5 +1,4 @@
 use Rattle.std.proofs.Common.{rules}
-use Rattle.flash_device.proofs.DeviceLemmas.{honest_still}
 use Rattle.cbfs_edit.proofs.Removals.{image_of, removal_leaves}
 use Rattle.cbfs_edit.proofs.removal.remove.Goals as goal
 
