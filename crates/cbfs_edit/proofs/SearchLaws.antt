@@ -164,5 +164,3 @@ pub removals_keep : RemovalsKeepOthers
 removals_keep x name group small is c has other =
     let loses = removal_takes_one x name group small is in
     subst (λ (l : List Component). Contains l c) (sym loses.is) (one_less loses.was.before loses.was.after loses.component c (λ e. absurd (let k : true ≡ false = sym loses.was.named ∙ ap (λ (d : Component). bytes_eq d.name name) e ∙ other in cc)) (subst (λ (l : List Component). Contains l c) loses.was.whole has))
-
-pub ruleset laws = (removal_takes_one, groups_exact, runs_ascend, places_exact, additions_add_one, additions_found, removals_keep)

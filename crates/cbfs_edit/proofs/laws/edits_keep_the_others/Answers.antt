@@ -1,5 +1,5 @@
-use Rattle.cbfs_edit.proofs.SearchLaws.{additions_keep}
+use Rattle.cbfs_edit.proofs.SearchLaws.{additions_keep, removals_keep}
 use Rattle.cbfs_edit.proofs.laws.edits_keep_the_others.Goals as goal
 
-pub returns-clause-added : goal.returns-clause-added
-returns-clause-added c = additions_keep
+pub returns : goal.returns
+returns c = record { added = additions_keep; removed = removals_keep }
