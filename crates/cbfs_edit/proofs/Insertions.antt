@@ -39,13 +39,12 @@ module _ (x : List ℕ) (place : Place) (end : ℕ) (metadata : List ℕ) (room 
   at_start : place.header ≡ place.run.start → HasMetadata x place metadata
   at_start same =
       let here : (place.header == place.run.start) ≡ true = eq-eqb place.header place.run.start same in
-      let none : (place.run.start == place.header) ≡ true = eq-eqb place.run.start place.header (sym same) in
       record {
         space = 0;
         rest_at = rw here (omega arith);
         begin_long = rw here (length-take-le header_length metadata room.metadata_long);
         rest_long = rw here (omega (arith, length-drop header_length metadata, room.metadata_is, room.metadata_long));
-        whole = rw (here, none) (take-append-drop header_length metadata);
+        whole = rw (here, eq-eqb place.run.start place.header (sym same)) (take-append-drop header_length metadata);
         room = omega (arith, room.run.some);
       }
 
@@ -53,14 +52,14 @@ module _ (x : List ℕ) (place : Place) (end : ℕ) (metadata : List ℕ) (room 
   later other =
       let apart : place.run.start + 64 ≤ place.header = omega (arith, other, room.start_below, room.run.start_aligned, room.cell.start_aligned) in
       let there : (place.header == place.run.start) ≡ false = ne_eqb place.header place.run.start other in
-      let some : (place.run.start == place.header) ≡ false = ne_eqb place.run.start place.header (λ q. absurd (omega (arith, q, apart))) in
-      let nothing : kept_at x place.header ≡ None = kept-none x place.header (omega (arith, room.metadata_is, room.metadata_long, room.content_below, room.cell.inside, room.run.inside)) in
       record {
         space = place.header - place.run.start - header_length;
         rest_at = rw there (omega (arith, apart));
         begin_long = rw there (length-empty_header (place.header - place.run.start) false);
         rest_long = rw there (omega (arith, room.metadata_is, apart));
-        whole = rw (there, some, nothing) (sym (append_assoc (empty_header (place.header - place.run.start) false) (replicate (place.header - place.run.start - header_length) 0xff) metadata));
+        whole =
+            rw (there, ne_eqb place.run.start place.header (λ q. absurd (omega (arith, q, apart))), kept-none x place.header (omega (arith, room.metadata_is, room.metadata_long, room.content_below, room.cell.inside, room.run.inside)))
+            (sym (append_assoc (empty_header (place.header - place.run.start) false) (replicate (place.header - place.run.start - header_length) 0xff) metadata));
         room = omega (arith, apart, room.metadata_is, room.metadata_long, room.content_below, room.cell.inside);
       }
 
@@ -86,8 +85,7 @@ module _ (x : List ℕ) (place : Place) (end : ℕ) (metadata : List ℕ) (room 
 
     bound_same : (y : List ℕ) (p : List ℕ) → end ≡ place.run.end → y ≡ overwritten x place.run.start (p ++ tail) → with_bound y end place.run.end ≡ overwritten x place.run.start (p ++ after)
     bound_same y p same is =
-        let here : (end == place.run.end) ≡ true = eq-eqb end place.run.end same in
-        rw here (is ∙ ap (λ k. overwritten x place.run.start (p ++ padding (k - d) (kept_at x k))) (sym same) ∙ ap (λ (l : List ℕ). overwritten x place.run.start (p ++ l)) (sym (append-nil (padding (end - d) (kept_at x end)))))
+        rw (eq-eqb end place.run.end same) (is ∙ ap (λ k. overwritten x place.run.start (p ++ padding (k - d) (kept_at x k))) (sym same) ∙ ap (λ (l : List ℕ). overwritten x place.run.start (p ++ l)) (sym (append-nil (padding (end - d) (kept_at x end)))))
 
     bound_other : (y : List ℕ) (p : List ℕ) → length p ≡ d - place.run.start → (end ≡ place.run.end → ⊥) → y ≡ overwritten x place.run.start (p ++ tail) → with_bound y end place.run.end ≡ overwritten x place.run.start (p ++ after)
     bound_other y p long other is =
@@ -102,9 +100,7 @@ module _ (x : List ℕ) (place : Place) (end : ℕ) (metadata : List ℕ) (room 
         let header_long : length header ≡ header_length = length-empty_header (place.run.end - end) (place.run.end == length y) in
         let header_is : header ≡ empty_header (place.run.end - end) (is_some last) =
         ap (λ k. empty_header (place.run.end - end) (place.run.end == k)) same_size ∙ ap (λ b. empty_header (place.run.end - end) b) (sym (is_some-cond (place.run.end == length x) (last_four x))) in
-        let nothing : kept_at x end ≡ None = kept-none x end (omega (arith, apart, room.run.inside)) in
-        let there : (end == place.run.end) ≡ false = ne_eqb end place.run.end other in
-        rw (there, nothing) (
+        rw (ne_eqb end place.run.end other, kept-none x end (omega (arith, apart, room.run.inside))) (
         ap (λ (l : List ℕ). overwritten l end header) (is ∙ ap (λ (l : List ℕ). overwritten x place.run.start (p ++ l)) tail_is ∙ ap (λ (l : List ℕ). overwritten x place.run.start l) (sym (append_assoc p gap rest)))
         ∙ over_part x place.run.start (p ++ gap) rest header (padding n last) end (omega (arith, room.run.some, room.run.inside))
         (omega (arith, length-append p gap, length-replicate {A = ℕ} (end - d) 0xff, long, fits, room.content_below, room.metadata_is, room.start_below))

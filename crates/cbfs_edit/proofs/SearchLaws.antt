@@ -62,8 +62,7 @@ module _ (x : List ℕ) (new : NewComponent) (spot : Spot) (place : Place) (is :
       let cells : length (cut (added x new place)).cells ≡ length (one_more.cells.before ++ row ++ one_more.cells.after) = ap (λ (c : Cut). length c.cells) (cut_unique (added x new place) (one_more.cells.before ++ row ++ one_more.cells.after) one_more.cells.rest one_more.cells.ending one_more.more.is_cut) in
       let long : length (added x new place) ≡ length x = added_length x new spot place is in
       let some : 64 ≤ length x = region_some x new spot place is in
-      let whole : length x % 64 ≡ 0 = accepted_size x new spot place is.placed in
-      rw (fine_size (length (added x new place)) (omega arith) (ap (λ n. n % 64) long ∙ whole), cell_there (added x new place) (omega arith) (rw cells (one_among one_more.cells.before _ _ one_more.cells.after (made_at x new place)))) refl
+      rw (fine_size (length (added x new place)) (omega arith) (ap (λ n. n % 64) long ∙ accepted_size x new spot place is.placed), cell_there (added x new place) (omega arith) (rw cells (one_among one_more.cells.before _ _ one_more.cells.after (made_at x new place)))) refl
 
   abbrev pub before : List Component
   before = components_from 0 one_more.cells.before
@@ -126,8 +125,7 @@ additions_undone x new spot place is =
     let at = place_after 0 (cut y).cells in
     let removes : removal_in y new.name ≡ Ok group =
     removal_is y new.name (shape_after x new spot place is) (ap (λ (e : End). unless_damaged at e (ok_or (group_of y new.name) faults.NotFound)) more.more.same_end ∙ sound.undamaged at (ok_or (group_of y new.name) faults.NotFound)) ∙ ap (λ (o : Option CellRange). ok_or o faults.NotFound) some.1 in
-    let long : length y ≡ length x = added_length x new spot place is in
-    let loses : LosesOne new.name y (removed y group) = removal_takes_one y new.name group (omega (arith, long, is.region)) removes in
+    let loses : LosesOne new.name y (removed y group) = removal_takes_one y new.name group (omega (arith, added_length x new spot place is, is.region)) removes in
     let was = loses.was in
     let once = one_split (IsNamed new.name) was.before was.after (before x new spot place is) (after x new spot place is) loses.component (added_component x new place) was.named (same_name new.name)
     (unnamed new.name was.before was.none_before) (unnamed new.name (before x new spot place is) (none_before x new spot place is))
