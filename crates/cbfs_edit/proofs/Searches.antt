@@ -52,9 +52,6 @@ each_cell c given later read = later (λ cells. read (c ∷ cells))
 abbrev refused : {A : Type 0} → WalkFault → Reading A → Result A EditFault
 refused fault read = Err (edit_fault_of fault)
 
-law : {A : Type 0} → ReadsCells (read_cut {A = A}) (each_cell {A = A})
-law {A} at c k = fun_ext (λ (read : Reading A). refl)
-
 -- the result from an offset on
 pub found_from : {A : Type 0} → List ℕ → Reading A → ℕ → Result A EditFault
 found_from x read at = reading_of refused read_cut x at read
@@ -73,7 +70,7 @@ found_by x read answer = by_answer refused read_cut each_cell x answer read
 
 found_step : {A : Type 0} (x : List ℕ) (read : Reading A) (at : ℕ) → at ≤ length x → at % 64 ≡ 0 → found_from x read at ≡ found_by x read (answer_at x at)
 unfolding found_from
-found_step {A} x read at inside aligned = ap (λ (f : Reading A → Result A EditFault). f read) (shaped_step refused read_cut each_cell law x at inside aligned)
+found_step {A} x read at inside aligned = ap (λ (f : Reading A → Result A EditFault). f read) (shaped_step refused read_cut each_cell (λ p c k. fun_ext (λ (r : Reading A). refl)) x at inside aligned)
 
 found_refusal : {A : Type 0} (x : List ℕ) (read : Reading A) (fault : WalkFault) → found_by x read (Err fault) ≡ Err (edit_fault_of fault)
 found_refusal x read (walk.Damaged at kind) = refl
