@@ -91,7 +91,7 @@ module _ (x : List ℕ) (group : CellRange) (range : IsCellRange group (length x
           (SameOutside-overwritten x group.start (to - group.start) header (omega (arith, header-length)) (omega (arith, range.some, range.inside))) is.same
 
       -- a stop of an edit, by its cells; bytes from an offset on remain
-      pub emptied-stopped : (done : List ℕ) (last : ℕ) → behind ≤ to → to ≤ group.end → to ≤ last → (components y ≡ components x) ⊎ (components y ≡ components done) → (cut y).end ≡ (cut x).end → IsStopped x group done last y
+      pub emptied-stopped : (done : List ℕ) (last : ℕ) → behind ≤ to → to ≤ group.end → to ≤ last → (components y ≡ components x) ⊎ (components y ≡ components done) → (cut y).end ≡ (cut x).end → IsStopped group last x done y
       emptied-stopped done last order inside later cells ends = record {
         components = cells;
         end = ends;

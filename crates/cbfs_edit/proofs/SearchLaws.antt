@@ -23,9 +23,7 @@ use Rattle.cbfs_walk.specs.declared.walk.WalkFault.{WalkFault}
 use Rattle.cbfs_edit.specs.Removals.{group_of, LosesOne, removed, removal_in, unless_damaged, edit_fault_of}
 use Rattle.cbfs_edit.specs.declared.fault.EditFault.TheVariants as faults
 use Rattle.cbfs_edit.specs.declared.group.CellRange.{CellRange}
-use Rattle.cbfs_edit.proofs.Groups.{group_none, groups_exact}
-use Rattle.cbfs_edit.proofs.Runs.{runs_ascend}
-use Rattle.cbfs_edit.proofs.Places.{places_exact}
+use Rattle.cbfs_edit.proofs.Groups.{group_none}
 use Rattle.cbfs_edit.proofs.Lists.{one_split}
 use Rattle.cbfs_edit.proofs.Removals.{others_have_not, removal_takes_one}
 use Rattle.std.proofs.lemmas.Map.Made.{Contains-tail}

@@ -88,8 +88,7 @@ pub record SameCells (x y : List ℕ) : Type 0 where
   pub end : (cut x).end ≡ (cut y).end
 
 -- The components before or after the edit. Bytes outside the group, and from `kept` on, remain.
-pub record IsStopped (x : List ℕ) (group : CellRange) (done : List ℕ) (kept : ℕ)
-    (y : List ℕ) : Type 0 where
+pub record IsStopped (group : CellRange) (kept : ℕ) (x done y : List ℕ) : Type 0 where
   pub components : (components y ≡ components x) ⊎ (components y ≡ components done)
   pub end : (cut y).end ≡ (cut x).end
   pub same_length : length y ≡ length x
@@ -99,12 +98,12 @@ pub record IsStopped (x : List ℕ) (group : CellRange) (done : List ℕ) (kept 
 -- after a device fault of a removal
 abbrev pub LeavesWhole : List ℕ → List ℕ → List ℕ → Type 0
 LeavesWhole x name y = (y ≡ x) ⊎ ((group : CellRange) × (removal_in x name ≡ Ok group)
-    × IsStopped x group (removed x group) (length x - 4) y)
+    × IsStopped group (length x - 4) x (removed x group) y)
 
 -- after a device fault of an addition; of the last four bytes, only bytes after the content remain
 abbrev pub AddLeavesWhole : List ℕ → NewComponent → Spot → List ℕ → Type 0
 AddLeavesWhole x new spot y = (y ≡ x) ⊎ ((place : Place) × (addition_in x new spot ≡ Ok place)
-    × IsStopped x place.run (added x new place) (kept_from x new place) y)
+    × IsStopped place.run (kept_from x new place) x (added x new place) y)
 
 -- after a source fault: the components of before
 abbrev pub AddLeavesBefore : List ℕ → NewComponent → Spot → List ℕ → Type 0
