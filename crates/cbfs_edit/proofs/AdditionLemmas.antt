@@ -1,29 +1,27 @@
 -- An accepted addition: its place, its effect and its calls.
-use Rattle.std.proofs.Common.{◌≡◌, inl, inr, ℕ, ◌+◌, ◌-◌, ◌/◌, ◌%◌, ◌^◌, ◌<◌, ◌≤◌, Bool, true, false, cond, eqb, ltb, ◌||◌, List, [], ◌∷◌, ◌++◌, length, drop, Contains, Option, Some, None, Ok, sym, ◌∙◌, ap, subst, refl, arith, length-append, ◌⊎◌, ⊎_elim, Result, Err}
+use Rattle.std.proofs.Common.{◌≡◌, inl, inr, ℕ, ◌+◌, ◌-◌, ◌%◌, ◌^◌, ◌<◌, ◌≤◌, Bool, true, false, cond, eqb, ltb, ◌||◌, List, [], ◌∷◌, ◌++◌, length, drop, Contains, Option, Some, None, Ok, sym, ◌∙◌, ap, subst, refl, arith, length-append, ◌⊎◌, ⊎_elim, Result, Err}
 use Rattle.std.specs.Prelude.{◌==◌, IsErrOf}
 use Rattle.std.specs.List.{list_any}
 use Rattle.std.proofs.lemmas.Bool.{cond_both, eqb-false, eqb-true, ltb-false, or_parts}
 use Rattle.std.proofs.lemmas.List.Elements.{Contains-append_right}
-use Rattle.flash_format.specs.Head.{round64}
 use Rattle.flash_format.specs.Entry.{is_nul}
-use Rattle.flash_format.specs.Made.{empty_entry, padding, IsDigest, IsMade, meta_length, made_metadata}
+use Rattle.flash_format.specs.Made.{empty_entry, IsDigest, IsMade, meta_length, made_metadata}
 use Rattle.flash_format.specs.Cut.{cut}
 use Rattle.flash_format.specs.Components.{components}
-use Rattle.flash_format.specs.Splices.{splice}
 use Rattle.flash_format.specs.Placings.{HasOneMore, IsSpace, IsPlacing, space_cells}
 use Rattle.flash_format.proofs.MadeLaws.{length-metadata, hash_as_long, made_as_long, made_alone}
 use Rattle.flash_format.proofs.Placings.{empty_is_space, components_placed}
-use Rattle.flash_device.specs.Device.{Device, Reads, SameOutside}
-use Rattle.flash_device.specs.Pages.{HasChanged, HasRead, Pages}
+use Rattle.flash_device.specs.Device.{Device, SameOutside}
 use Rattle.flash_device.proofs.BytesLemmas.{SameOutside-overwritten, further, length-overwritten}
 use Rattle.cbfs_edit.specs.Removals.{IsCellRange, kept_at, space_end}
 use Rattle.cbfs_edit.specs.Runs.{runs}
 use Rattle.cbfs_edit.specs.Places.{is_bad_align, IsWanted, IsFirstPlace, IsPlaceAmong, placing_in}
 use Rattle.cbfs_edit.specs.Places.{Fits}
 use Rattle.cbfs_edit.specs.Changes.{AddLeavesWhole, AddLeavesBefore, IsOldOrEmptied, written_to, IsInsertStop, copy_edit_fault}
-use Rattle.cbfs_edit.specs.Additions.{NewComponent, AddsOne, added, added_component, addition_in, empty_between, cell_end, metadata_len_of, is_bad_name, is_bad_type, kept_from, made_at, argument_fault, wanted_for, added_to, algorithm_of, digest_of}
+use Rattle.cbfs_edit.specs.Additions.{NewComponent, AddsOne, added, added_component, addition_in, empty_between, cell_end, metadata_len_of, is_bad_name, is_bad_type, kept_from, made_at, argument_fault, wanted_for, added_to, algorithm_of, digest_of, placed_of}
 use Rattle.cbfs_edit.specs.Laws.{AdditionsAddOneComponent, IsAdded}
 use Rattle.cbfs_edit.specs.declared.fault.EditFault.{EditFault}
+use Rattle.cbfs_edit.specs.declared.addition.Placed.{Placed}
 use Rattle.cbfs_edit.specs.declared.group.CellRange.{CellRange}
 use Rattle.cbfs_edit.specs.declared.place.Spot.{Spot}
 use Rattle.cbfs_edit.specs.declared.place.Wanted.{Wanted}
@@ -36,9 +34,9 @@ use Rattle.cbfs_edit.proofs.Changes.{keeps}
 use Rattle.cbfs_edit.proofs.Insertions.{hash_short}
 use Rattle.std.specs.Option.{option_map_or}
 use Rattle.std.specs.Result.{result_ok}
-use Rattle.flash_device.specs.Regions.{Range, LiesIn, bytes_in}
+use Rattle.flash_device.specs.Regions.{Range, LiesOn, bytes_in}
 use Rattle.flash_device.specs.declared.paged.CopyInFault.{CopyInFault}
-use Rattle.flash_device.proofs.DeviceLemmas.{Calls-at_most, Calls-then, honest_still, length-bytes_in}
+use Rattle.flash_device.proofs.DeviceLemmas.{length-bytes_in}
 use Rattle.std.specs.Option.{option_map}
 use Rattle.flash_format.specs.declared.digest.Algorithm.{Algorithm}
 use Rattle.cbfs_walk.specs.Hashes.{hashed_by}
@@ -91,23 +89,19 @@ space x start end order start_aligned end_aligned some =
     (λ e. empty_is_space (end - start) (kept_at x end) (omega (arith, eqb-false start end e, order, start_aligned, end_aligned)) (keeps x end some))
 
 module _ (x : List ℕ) (new : NewComponent) (spot : Spot) (place : Place) (is : IsAdded x new spot place) where
-  abbrev wanted : Wanted
-  wanted = wanted_for new spot
-
   abbrev end : ℕ
   end = cell_end new place
 
   fine : IsAccepted x new spot place
   fine = accepted x new spot place is.placed
 
-  pub there : IsAnsweredPlace x new.name wanted place
-  there = answered_place x new.name wanted place fine.placed
+  pub there : IsAnsweredPlace x new.name (wanted_for new spot) place
+  there = answered_place x new.name (wanted_for new spot) place fine.placed
 
-  is_wanted : IsWanted wanted
-  is_wanted = record { metadata_len = omega (arith, hash_short new.digest, fine.name_short); len = is.content; spot = fine.spot_good }
-
-  first : IsFirstPlace wanted (length x) (runs x) place
-  first = subst (λ (o : Option Place). IsPlaceAmong wanted (length x) (runs x) o) there.found (first_place-right wanted (length x) (runs x) is_wanted)
+  first : IsFirstPlace (wanted_for new spot) (length x) (runs x) place
+  first =
+      let is_wanted : IsWanted (wanted_for new spot) = record { metadata_len = omega (arith, hash_short new.digest, fine.name_short); len = is.content; spot = fine.spot_good } in
+      subst (λ (o : Option Place). IsPlaceAmong (wanted_for new spot) (length x) (runs x) o) there.found (first_place-right (wanted_for new spot) (length x) (runs x) is_wanted)
 
   is_run : Contains (runs x) place.run
   is_run = subst (λ (l : List CellRange). Contains l place.run) (sym first.whole) (Contains-append_right first.before (place.run ∷ first.later) place.run (0, omega arith, refl))
@@ -118,8 +112,8 @@ module _ (x : List ℕ) (new : NewComponent) (spot : Spot) (place : Place) (is :
   range : IsCellRange place.run (length x)
   range = the_run.range
 
-  fits : Fits wanted (length x) place
-  fits = fits_there wanted (length x) place range first.allowed.after_header first.allowed.ends first.header
+  fits : Fits (wanted_for new spot) (length x) place
+  fits = fits_there (wanted_for new spot) (length x) place range first.allowed.after_header first.allowed.ends first.header
 
   some : 4 ≤ length x
   some = omega (arith, range.some, range.inside)
@@ -135,19 +129,6 @@ module _ (x : List ℕ) (new : NewComponent) (spot : Spot) (place : Place) (is :
 
   abbrev metadata : List ℕ
   metadata = made_metadata new.name new.kind new.digest (place.content - place.header - metadata_len_of new) (length new.content)
-
-  abbrev pad : List ℕ
-  pad = padding (round64 (length (metadata ++ new.content)) - length (metadata ++ new.content)) (kept_at x end)
-
-  is_made : IsMade new.name new.kind new.digest (place.content - place.header - metadata_len_of new) new.content
-  is_made = record {
-    name_short = fine.name_short;
-    name_plain = fine.name_plain;
-    kind_small = is.kind;
-    kind_used = fine.kind_good;
-    digest_long = is.digest;
-    small = omega (arith, metadata_long, fits.inside, range.inside, is.region, fits.header.room);
-  }
 
   abbrev before : List ℕ
   before = empty_between x place.run.start place.header
@@ -175,9 +156,6 @@ module _ (x : List ℕ) (new : NewComponent) (spot : Spot) (place : Place) (is :
       let long = length-append before (made_at x new place ++ after) ∙ ap (λ n. length before + n) (length-append (made_at x new place) after) in
       omega (arith, long, placing.space_before.long, placing.space_after.long, cell_long, end_below, fits.start_below, fits.header.room)
 
-  as_spliced : added x new place ≡ splice x place.run.start place.run.end (before ++ (made_at x new place ++ after))
-  as_spliced = as_splice x place.run.start place.run.end (before ++ (made_at x new place ++ after)) (omega (arith, whole_long, range.some))
-
   pub added_length : length (added x new place) ≡ length x
   added_length = length-overwritten x place.run.start (before ++ (made_at x new place ++ after)) (omega (arith, whole_long, range.some, range.inside))
 
@@ -186,13 +164,16 @@ module _ (x : List ℕ) (new : NewComponent) (spot : Spot) (place : Place) (is :
 
   adds_one : AddsOne x new place
   adds_one =
+      let is_made : IsMade new.name new.kind new.digest (place.content - place.header - metadata_len_of new) new.content =
+      record { name_short = fine.name_short; name_plain = fine.name_plain; kind_small = is.kind; kind_used = fine.kind_good; digest_long = is.digest; small = omega (arith, metadata_long, fits.inside, range.inside, is.region, fits.header.room) } in
       let more = components_placed x place.run.start place.run.end the_run.cells place.header before (made_at x new place) after new.name new.kind new.digest new.content the_run.free placing
       (made_alone new.name new.kind new.digest (place.content - place.header - metadata_len_of new) new.content (kept_at x end) is_made (keeps x end some)) in
       record {
         cells = the_run.cells;
         free = the_run.free;
-        more = subst (λ (l : List ℕ). HasOneMore x place.run.start place.run.end the_run.cells (space_cells before ++ (made_at x new place ∷ []) ++ space_cells after) (added_component x new place) l) (sym as_spliced) more;
-        content = content_at x before metadata new.content pad after place.run.start place.content (omega (arith, range.some, range.inside)) (omega (arith, placing.space_before.long, metadata_long, fits.start_below, fits.header.room));
+        more = subst (λ (l : List ℕ). HasOneMore x place.run.start place.run.end the_run.cells (space_cells before ++ (made_at x new place ∷ []) ++ space_cells after) (added_component x new place) l)
+            (sym (as_splice x place.run.start place.run.end (before ++ (made_at x new place ++ after)) (omega (arith, whole_long, range.some)))) more;
+        content = content_at x before metadata new.content _ after place.run.start place.content (omega (arith, range.some, range.inside)) (omega (arith, placing.space_before.long, metadata_long, fits.start_below, fits.header.room));
       }
 
   abbrev to : ℕ
@@ -201,6 +182,9 @@ module _ (x : List ℕ) (new : NewComponent) (spot : Spot) (place : Place) (is :
   near : (space_end (length x) place.run.end ≤ place.run.end) × (place.run.end ≤ space_end (length x) place.run.end + 4)
   near = space_end-near (length x) place.run.end
 
+  below : space_end (length x) place.run.end ≤ length x - 4
+  below = space_end-below (length x) place.run.end range.inside range.end_aligned there.sound.whole
+
   -- a stop before the last commit
   pub add_leaves_before : (y : List ℕ) → IsOldOrEmptied place.run to x y → AddLeavesBefore x new spot y
   add_leaves_before y (inl same) = (inl same, ap (λ (l : List ℕ). components l) same)
@@ -208,14 +192,11 @@ module _ (x : List ℕ) (new : NewComponent) (spot : Spot) (place : Place) (is :
       let within : to ≤ place.run.end = omega (arith, near, fits.inside) in
       let whole = emptied-wider x place.run range to y emptied place.run.end within in
       let kept = emptied_runs x place.run y there.sound.whole is.region is_run whole in
-      let below = space_end-below (length x) place.run.end range.inside range.end_aligned there.sound.whole in
       (inr (place, is.placed, emptied-stopped x place.run range to y emptied (added x new place) (kept_from x new place) (omega (arith, near, range.some)) within (omega (arith, below)) (inl kept.components) kept.end), kept.components)
 
   -- a stop after the last commit
   pub add_leaves_done : (y : List ℕ) → y ≡ added x new place → drop to y ≡ drop to x → AddLeavesWhole x new spot y
   add_leaves_done y done last =
-      let u : List ℕ = before ++ (made_at x new place ++ after) in
-      let below = space_end-below (length x) place.run.end range.inside range.end_aligned there.sound.whole in
       inr (
         place,
         is.placed,
@@ -225,7 +206,7 @@ module _ (x : List ℕ) (new : NewComponent) (spot : Spot) (place : Place) (is :
           same_length = ap length done ∙ added_length;
           outside =
               subst (λ (l : List ℕ). SameOutside place.run.start (place.run.end - place.run.start) x l) (sym done)
-              (SameOutside-overwritten x place.run.start (place.run.end - place.run.start) u (omega (arith, whole_long)) (omega (arith, range.some, range.inside)));
+              (SameOutside-overwritten x place.run.start (place.run.end - place.run.start) (before ++ (made_at x new place ++ after)) (omega (arith, whole_long)) (omega (arith, range.some, range.inside)));
           last = further x y to (kept_from x new place) (omega (arith, below)) last;
         },
       )
@@ -247,19 +228,6 @@ pub no_fault : (o : Option EditFault) → ((fault : EditFault) → o ≡ Some fa
 no_fault None none = refl
 no_fault (Some fault) none = absurd (none fault refl)
 
-pub same_fault : {A : Type 0} (fault other : EditFault) → (let a : Result A EditFault = Err fault in IsErrOf a other) → fault ≡ other
-same_fault fault other is = cc
-
--- an error is the same in results of any type
-pub told : {A B : Type 0} (fault other : EditFault) → (let a : Result A EditFault = Err fault in IsErrOf a other) → (let b : Result B EditFault = Err fault in IsErrOf b other)
-told fault other is = ap (λ e. Err e) (same_fault fault other is)
-
-pub told_as : {A : Type 0} (fault other : EditFault) → fault ≡ other → (let a : Result A EditFault = Err fault in IsErrOf a other)
-told_as fault other is = ap (λ e. Err e) is
-
-pub no_error : {A E X : Type 0} {value : A} {fault : E} → (let a : Result A E = Ok value in IsErrOf a fault) → X
-no_error is = absurd cc
-
 -- a stopped copy
 pub copy_cause : {A Q : Type 0} (fault : CopyInFault) → (let a : Result A EditFault = Err (copy_edit_fault fault) in IsErrOf a faults.Device ⊎ (IsErrOf a faults.Source ⊎ Q))
 copy_cause copies.Device = inl refl
@@ -273,31 +241,15 @@ pub copy_source : {A B : Type 0} (fault : CopyInFault) → (let a : Result A Edi
 copy_source copies.Device is = absurd cc
 copy_source copies.Source is = refl
 
--- the source's calls
-pub content_read : (n told : ℕ) (old new : Device) → Reads ((n + 4095) / 4096) told old new → Reads (n / 4096 + 1) told old new
-content_read n told old new read = record { calls = Calls-at_most ((n + 4095) / 4096) (n / 4096 + 1) told old new (omega (arith, read.calls.no_more)) read.calls; unchanged = read.unchanged }
-
--- the device's calls: search and writes
-pub sought_written : {F : Type 0} (r : Range) (told : ℕ) (old mid new : Pages F) → HasRead (r.size / 16 + 1) 0 old mid → HasChanged r (r.size / 4096 + r.size / 4096 + 6) told mid new
-    → HasChanged r (r.size / 16 + r.size / 2048 + 7) told old new
-sought_written r told old mid new read changed =
-    let n = r.size / 16 + 1 in
-    let m = r.size / 4096 + r.size / 4096 + 6 in
-    let few : r.size / 4096 + r.size / 4096 ≤ r.size / 2048 = omega arith in
-    let calls = Calls-then n m told old.device mid.device new.device read.device.calls changed.calls in
-    record {
-      calls = Calls-at_most (n + m) (r.size / 16 + r.size / 2048 + 7) told old.device new.device (omega (arith, few, calls.no_more)) calls;
-      outside = λ h. subst (λ (l : List ℕ). SameOutside r.start r.size l new.device.content) (read.device.unchanged h) (changed.outside (honest_still read.device.calls.same_honesty h));
-    }
-
 -- the search's result after the caller's own checks
 module _ (x : List ℕ) (new : NewComponent) (spot : Spot) (own : Option EditFault) (wanted : Wanted) (passed : (fault : EditFault) → own ≡ Some fault → ⊥) (own_is : own ≡ argument_fault new.name new.kind spot) (wanted_is : wanted ≡ wanted_for new spot) where
   same : placing_in x new.name wanted ≡ addition_in x new spot
   same = ap (λ (w : Wanted). placing_in x new.name w) wanted_is ∙ own-is x new spot None (no_fault own passed ∙ own_is)
 
-  pub found_in : (r : Result Place EditFault) → IsErrOf r faults.Device ⊎ (r ≡ placing_in x new.name wanted) → IsErrOf r faults.Device ⊎ (r ≡ addition_in x new spot)
-  found_in r (inl failed) = inl failed
-  found_in r (inr found) = inr (found ∙ same)
+  pub found_err : (fault : EditFault) → (let a : Result Place EditFault = Err fault in IsErrOf a faults.Device ⊎ (a ≡ placing_in x new.name wanted))
+      → (let b : Result Placed EditFault = Err fault in IsErrOf b faults.Device ⊎ (IsErrOf b faults.Source ⊎ (b ≡ placed_of (addition_in x new spot))))
+  found_err fault (inl failed) = let e : fault ≡ faults.Device = cc in inl (ap (λ (f : EditFault). Err f) e)
+  found_err fault (inr found) = inr (inr (ap placed_of (found ∙ same)))
 
   pub place_found : (place : Place) → (let a : Result Place EditFault = Ok place in IsErrOf a faults.Device ⊎ (a ≡ placing_in x new.name wanted)) → addition_in x new spot ≡ Ok place
   place_found place (inl failed) = absurd cc
@@ -307,35 +259,15 @@ module _ (x : List ℕ) (new : NewComponent) (spot : Spot) (own : Option EditFau
 pub written : (r : Range) (new : NewComponent) (spot : Spot) (place : Place) (old mid now : List ℕ) → mid ≡ old → addition_in (bytes_in r old) new spot ≡ Ok place → bytes_in r now ≡ added (bytes_in r mid) new place → bytes_in r now ≡ added_to (bytes_in r old) new spot
 written r new spot place old mid now same is there = there ∙ ap (λ (l : List ℕ). added (bytes_in r l) new place) same ∙ sym (ap (λ (a : Result Place EditFault). option_map_or (added (bytes_in r old) new) (result_ok a) (bytes_in r old)) is)
 
-module _ (r : Range) (new : NewComponent) (spot : Spot) (place : Place) (old mid now : List ℕ) (honest : Type 0) (result : Result (Unit {0}) CopyInFault) (n : ℕ) (lies : LiesIn r old) (small : length old < 2 ^ 32) (kind_small : new.kind < 2 ^ 32)
-    (content_small : length new.content < 2 ^ 32) (len : n ≡ length new.content) (digest : IsDigest new.digest) (same : mid ≡ old) (is : addition_in (bytes_in r old) new spot ≡ Ok place)
-    (stopped : IsInsertStop place.run (written_to r.size n place) ((IsErrOf result copies.Source → ⊥) × (honest → bytes_in r now ≡ added (bytes_in r mid) new place)) (bytes_in r mid) (bytes_in r now)) where
-  abbrev x : List ℕ
-  x = bytes_in r old
-
-  abbrev y : List ℕ
-  y = bytes_in r now
-
-  size : length x ≡ r.size
-  size = length-bytes_in r old lies
-
-  added_there : IsAdded x new spot place
-  added_there = record { region = omega (arith, size, lies, small); kind = kind_small; content = content_small; digest = digest; placed = is }
-
-  abbrev Stop : List ℕ → ℕ → ℕ → Type 0
-  Stop l k m = IsInsertStop place.run (written_to k m place) ((IsErrOf result copies.Source → ⊥) × (honest → y ≡ added (bytes_in r l) new place)) (bytes_in r l) y
-
-  stop : Stop old (length x) (length new.content)
-  stop = subst (λ m. Stop old (length x) m) len (subst (λ k. Stop old k n) (sym size) (subst (λ (l : List ℕ). Stop l r.size n) same stopped))
-
-  left_before : IsOldOrEmptied place.run (written_to (length x) (length new.content) place) x y → AddLeavesBefore x new spot y
-  left_before before = add_leaves_before x new spot place added_there y before
-
-  -- after a source fault
-  pub source_leaves : IsErrOf result copies.Source → AddLeavesBefore x new spot y
-  source_leaves failed = ⊎_elim left_before (λ shown. absurd (shown.0.0 failed)) stop
-
-  -- after a device fault
-  pub device_leaves : honest → AddLeavesWhole x new spot y
-  device_leaves true_source =
-      ⊎_elim (λ before. (left_before before).0) (λ shown. add_leaves_done x new spot place added_there y (shown.0.1 true_source) shown.1) stop
+-- the region after a source fault, and after a device fault
+pub stop_leaves : (r : Range) (device : Device) (new : NewComponent) (spot : Spot) (place : Place) (mid now : List ℕ) (honest : Type 0) (result : Result (Unit {0}) CopyInFault) (told n : ℕ) → LiesOn r device → new.kind < 2 ^ 32
+    → length new.content < 2 ^ 32 → IsDigest new.digest → told ≡ length (bytes_in r device.content) → n ≡ length new.content → mid ≡ device.content → addition_in (bytes_in r device.content) new spot ≡ Ok place
+    → IsInsertStop place.run (written_to told n place) ((IsErrOf result copies.Source → ⊥) × (honest → bytes_in r now ≡ added (bytes_in r mid) new place)) (bytes_in r mid) (bytes_in r now)
+    → (IsErrOf result copies.Source → AddLeavesBefore (bytes_in r device.content) new spot (bytes_in r now)) × (honest → AddLeavesWhole (bytes_in r device.content) new spot (bytes_in r now))
+stop_leaves r device new spot place mid now honest result told n lies kind content digest is_told len same is stopped =
+    let x : List ℕ = bytes_in r device.content in
+    let y : List ℕ = bytes_in r now in
+    let there : IsAdded x new spot place = record { region = omega (arith, length-bytes_in r device.content lies.inside, lies.inside, lies.below); kind = kind; content = content; digest = digest; placed = is } in
+    let before = λ (b : IsOldOrEmptied place.run (written_to (length x) (length new.content) place) x y). add_leaves_before x new spot place there y b in
+    let stop = rw (same, is_told, len) at stopped in
+    (λ failed. ⊎_elim before (λ shown. absurd (shown.0.0 failed)) stop, λ true_source. ⊎_elim (λ b. (before b).0) (λ shown. add_leaves_done x new spot place there y (shown.0.1 true_source) shown.1) stop)

@@ -44,7 +44,7 @@ within y z at n from to after before same =
 pub again : (x y z : List ℕ) (at n : ℕ) → SameOutside at n x y → SameOutside at n y z → SameOutside at n x z
 again x y z at n first second = record { before = second.before ∙ first.before; after = second.after ∙ first.after }
 
-module _ (size : ℕ) (place : Place) (end metadata : ℕ) (room : HasRoom size place end metadata) (y z : List ℕ) where
+module _ (size : ℕ) (place : Place) (end metadata : ℕ) (room : HasRoom place end metadata size) (y z : List ℕ) where
   -- the other metadata
   pub metadata-within : (at n : ℕ) → at ≡ place.header + held_back place → n ≡ metadata - held_back place → SameOutside at n y z → IsUnfinished place y z
   metadata-within at n is long same =

@@ -4,7 +4,7 @@ use Rattle.std.specs.Borrow.{Bor}
 use Rattle.std.specs.Prelude.{IsErrOf, IfErr, IfOk, OnOk, sum_by}
 use Rattle.flash_device.specs.Regions.{Range, bytes_in}
 use Rattle.cbfs_edit.specs.Additions.{new_component, addition_in, added_to, placed_of}
-use Rattle.cbfs_edit.specs.Changes.{by_fault, by_device, by_source, LeavesWhole, AddLeavesWhole, AddLeavesBefore}
+use Rattle.cbfs_edit.specs.Changes.{by_device, by_source, LeavesWhole, AddLeavesWhole, AddLeavesBefore}
 use Rattle.cbfs_edit.specs.Removals.{removed, removal_in}
 use Rattle.cbfs_edit.specs.Steps.{IsReply, Run, Step, edit_calls, faults_of}
 use Rattle.cbfs_edit.specs.declared.addition.HashChoice.{HashChoice}
@@ -14,7 +14,6 @@ use Rattle.cbfs_edit.specs.declared.fault.EditFault.{EditFault}
 use Rattle.cbfs_edit.specs.declared.group.CellRange.{CellRange}
 use Rattle.cbfs_edit.specs.declared.place.Place.{Place}
 use Rattle.cbfs_edit.specs.declared.place.Spot.{Spot}
-use Rattle.cbfs_edit.proofs.AdditionLemmas.{same_fault, told_as}
 use Rattle.std.proofs.lemmas.List.{take_all, take_more, take_more_set, drop-set-lt, drop-drop, get_or-drop}
 use Rattle.std.proofs.Math.ListN.{length-set}
 use Rattle.std.proofs.lemmas.List.Sums.{sum_by_more, sum_by-append}
@@ -26,11 +25,6 @@ use Rattle.cbfs_edit.specs.declared.edit.Reply.TheVariants as replies
 use Rattle.cbfs_edit.specs.declared.fault.EditFault.TheVariants as faults
 
 -- ---- the step of an edit, by its clauses
-
-by-fault : (fault : EditFault) (A B C : Type 0) → (fault ≡ faults.Device → A) → (fault ≡ faults.Source → B) → (fault ≢ faults.Device → fault ≢ faults.Source → C) → by_fault fault A B C
-by-fault faults.Device A B C a b c = a refl
-by-fault faults.Source A B C a b c = b refl
-by-fault other A B C a b c = c (λ e. absurd cc) (λ e. absurd cc)
 
 abbrev removal_reply : Result CellRange EditFault → Reply
 removal_reply (Ok group) = replies.Freed group
@@ -48,19 +42,17 @@ pub removal_step : {S : Type 0} (facts : S → Device) (name : Bor (List ℕ)) (
     → (honest → IsErrOf result faults.Device → LeavesWhole (bytes_in r old) name.now (bytes_in r now))
     → IsReply facts (Remove name) (removal_reply result) honest (bytes_in r old) (bytes_in r now)
 removal_step facts name r honest old now (Ok group) no_source answer changed refused stopped = λ h. (⊎_elim (λ failed. absurd cc) (λ is. sym is) (answer h), changed h)
-removal_step facts name r honest old now (Err fault) no_source answer changed refused stopped = λ h.
-    by-fault fault _ _ _
-    (λ e. stopped h (told_as fault faults.Device e))
-    (λ e. no_source (told_as fault faults.Source e))
-    (λ other _. (⊎_elim (λ failed. absurd (other (same_fault fault faults.Device failed))) (λ is. sym is) (answer h), ap (λ (l : List ℕ). bytes_in r l) (refused h other)))
+removal_step facts name r honest old now (Err faults.Device) no_source answer changed refused stopped = λ h. stopped h refl
+removal_step facts name r honest old now (Err faults.Source) no_source answer changed refused stopped = λ h. no_source refl
+removal_step facts name r honest old now (Err fault) no_source answer changed refused stopped = λ h. (⊎_elim (λ failed. absurd cc) (λ is. sym is) (answer h), ap (λ (l : List ℕ). bytes_in r l) (refused h (λ e. absurd cc)))
 
 pub sourceless : (fault : EditFault) → (let a : Result CellRange EditFault = Err fault in IsErrOf a faults.Source → ⊥) → by_source fault ≡ 0
-sourceless faults.Source no_source = absurd (no_source (told_as faults.Source faults.Source refl))
+sourceless faults.Source no_source = absurd (no_source refl)
 sourceless fault no_source = refl
 
 placed-refused : (place : Result Place EditFault) (fault : EditFault) → Err fault ≡ placed_of place → place ≡ Err fault
 placed-refused (Ok place) fault is = absurd cc
-placed-refused (Err other) fault is = ap (λ (e : EditFault). Err e) (sym (same_fault fault other is))
+placed-refused (Err other) fault is = let e : other ≡ fault = cc in ap (λ (f : EditFault). Err f) e
 
 pub addition_step : {S : Type 0} (facts : S → Device) (name : Bor (List ℕ)) (kind : ℕ) (hash : HashChoice) (spot : Spot) (source : S) (r : Range) (honest : Type 0) (old now : List ℕ) (result : Result Placed EditFault)
     → let new = new_component name.now kind hash (facts source).content in
@@ -72,20 +64,14 @@ pub addition_step : {S : Type 0} (facts : S → Device) (name : Bor (List ℕ)) 
     → IsReply facts (Add name kind hash spot source) (addition_reply result) honest (bytes_in r old) (bytes_in r now)
 addition_step facts name kind hash spot source r honest old now (Ok placed) answer changed refused stopped before = λ h true_source.
     (⊎_elim (λ failed. absurd cc) (λ rest. ⊎_elim (λ failed. absurd cc) (λ is. sym is) rest) (answer h), changed h true_source)
-addition_step facts name kind hash spot source r honest old now (Err fault) answer changed refused stopped before = λ h true_source.
-    by-fault fault _ _ _
-    (λ e. stopped h true_source (told_as fault faults.Device e))
-    (λ e. before h (told_as fault faults.Source e))
-    (λ other not_source. (
-      ⊎_elim (λ failed. absurd (other (same_fault fault faults.Device failed))) (λ rest. ⊎_elim (λ failed. absurd (not_source (same_fault fault faults.Source failed))) (λ is. placed-refused _ fault is) rest) (answer h),
-      ap (λ (l : List ℕ). bytes_in r l) (refused h other not_source),
-    ))
+addition_step facts name kind hash spot source r honest old now (Err faults.Device) answer changed refused stopped before = λ h true_source. stopped h true_source refl
+addition_step facts name kind hash spot source r honest old now (Err faults.Source) answer changed refused stopped before = λ h true_source. before h refl
+addition_step facts name kind hash spot source r honest old now (Err fault) answer changed refused stopped before = λ h true_source. (
+  ⊎_elim (λ failed. absurd cc) (λ rest. ⊎_elim (λ failed. absurd cc) (λ is. placed-refused _ fault is) rest) (answer h),
+  ap (λ (l : List ℕ). bytes_in r l) (refused h (λ e. absurd cc) (λ e. absurd cc)),
+)
 
 -- ---- a list with one more step
-
--- two calls
-pub changed_more : {F : Type 0} (region : Range) (n k r q : ℕ) (a b c : Pages F) → HasChanged region n r a b → HasChanged region k q b c → HasChanged region (n + k) (r + q) a c
-changed_more region n k r q a b c first second = search rules
 
 module _ {S : Type 0} (facts : S → Device) (region : Range) where
   run-push : (olds news : List (Edit S)) (replies : List Reply) (before mid after : Device) (old new : Edit S) (reply : Reply) → Run facts region olds news replies before mid → Step facts region old new mid reply after
@@ -129,10 +115,10 @@ module _ {F S : Type 0} (facts : S → Device) where
       record {
         after =
             let calls : sum_by (edit_calls region.size) (take (i + 1) olds) ≡ sum_by (edit_calls region.size) (take i olds) + edit_calls region.size e =
-            sum_by_more (edit_calls region.size) olds i e in_olds ∙ ap (λ (k : Edit S). sum_by (edit_calls region.size) (take i olds) + edit_calls region.size k) (sym was) in
+            sum_by_more (edit_calls region.size) olds i e in_olds ∙ rw (← was) refl in
             let faults : sum_by (faults_of by_device) (take (i + 1) (set replies i reply)) ≡ sum_by (faults_of by_device) (take i replies) + faults_of by_device reply =
             ap (λ (rs : List Reply). sum_by (faults_of by_device) rs) (take_more_set replies i reply in_replies) ∙ sum_by-append (faults_of by_device) (take i replies) (reply ∷ []) ∙ omega arith in
-            rw (calls, faults) (changed_more region _ _ _ _ old now new so_far.after after);
+            rw (calls, faults) (search rules);
         as_many = length-set edits i f ∙ so_far.as_many;
         replied = length-set replies i reply ∙ so_far.replied;
         others =
@@ -145,10 +131,7 @@ module _ {F S : Type 0} (facts : S → Device) where
 
   pub applied_none : (region : Range) (olds : List (Edit S)) (replies : List Reply) (old : Pages F) → length olds ≡ length replies → Applied region olds olds replies 0 old old
   applied_none region olds replies old same = record {
-    after = record {
-      calls = record { no_fewer = omega arith; no_more = omega arith; faults = omega arith; same_honesty = refl; same_length = refl };
-      outside = λ h. record { before = refl; after = refl };
-    };
+    after = search rules;
     as_many = refl;
     replied = sym same;
     others = refl;

@@ -1,11 +1,11 @@
 -- Formatting.
-use Rattle.std.proofs.Common.{◌≡◌, ◌⊎◌, inl, inr, ℕ, ◌+◌, ◌-◌, ◌%◌, ◌^◌, ◌<◌, ◌≤◌, Bool, true, cond, Some, None, List, [], ◌∷◌, ◌++◌, length, drop, sym, ◌∙◌, ap, refl, arith, length-append}
+use Rattle.std.proofs.Common.{◌≡◌, ◌⊎◌, inl, inr, ℕ, ◌+◌, ◌-◌, ◌%◌, ◌^◌, ◌<◌, ◌≤◌, Bool, true, Some, List, [], ◌∷◌, ◌++◌, length, drop, sym, ◌∙◌, ap, refl, arith, length-append}
 use Rattle.std.specs.Prelude.{◌==◌}
 use Rattle.std.proofs.lemmas.List.{append-nil, drop_all}
 use Rattle.std.proofs.lemmas.Bool.{eq-eqb}
 use Rattle.std.proofs.lemmas.List.Elements.{All-nil, All-cons}
 use Rattle.flash_format.specs.Head.{head_of, is_free}
-use Rattle.flash_format.specs.Made.{header_length, empty_header, empty_entry, padding}
+use Rattle.flash_format.specs.Made.{header_length, empty_header, padding}
 use Rattle.flash_format.specs.Entry.{entry, cell}
 use Rattle.flash_format.specs.Cut.{complete, IsCell}
 use Rattle.flash_format.proofs.CutLaws.{cut_unique}
@@ -13,7 +13,7 @@ use Rattle.flash_format.proofs.EmptyEntryLaws.{empty_header-cell, length-empty_h
 use Rattle.flash_format.proofs.MadeLaws.{length-padding}
 use Rattle.flash_device.specs.Device.{overwritten}
 use Rattle.flash_device.proofs.BytesLemmas.{further}
-use Rattle.cbfs_edit.specs.Removals.{IsCellRange, removed, last_four, kept_at, space_end}
+use Rattle.cbfs_edit.specs.Removals.{IsCellRange, removed, last_four, space_end}
 use Rattle.cbfs_edit.specs.Changes.{IsOldOrEmptied}
 use Rattle.cbfs_edit.specs.Formats.{formatted, IsOneFreeCell}
 use Rattle.cbfs_edit.specs.Laws.{FormattedIsOneFreeCell}
@@ -53,11 +53,8 @@ format_done x y size long some is =
     let space : List ℕ = padding (length x - header_length) (Some (last_four x)) in
     let wide : length (formatted x) ≡ length x =
     omega (arith, length-append (empty_header (length x) true) space, length-empty_header (length x) true, length-padding (length x - header_length) (Some (last_four x)) (length-last_four x (omega arith))) in
-    is
-    ∙ ap (λ n. removed x (whole_range n)) (sym long)
-    ∙ ap (λ n. overwritten x 0 (empty_entry n (kept_at x (length x)))) (let e : length x - 0 ≡ length x = omega arith in e)
-    ∙ ap (λ b. overwritten x 0 (empty_entry (length x) (cond b (Some (last_four x)) None))) (eq-eqb (length x) (length x) refl)
-    ∙ overwritten-whole x (formatted x) wide
+    let all : length x - 0 ≡ length x = omega arith in
+    is ∙ rw (← long, all, eq-eqb (length x) (length x) refl) (overwritten-whole x (formatted x) wide)
 
 -- a stop at a write
 pub format_stopped : (x y : List ℕ) (size told : ℕ) → length x ≡ size → told ≡ size → 64 ≤ size → size % 64 ≡ 0 → size < 2 ^ 32 → IsOldOrEmptied (whole_range size) (space_end told size) x y → ((y ≡ x) ⊎ IsOneFreeCell y) × (last_four y ≡ last_four x)

@@ -1,5 +1,5 @@
 -- A group is the first component with the name and all adjacent free cells.
-use Rattle.std.proofs.Common.{◌≡◌, ℕ, ◌+◌, ◌%◌, List, [], ◌∷◌, ◌++◌, length, sym, ◌∙◌, ap, subst, append_assoc, length-append, inl, inr, ◌<◌, refl, arith, All, Contains, Option, Some, None, true}
+use Rattle.std.proofs.Common.{◌≡◌, ℕ, ◌+◌, ◌%◌, List, [], ◌∷◌, ◌++◌, length, sym, ◌∙◌, ap, subst, append_assoc, length-append, inl, inr, ◌<◌, refl, arith, All, Contains, Option, Some, None, true, cond}
 use Rattle.std.specs.List.{concat, last_or, slice_get}
 use Rattle.std.specs.Prelude.{IfSome}
 use Rattle.std.proofs.lemmas.List.{append-nil}
@@ -48,6 +48,9 @@ length-group row c more = omega (arith, ap length (concat-append row (c ∷ more
 
 pub length-concat-push : (row : List (List ℕ)) (c : List ℕ) → length (concat (row ++ c ∷ [])) ≡ length (concat row) + length c
 length-concat-push row c = ap length (concat-append row (c ∷ [])) ∙ length-append (concat row) (c ++ []) ∙ ap (λ (l : List ℕ). length (concat row) + length l) (append-nil c)
+
+pub length-placed : (done row : List (List ℕ)) (c : List ℕ) → length (concat ((done ++ row) ++ c ∷ [])) ≡ length (concat done) + length (concat row) + length c
+length-placed done row c = omega (arith, length-concat-push (done ++ row) c, ap length (concat-append done row), length-append (concat done) (concat row))
 
 -- ---- the result of a removal is a group
 
@@ -115,11 +118,10 @@ unfolding by_rows
 exact name start at done row [] group none ends free begun is found = absurd cc
 exact name start at done row (c ∷ cells) group none ends free begun is found =
     let next = at + length c in
-    let longer : start + length (concat (row ++ c ∷ [])) ≡ next = omega (arith, length-concat-push row c) in
     let moved : done ++ ((row ++ c ∷ []) ++ cells) ≡ done ++ (row ++ c ∷ cells) = ap (λ (l : List (List ℕ)). done ++ l) (append_assoc row (c ∷ []) cells) in
     let passed : ((done ++ row) ++ c ∷ []) ++ ([] ++ cells) ≡ done ++ (row ++ c ∷ cells) = append_assoc (done ++ row) (c ∷ []) cells ∙ append_assoc done row (c ∷ cells) in
     elim (cases_Bool (is_free (head_of c))) [
-      | inl f ↦ subst (λ (l : List (List ℕ)). IsGroupOf name l group) moved (exact name start next done (row ++ c ∷ []) cells group none ends (All-push IsFree row c free f) begun longer (rw f at found))
+      | inl f ↦ subst (λ (l : List (List ℕ)). IsGroupOf name l group) moved (exact name start next done (row ++ c ∷ []) cells group none ends (All-push IsFree row c free f) begun (omega (arith, length-concat-push row c)) (rw f at found))
       | inr used ↦ elim (cases_Bool (bytes_eq (cell_name c) name)) [
         | inl named ↦
             let r : FreeRow cells = free_row cells in
@@ -146,10 +148,8 @@ exact name start at done row (c ∷ cells) group none ends free begun is found =
               row_after_free = r.free;
             })
         | inr other ↦
-            let before : length (concat ((done ++ row) ++ c ∷ [])) ≡ next = omega (arith, length-concat-push (done ++ row) c, ap length (concat-append done row), length-append (concat done) (concat row)) in
             let not : All (IsNot name) ((done ++ row) ++ c ∷ []) = All-push (IsNot name) (done ++ row) c (All-append (IsNot name) done row none (All-weaker IsFree (IsNot name) (free_is_not name) row free)) (λ u. other) in
-            subst (λ (l : List (List ℕ)). IsGroupOf name l group) passed
-            (exact name next next ((done ++ row) ++ c ∷ []) [] cells group not (ends_push (done ++ row) c used) (All-nil IsFree) before (omega arith) (rw (used, other) at found))
+            subst (λ (l : List (List ℕ)). IsGroupOf name l group) passed (exact name next next ((done ++ row) ++ c ∷ []) [] cells group not (ends_push (done ++ row) c used) (All-nil IsFree) (omega (arith, length-placed done row c)) (omega arith) (rw (used, other) at found))
       ]
     ]
 
@@ -190,12 +190,6 @@ group_some x name group g = omega (arith, end_of name (cut x).cells group g, com
 
 -- ---- each group is the result of a removal
 
--- a component with the name ends the search
-at_component : (name : List ℕ) (start at : ℕ) (c : List ℕ) (cells : List (List ℕ)) → IsComponent c → bytes_eq (cell_name c) name ≡ true
-    → group_from name start at (c ∷ cells) ≡ Some (record { start = start; end = row_end (at + length c) cells })
-unfolding by_rows
-at_component name start at c cells used named = rw (used, named) refl
-
 -- cells without the name, the last a component
 over_others : (name : List ℕ) (start at : ℕ) (before cells : List (List ℕ)) → (before ≡ [] → start ≡ at) → EndsWithComponent before → All (IsNot name) before
     → group_from name start at (before ++ cells) ≡ group_from name (at + length (concat before)) (at + length (concat before)) cells
@@ -213,17 +207,18 @@ over_others name start at (c ∷ before) cells fresh ends others =
     ]
 
 one_group : (x name : List ℕ) (group : CellRange) → IsGroupOf name (cut x).cells group → group_of x name ≡ Some group
+unfolding by_rows
 one_group x name group is =
     let behind : List (List ℕ) = is.row_after ++ is.range.after in
     let first : 0 + length (concat is.range.before) ≡ group.start = omega (arith, is.range.start_is) in
     let next = group.start + length (concat is.row_before) + length is.component in
     let last : row_end next behind ≡ group.end = row_ends next is.row_after is.range.after is.row_after_free is.range.no_more_after ∙ end_of name (cut x).cells group is in
+    let step : group_from name group.start (group.start + length (concat is.row_before)) (is.component ∷ behind) ≡ Some group = rw (is.is_component, is.named, last) refl in
     ap (λ (cells : List (List ℕ)). group_from name 0 0 cells) (whole_of name (cut x).cells group is)
     ∙ over_others name 0 0 is.range.before (is.row_before ++ (is.component ∷ behind)) (λ none. refl) is.range.no_more_before is.first
     ∙ ap (λ n. group_from name n n (is.row_before ++ (is.component ∷ behind))) first
-    ∙ over_row _ _ group.start group.start is.row_before (is.component ∷ behind) is.row_before_free
-    ∙ at_component name group.start (group.start + length (concat is.row_before)) is.component behind is.is_component is.named
-    ∙ ap (λ n. Some (let r : CellRange = record { start = group.start; end = n } in r)) last
+    ∙ over_row (λ s a. None) (λ s a c cells rest. cond (bytes_eq (cell_name c) name) (Some (let r : CellRange = record { start = s; end = row_end (a + length c) cells } in r)) rest) group.start group.start is.row_before (is.component ∷ behind) is.row_before_free
+    ∙ step
 
 -- no component has the name
 no_group : (x name : List ℕ) (found : Option CellRange) → group_of x name ≡ found → All (IsNot name) (cut x).cells → None ≡ found

@@ -1,8 +1,8 @@
 -- The writes of a component: their result, and the region after a stop.
-use Rattle.std.proofs.Common.{◌≡◌, ⊎_elim, ℕ, ◌+◌, ◌-◌, ◌≤◌, true, false, List, [], ◌++◌, length, take, drop, replicate, Option, Some, None, sym, ◌∙◌, ap, arith, rules, append_assoc, length-append, length-drop, take-append-drop, ◌⊎◌, inl, inr, ◌^◌, ◌<◌, Result, Ok, Err, subst, refl}
-use Rattle.std.specs.Prelude.{◌==◌, is_some, max, OnErr, option_copied}
+use Rattle.std.proofs.Common.{◌≡◌, ⊎_elim, ℕ, ◌+◌, ◌-◌, ◌≤◌, true, false, List, [], ◌++◌, length, take, drop, replicate, Option, Some, None, sym, ◌∙◌, ap, arith, rules, append_assoc, length-append, length-drop, take-append-drop, ◌⊎◌, inl, inr, ◌^◌, ◌<◌, subst, refl}
+use Rattle.std.specs.Prelude.{◌==◌, is_some, max, option_copied}
 use Rattle.std.proofs.lemmas.Bool.{cases_eq, eq-eqb, ne_eqb, cond_both, eqb-false}
-use Rattle.std.proofs.lemmas.List.{append-nil, length-replicate, length-take-le}
+use Rattle.std.proofs.lemmas.List.{append-nil, drop_at, length-replicate, length-take-le}
 use Rattle.flash_format.specs.Head.{round64}
 use Rattle.flash_format.specs.Made.{algorithm, header_length, empty_header, empty_entry, padding, KeepsFour, hash_len, made, made_metadata, metadata_of, described_len}
 use Rattle.flash_format.proofs.EmptyEntryLaws.{length-empty_header}
@@ -13,7 +13,7 @@ use Rattle.cbfs_edit.specs.declared.place.Place.{Place}
 use Rattle.cbfs_edit.specs.Removals.{last_four, kept_at, removed, space_end}
 use Rattle.cbfs_edit.specs.Additions.{empty_between, NewComponent, added, digest_of, metadata_len_of, component_of_label, wanted_for, HasRoom, held_back, with_metadata, with_bound, shown_by, with_component, IsUnfinished}
 use Rattle.cbfs_edit.proofs.Changes.{is_some-cond, keeps, kept-none}
-use Rattle.cbfs_edit.proofs.Lists.{over_part, padding-begins, padding-split}
+use Rattle.cbfs_edit.proofs.Lists.{over_part, drop-padding, padding-begins}
 use Rattle.flash_format.specs.declared.digest.Digest.{Digest}
 use Rattle.flash_format.specs.declared.meta.Meta.{Meta}
 use Rattle.flash_device.specs.Regions.{Range, LiesIn, bytes_in}
@@ -21,7 +21,6 @@ use Rattle.flash_device.proofs.DeviceLemmas.{length-bytes_in}
 use Rattle.cbfs_edit.specs.Places.{Fits}
 use Rattle.cbfs_edit.specs.Changes.{IsEmptied, IsInsertStop, IsOldOrEmptied, written_to}
 use Rattle.cbfs_edit.specs.declared.addition.Label.{Label}
-use Rattle.cbfs_edit.specs.declared.group.CellRange.{CellRange}
 use Rattle.cbfs_edit.specs.declared.place.Wanted.{Wanted}
 use Rattle.cbfs_edit.proofs.EmptyEntries.{emptied-outside, emptied-wider, emptied-write, old_or-wider, removed-emptied, same_region_length, space_end-near}
 
@@ -36,148 +35,125 @@ pub record HasMetadata (x : List ℕ) (place : Place) (metadata : List ℕ) : Ty
   pub whole : shown_by place metadata ++ (replicate space 0xff ++ drop (held_back place) metadata) ≡ empty_between x place.run.start place.header ++ metadata
   pub room : place.run.start + header_length + space + 4 ≤ place.run.end
 
-module _ (x : List ℕ) (place : Place) (end : ℕ) (metadata : List ℕ) (room : HasRoom (length x) place end (length metadata)) where
-  abbrev s : ℕ
-  s = place.run.start
-
-  abbrev h : ℕ
-  h = place.header
-
-  abbrev e : ℕ
-  e = place.run.end
-
-  at_start : h ≡ s → HasMetadata x place metadata
+module _ (x : List ℕ) (place : Place) (end : ℕ) (metadata : List ℕ) (room : HasRoom place end (length metadata) (length x)) where
+  at_start : place.header ≡ place.run.start → HasMetadata x place metadata
   at_start same =
-      let here : (h == s) ≡ true = eq-eqb h s same in
-      let none : (s == h) ≡ true = eq-eqb s h (sym same) in
+      let here : (place.header == place.run.start) ≡ true = eq-eqb place.header place.run.start same in
       record {
         space = 0;
         rest_at = rw here (omega arith);
         begin_long = rw here (length-take-le header_length metadata room.metadata_long);
         rest_long = rw here (omega (arith, length-drop header_length metadata, room.metadata_is, room.metadata_long));
-        whole = rw (here, none) (take-append-drop header_length metadata);
+        whole = rw (here, eq-eqb place.run.start place.header (sym same)) (take-append-drop header_length metadata);
         room = omega (arith, room.run.some);
       }
 
-  later : (h ≡ s → ⊥) → HasMetadata x place metadata
+  later : (place.header ≡ place.run.start → ⊥) → HasMetadata x place metadata
   later other =
-      let apart : s + 64 ≤ h = omega (arith, other, room.start_below, room.run.start_aligned, room.cell.start_aligned) in
-      let there : (h == s) ≡ false = ne_eqb h s other in
-      let some : (s == h) ≡ false = ne_eqb s h (λ q. absurd (omega (arith, q, apart))) in
-      let nothing : kept_at x h ≡ None = kept-none x h (omega (arith, room.metadata_is, room.metadata_long, room.content_below, room.cell.inside, room.run.inside)) in
+      let apart : place.run.start + 64 ≤ place.header = omega (arith, other, room.start_below, room.run.start_aligned, room.cell.start_aligned) in
+      let there : (place.header == place.run.start) ≡ false = ne_eqb place.header place.run.start other in
       record {
-        space = h - s - header_length;
+        space = place.header - place.run.start - header_length;
         rest_at = rw there (omega (arith, apart));
-        begin_long = rw there (length-empty_header (h - s) false);
+        begin_long = rw there (length-empty_header (place.header - place.run.start) false);
         rest_long = rw there (omega (arith, room.metadata_is, apart));
-        whole = rw (there, some, nothing) (sym (append_assoc (empty_header (h - s) false) (replicate (h - s - header_length) 0xff) metadata));
+        whole =
+            rw (there, ne_eqb place.run.start place.header (λ q. absurd (omega (arith, q, apart))), kept-none x place.header (omega (arith, room.metadata_is, room.metadata_long, room.content_below, room.cell.inside, room.run.inside)))
+            (sym (append_assoc (empty_header (place.header - place.run.start) false) (replicate (place.header - place.run.start - header_length) 0xff) metadata));
         room = omega (arith, apart, room.metadata_is, room.metadata_long, room.content_below, room.cell.inside);
       }
 
   pub has_metadata : HasMetadata x place metadata
-  has_metadata = ⊎_elim at_start later (cases_eq h s)
+  has_metadata = ⊎_elim at_start later (cases_eq place.header place.run.start)
 
   module _ (content : List ℕ) (fits : place.content + length content ≤ end) where
     abbrev d : ℕ
     d = place.content + length content
 
     abbrev last : Option (List ℕ)
-    last = kept_at x e
+    last = kept_at x place.run.end
 
     abbrev tail : List ℕ
-    tail = padding (e - d) last
+    tail = padding (place.run.end - d) last
 
     four : KeepsFour last
-    four = keeps x e (omega (arith, room.run.some, room.run.inside))
+    four = keeps x place.run.end (omega (arith, room.run.some, room.run.inside))
 
     -- the header of the empty entry after the component, if any
     abbrev after : List ℕ
-    after = padding (end - d) (kept_at x end) ++ empty_between x end e
+    after = padding (end - d) (kept_at x end) ++ empty_between x end place.run.end
 
-    bound_same : (y : List ℕ) (p : List ℕ) → end ≡ e → y ≡ overwritten x s (p ++ tail) → with_bound y end e ≡ overwritten x s (p ++ after)
+    bound_same : (y : List ℕ) (p : List ℕ) → end ≡ place.run.end → y ≡ overwritten x place.run.start (p ++ tail) → with_bound y end place.run.end ≡ overwritten x place.run.start (p ++ after)
     bound_same y p same is =
-        let here : (end == e) ≡ true = eq-eqb end e same in
-        rw here (is ∙ ap (λ k. overwritten x s (p ++ padding (k - d) (kept_at x k))) (sym same) ∙ ap (λ (l : List ℕ). overwritten x s (p ++ l)) (sym (append-nil (padding (end - d) (kept_at x end)))))
+        rw (eq-eqb end place.run.end same) (is ∙ ap (λ k. overwritten x place.run.start (p ++ padding (k - d) (kept_at x k))) (sym same) ∙ ap (λ (l : List ℕ). overwritten x place.run.start (p ++ l)) (sym (append-nil (padding (end - d) (kept_at x end)))))
 
-    bound_other : (y : List ℕ) (p : List ℕ) → length p ≡ d - s → (end ≡ e → ⊥) → y ≡ overwritten x s (p ++ tail) → with_bound y end e ≡ overwritten x s (p ++ after)
+    bound_other : (y : List ℕ) (p : List ℕ) → length p ≡ d - place.run.start → (end ≡ place.run.end → ⊥) → y ≡ overwritten x place.run.start (p ++ tail) → with_bound y end place.run.end ≡ overwritten x place.run.start (p ++ after)
     bound_other y p long other is =
-        let apart : end + 64 ≤ e = omega (arith, other, room.cell.inside, room.cell.end_aligned, room.run.end_aligned) in
-        let n = e - end - header_length in
+        let apart : end + 64 ≤ place.run.end = omega (arith, other, room.cell.inside, room.cell.end_aligned, room.run.end_aligned) in
+        let n = place.run.end - end - header_length in
         let gap : List ℕ = replicate (end - d) 0xff in
-        let q : List ℕ = take header_length (padding (header_length + n) last) in
-        let rest : List ℕ = padding n last in
-        let tail_is : tail ≡ gap ++ (q ++ rest) =
-        (let sum : e - d ≡ (end - d) + (header_length + n) = omega (arith, apart, fits) in ap (λ k. padding k last) sum)
-        ∙ padding-begins (end - d) (header_length + n) last (omega arith)
-        ∙ ap (λ (l : List ℕ). gap ++ l) (padding-split header_length n last) in
-        let q_long : length q ≡ header_length = length-take-le header_length (padding (header_length + n) last) (omega (arith, length-padding (header_length + n) last four)) in
-        let total : length (p ++ tail) ≡ e - s = omega (arith, length-append p tail, length-padding (e - d) last four, long, fits, apart, room.content_below, room.metadata_is, room.start_below) in
-        let same_size : length y ≡ length x = ap length is ∙ length-overwritten x s (p ++ tail) (omega (arith, total, room.run.some, room.run.inside)) in
-        let header : List ℕ = empty_header (e - end) (e == length y) in
-        let header_is : header ≡ empty_header (e - end) (is_some last) =
-        ap (λ k. empty_header (e - end) (e == k)) same_size ∙ ap (λ b. empty_header (e - end) b) (sym (is_some-cond (e == length x) (last_four x))) in
-        let nothing : kept_at x end ≡ None = kept-none x end (omega (arith, apart, room.run.inside)) in
-        let there : (end == e) ≡ false = ne_eqb end e other in
-        rw (there, nothing) (
-        ap (λ (l : List ℕ). overwritten l end header) (is ∙ ap (λ (l : List ℕ). overwritten x s (p ++ l)) tail_is ∙ ap (λ (l : List ℕ). overwritten x s l) (sym (append_assoc p gap (q ++ rest))))
-        ∙ over_part x s (p ++ gap) q rest header end (omega (arith, room.run.some, room.run.inside))
+        let rest : List ℕ = padding (header_length + n) last in
+        let tail_is : tail ≡ gap ++ rest = (let sum : place.run.end - d ≡ (end - d) + (header_length + n) = omega (arith, apart, fits) in ap (λ k. padding k last) sum) ∙ padding-begins (end - d) (header_length + n) last (omega arith) in
+        let total : length (p ++ tail) ≡ place.run.end - place.run.start = omega (arith, length-append p tail, length-padding (place.run.end - d) last four, long, fits, apart, room.content_below, room.metadata_is, room.start_below) in
+        let same_size : length y ≡ length x = ap length is ∙ length-overwritten x place.run.start (p ++ tail) (omega (arith, total, room.run.some, room.run.inside)) in
+        let header : List ℕ = empty_header (place.run.end - end) (place.run.end == length y) in
+        let header_long : length header ≡ header_length = length-empty_header (place.run.end - end) (place.run.end == length y) in
+        let header_is : header ≡ empty_header (place.run.end - end) (is_some last) =
+        ap (λ k. empty_header (place.run.end - end) (place.run.end == k)) same_size ∙ ap (λ b. empty_header (place.run.end - end) b) (sym (is_some-cond (place.run.end == length x) (last_four x))) in
+        rw (ne_eqb end place.run.end other, kept-none x end (omega (arith, apart, room.run.inside))) (
+        ap (λ (l : List ℕ). overwritten l end header) (is ∙ ap (λ (l : List ℕ). overwritten x place.run.start (p ++ l)) tail_is ∙ ap (λ (l : List ℕ). overwritten x place.run.start l) (sym (append_assoc p gap rest)))
+        ∙ over_part x place.run.start (p ++ gap) rest header (padding n last) end (omega (arith, room.run.some, room.run.inside))
         (omega (arith, length-append p gap, length-replicate {A = ℕ} (end - d) 0xff, long, fits, room.content_below, room.metadata_is, room.start_below))
-        (length-empty_header (e - end) (e == length y) ∙ sym q_long)
-        ∙ ap (λ (l : List ℕ). overwritten x s ((p ++ gap) ++ (l ++ rest))) header_is
-        ∙ ap (λ (l : List ℕ). overwritten x s l) (append_assoc p gap (empty_entry (e - end) last))
+        (omega (arith, header_long, length-padding (header_length + n) last four)) (ap (λ k. drop k rest) header_long ∙ drop-padding header_length n last)
+        ∙ ap (λ (l : List ℕ). overwritten x place.run.start ((p ++ gap) ++ (l ++ padding n last))) header_is
+        ∙ ap (λ (l : List ℕ). overwritten x place.run.start l) (append_assoc p gap (empty_entry (place.run.end - end) last))
         )
 
-    bound : (y : List ℕ) (p : List ℕ) → length p ≡ d - s → y ≡ overwritten x s (p ++ tail) → with_bound y end e ≡ overwritten x s (p ++ after)
-    bound y p long is = ⊎_elim (λ same. bound_same y p same is) (λ other. bound_other y p long other is) (cases_eq end e)
+    bound : (y : List ℕ) (p : List ℕ) → length p ≡ d - place.run.start → y ≡ overwritten x place.run.start (p ++ tail) → with_bound y end place.run.end ≡ overwritten x place.run.start (p ++ after)
+    bound y p long is = ⊎_elim (λ same. bound_same y p same is) (λ other. bound_other y p long other is) (cases_eq end place.run.end)
 
     -- all writes
     pub inserted : with_component (overwritten (removed x place.run) place.content content) place end metadata
-        ≡ overwritten x s (empty_between x s h ++ ((metadata ++ content) ++ after))
+        ≡ overwritten x place.run.start (empty_between x place.run.start place.header ++ ((metadata ++ content) ++ after))
     inserted =
         let f = has_metadata in
         let g = f.space in
         let d1 : List ℕ = drop (held_back place) metadata in
         let v = length d1 in
-        let b = v + (length content + (e - d)) in
-        let size = e - s in
+        let b = v + (length content + (place.run.end - d)) in
+        let size = place.run.end - place.run.start in
         let header : List ℕ = empty_header size (is_some last) in
         let space : List ℕ = replicate g 0xff in
-        let u1 : List ℕ = take v (padding b last) in
-        let u2 : List ℕ = take (length content) (padding (length content + (e - d)) last) in
+        let part : List ℕ = take v (padding b last) in
+        let rest : List ℕ = padding (length content + (place.run.end - d)) last in
+        let begin : List ℕ = shown_by place metadata in
         let sum : size - header_length ≡ g + b = omega (arith, f.rest_long, f.room, fits, room.cell.inside, room.run.some) in
-        let enough : 4 ≤ b = omega (arith, sum, f.room, room.run.some) in
-        let pad : padding (size - header_length) last ≡ space ++ (u1 ++ (u2 ++ tail)) =
+        let pad : padding (size - header_length) last ≡ space ++ (part ++ rest) =
         ap (λ k. padding k last) sum
-        ∙ padding-begins g b last enough
-        ∙ ap (λ (l : List ℕ). space ++ l) (padding-split v (length content + (e - d)) last ∙ ap (λ (l : List ℕ). u1 ++ l) (padding-split (length content) (e - d) last)) in
-        let u1_long : length u1 ≡ v = length-take-le v (padding b last) (omega (arith, length-padding b last four)) in
-        let u2_long : length u2 ≡ length content = length-take-le (length content) (padding (length content + (e - d)) last) (omega (arith, length-padding (length content + (e - d)) last four)) in
+        ∙ padding-begins g b last (omega (arith, sum, f.room, room.run.some))
+        ∙ ap (λ (l : List ℕ). space ++ l) (sym (take-append-drop v (padding b last)) ∙ ap (λ (l : List ℕ). part ++ l) (drop-padding v (length content + (place.run.end - d)) last)) in
+        let part_long : length part ≡ v = length-take-le v (padding b last) (omega (arith, length-padding b last four)) in
+        let rest_long = length-padding (length content + (place.run.end - d)) last four in
         let header_long : length header ≡ header_length = length-empty_header size (is_some last) in
         let space_long : length space ≡ g = length-replicate {A = ℕ} g 0xff in
-        let inside : s ≤ length x = omega (arith, room.run.some, room.run.inside) in
-        let emptied : removed x place.run ≡ overwritten x s ((header ++ (space ++ u1)) ++ (u2 ++ tail)) =
-        ap (λ (l : List ℕ). overwritten x s (header ++ l)) pad ∙ ap (λ (l : List ℕ). overwritten x s l) (simp append_assoc) in
-        let copied : overwritten (removed x place.run) place.content content ≡ overwritten x s ((header ++ (space ++ u1)) ++ (content ++ tail)) =
-        ap (λ (l : List ℕ). overwritten l place.content content) emptied
-        ∙ over_part x s (header ++ (space ++ u1)) u2 tail content place.content inside
-        (omega (arith, length-append header (space ++ u1), length-append space u1, header_long, space_long, u1_long, f.rest_long)) (sym u2_long) in
-        let copied_again : overwritten (removed x place.run) place.content content ≡ overwritten x s ((header ++ space) ++ (u1 ++ (content ++ tail))) =
-        copied ∙ ap (λ (l : List ℕ). overwritten x s l) (simp append_assoc) in
-        let described : with_metadata (overwritten (removed x place.run) place.content content) place metadata ≡ overwritten x s ((header ++ space) ++ (d1 ++ (content ++ tail))) =
-        ap (λ (l : List ℕ). with_metadata l place metadata) copied_again
-        ∙ over_part x s (header ++ space) u1 (content ++ tail) d1 (place.header + held_back place) inside
-        (omega (arith, length-append header space, header_long, space_long, f.rest_at)) (sym u1_long) in
+        let inside : place.run.start ≤ length x = omega (arith, room.run.some, room.run.inside) in
+        let copied : overwritten (removed x place.run) place.content content ≡ overwritten x place.run.start ((header ++ (space ++ part)) ++ (content ++ tail)) =
+        ap (λ (l : List ℕ). overwritten l place.content content) (ap (λ (l : List ℕ). overwritten x place.run.start (header ++ l)) pad ∙ ap (λ (l : List ℕ). overwritten x place.run.start l) (simp append_assoc))
+        ∙ over_part x place.run.start (header ++ (space ++ part)) rest content tail place.content inside
+        (omega (arith, length-append header (space ++ part), length-append space part, header_long, space_long, part_long, f.rest_long)) (omega (arith, rest_long)) (drop-padding (length content) (place.run.end - d) last) in
+        let described : with_metadata (overwritten (removed x place.run) place.content content) place metadata ≡ overwritten x place.run.start ((header ++ space) ++ (d1 ++ (content ++ tail))) =
+        ap (λ (l : List ℕ). with_metadata l place metadata) (copied ∙ ap (λ (l : List ℕ). overwritten x place.run.start l) (simp append_assoc))
+        ∙ over_part x place.run.start (header ++ space) (part ++ (content ++ tail)) d1 (content ++ tail) (place.header + held_back place) inside
+        (omega (arith, length-append header space, header_long, space_long, f.rest_at)) (omega (arith, part_long, length-append part (content ++ tail))) (drop_at part (content ++ tail) v part_long) in
         let p : List ℕ = header ++ (space ++ (d1 ++ content)) in
-        let p_long : length p ≡ d - s =
+        let p_long : length p ≡ d - place.run.start =
         omega (arith, length-append header (space ++ (d1 ++ content)), length-append space (d1 ++ content), length-append d1 content, header_long, space_long, f.rest_long) in
-        let bounded_is : with_bound (with_metadata (overwritten (removed x place.run) place.content content) place metadata) end e ≡ overwritten x s (p ++ after) =
-        bound _ p p_long (described ∙ ap (λ (l : List ℕ). overwritten x s l) (simp append_assoc)) in
-        let begin : List ℕ = shown_by place metadata in
-        ap (λ (l : List ℕ). overwritten l s begin) (bounded_is ∙ ap (λ (l : List ℕ). overwritten x s l) (append_assoc header (space ++ (d1 ++ content)) after))
-        ∙ over_part x s [] header ((space ++ (d1 ++ content)) ++ after) begin s inside (omega arith) (f.begin_long ∙ sym header_long)
-        ∙ ap (λ (l : List ℕ). overwritten x s l) (let e1 : begin ++ ((space ++ (d1 ++ content)) ++ after) ≡ (begin ++ (space ++ d1)) ++ (content ++ after) = simp append_assoc in e1)
-        ∙ ap (λ (l : List ℕ). overwritten x s (l ++ (content ++ after))) f.whole
-        ∙ ap (λ (l : List ℕ). overwritten x s l) (simp append_assoc)
+        let behind : List ℕ = (space ++ (d1 ++ content)) ++ after in
+        ap (λ (l : List ℕ). overwritten l place.run.start begin) (bound _ p p_long (described ∙ ap (λ (l : List ℕ). overwritten x place.run.start l) (simp append_assoc)) ∙ ap (λ (l : List ℕ). overwritten x place.run.start l) (append_assoc header (space ++ (d1 ++ content)) after))
+        ∙ over_part x place.run.start [] (header ++ behind) begin behind place.run.start inside (omega arith) (omega (arith, f.begin_long, header_long, length-append header behind)) (drop_at header behind (length begin) (header_long ∙ sym f.begin_long))
+        ∙ ap (λ (l : List ℕ). overwritten x place.run.start l) (let e1 : begin ++ behind ≡ (begin ++ (space ++ d1)) ++ (content ++ after) = simp append_assoc in e1)
+        ∙ ap (λ (l : List ℕ). overwritten x place.run.start (l ++ (content ++ after))) f.whole
+        ∙ ap (λ (l : List ℕ). overwritten x place.run.start l) (simp append_assoc)
 
 -- ---- the stages: the empty entry over the run, the content, the metadata with the last commit
 
@@ -185,44 +161,34 @@ pub hash_short : (d : Option Digest) → hash_len d ≤ 76
 hash_short None = omega arith
 hash_short (Some digest) = omega (arith, few_bytes (algorithm digest))
 
-pub described-is : (m : Meta) (name : List ℕ) (kind : ℕ) (digest : Option Digest) (gap n : ℕ) → m.name.now ≡ name → m.kind ≡ kind → option_copied m.digest ≡ digest → m.gap ≡ gap → m.len ≡ n
-    → metadata_of m ≡ made_metadata name kind digest gap n
-described-is m name kind digest gap n is_name is_kind is_digest is_gap is_len = rw (is_name, is_kind, is_digest, is_gap, is_len) refl
-
 -- room for the metadata
 pub room-for : (size : ℕ) (label : Label) (content : List ℕ) (wanted : Wanted) (place : Place) (m : Meta) (digest : Option Digest) → size < 2 ^ 32 → Fits wanted size place → length label.name.now ≤ 127
     → wanted ≡ wanted_for (component_of_label label content) wanted.spot → m.name.now ≡ label.name.now → option_copied m.digest ≡ digest → m.gap ≡ place.content - place.header - wanted.metadata_len → hash_len digest ≡ hash_len (digest_of label.hash content)
-    → HasRoom size place (round64 (place.content + wanted.len)) (described_len m)
+    → HasRoom place (round64 (place.content + wanted.len)) (described_len m) size
 room-for size label content wanted place m digest small fits short is is_name is_digest is_gap digest_len =
     let header : wanted.metadata_len ≡ metadata_len_of (component_of_label label content) = ap (λ (w : Wanted). w.metadata_len) is in
     let long : described_len m ≡ wanted.metadata_len + (place.content - place.header - wanted.metadata_len) = rw (is_name, is_digest, is_gap, digest_len, header) refl in
     let few = hash_short (digest_of label.hash content) in
     search rules
 
--- after any error
-pub on_err : {A E : Type 0} (r : Result A E) (P : Type 0) → P → OnErr r P
-on_err (Ok a) P p = tt
-on_err (Err e) P p = p
-
 -- the end of writes after the content: the content, the run's first header, or the run's end
 -- without four bytes
-finished-last : (z : List ℕ) (place : Place) (end to : ℕ) (metadata : List ℕ) → HasRoom (length z) place end (length metadata) → place.content ≤ to → place.run.end ≤ to + 4 → drop to (with_component z place end metadata) ≡ drop to z
+finished-last : (z : List ℕ) (place : Place) (end to : ℕ) (metadata : List ℕ) → HasRoom place end (length metadata) (length z) → place.content ≤ to → place.run.end ≤ to + 4 → drop to (with_component z place end metadata) ≡ drop to z
 finished-last z place end to metadata room content last =
     let k = has_metadata z place end metadata room in
-    let at = place.header + held_back place in
+    let IsAlike : List ℕ → Type 0 = λ l. (drop to l ≡ drop to z) × (length l ≡ length z) in
+    let more = λ (l : List ℕ) (at : ℕ) (u : List ℕ) (below : at + length u ≤ to) (inside : at + length u ≤ length z) (is : IsAlike l).
+    (let e : IsAlike (overwritten l at u) = (drop-overwritten l at u to below (omega (arith, is.1, inside)) ∙ is.0, length-overwritten l at u (omega (arith, is.1, inside)) ∙ is.1) in e) in
     let rest : List ℕ = drop (held_back place) metadata in
-    let f : List ℕ = overwritten z at rest in
-    let f_size : length f ≡ length z = length-overwritten z at rest (omega (arith, k.rest_at, k.rest_long, room.content_below, room.cell.inside, room.run.inside)) in
+    let f : List ℕ = overwritten z (place.header + held_back place) rest in
+    let first = more z (place.header + held_back place) rest (omega (arith, k.rest_at, k.rest_long, content)) (omega (arith, k.rest_at, k.rest_long, room.content_below, room.cell.inside, room.run.inside)) (refl, refl) in
     let header : List ℕ = empty_header (place.run.end - end) (place.run.end == length f) in
     let long : length header ≡ header_length = length-empty_header (place.run.end - end) (place.run.end == length f) in
-    let there : end ≤ length f = omega (arith, f_size, room.cell.inside, room.run.inside) in
-    let IsAlike : List ℕ → Type 0 = λ l. (drop to l ≡ drop to z) × (place.run.start ≤ length l) in
-    let first : IsAlike f = (drop-overwritten z at rest to (omega (arith, k.rest_at, k.rest_long, content)) (omega (arith, k.rest_at, k.rest_long, room.content_below, room.cell.inside, room.run.inside)), omega (arith, f_size, room.run.some, room.run.inside)) in
     let second : IsAlike (with_bound f end place.run.end) =
     cond_both (end == place.run.end) f (overwritten f end header) IsAlike (λ e. first)
     (λ e. let fits : end + header_length ≤ place.run.end - 4 = omega (arith, eqb-false end place.run.end e, room.cell.inside, room.cell.end_aligned, room.run.end_aligned) in
-    (drop-overwritten f end header to (omega (arith, long, fits, last)) there ∙ first.0, omega (arith, length-overwritten f end header (omega (arith, long, fits, f_size, room.run.inside)), first.1))) in
-    drop-overwritten (with_bound f end place.run.end) place.run.start (shown_by place metadata) to (omega (arith, k.begin_long, room.start_below, room.metadata_is, room.metadata_long, content)) second.1 ∙ second.0
+    more f end header (omega (arith, long, fits, last)) (omega (arith, long, fits, room.run.inside)) first) in
+    (more (with_bound f end place.run.end) place.run.start (shown_by place metadata) (omega (arith, k.begin_long, room.start_below, room.metadata_is, room.metadata_long, content)) (omega (arith, k.begin_long, room.run.some, room.run.inside)) second).0
 
 module _ (r : Range) (old : List ℕ) (label : Label) (content : List ℕ) (wanted : Wanted) (place : Place) (lies : LiesIn r old) (in_region : Fits wanted r.size place) (short : length label.name.now ≤ 127)
     (is : wanted ≡ wanted_for (component_of_label label content) wanted.spot) where
@@ -231,9 +197,6 @@ module _ (r : Range) (old : List ℕ) (label : Label) (content : List ℕ) (want
 
   abbrev new : NewComponent
   new = component_of_label label content
-
-  abbrev run : CellRange
-  run = place.run
 
   abbrev to : ℕ
   to = written_to r.size wanted.len place
@@ -250,29 +213,29 @@ module _ (r : Range) (old : List ℕ) (label : Label) (content : List ℕ) (want
   fits : Fits wanted (length x) place
   fits = subst (λ n. Fits wanted n place) (sym size) in_region
 
-  near : (space_end r.size run.end ≤ run.end) × (run.end ≤ space_end r.size run.end + 4)
-  near = space_end-near r.size run.end
+  near : (space_end r.size place.run.end ≤ place.run.end) × (place.run.end ≤ space_end r.size place.run.end + 4)
+  near = space_end-near r.size place.run.end
 
   module _ (empty_entry : List ℕ) (empty_long : length empty_entry ≡ length old) where
     abbrev y : List ℕ
     y = bytes_in r empty_entry
 
     -- the empty entry
-    pub empty_stop : (Done : Type 0) → IsOldOrEmptied run (space_end r.size run.end) x y → IsInsertStop run to Done x y
-    empty_stop Done stop = inl (old_or-wider x run fits.run (space_end r.size run.end) to y (omega arith) stop)
+    pub empty_stop : (Done : Type 0) → IsOldOrEmptied place.run (space_end r.size place.run.end) x y → IsInsertStop place.run to Done x y
+    empty_stop Done stop = inl (old_or-wider x place.run fits.run (space_end r.size place.run.end) to y (omega arith) stop)
 
-    module _ (copied : List ℕ) (copied_long : length copied ≡ length empty_entry) (emptied : y ≡ removed x run) (torn : SameOutside place.content (length content) y (bytes_in r copied)) where
+    module _ (copied : List ℕ) (copied_long : length copied ≡ length empty_entry) (emptied : y ≡ removed x place.run) (torn : SameOutside place.content (length content) y (bytes_in r copied)) where
       abbrev z : List ℕ
       z = bytes_in r copied
 
-      copied_emptied : IsEmptied run to x z
+      copied_emptied : IsEmptied place.run to x z
       copied_emptied =
-          let empty : IsEmptied run (space_end r.size run.end) x y = subst (λ n. IsEmptied run (space_end n run.end) x y) size (subst (λ (l : List ℕ). IsEmptied run (space_end (length x) run.end) x l) (sym emptied) (removed-emptied x run fits.run)) in
-          emptied-write x run fits.run to y (emptied-wider x run fits.run (space_end r.size run.end) y empty to (omega arith)) z place.content (length content)
+          let empty : IsEmptied place.run (space_end r.size place.run.end) x y = subst (λ n. IsEmptied place.run (space_end n place.run.end) x y) size (subst (λ (l : List ℕ). IsEmptied place.run (space_end (length x) place.run.end) x l) (sym emptied) (removed-emptied x place.run fits.run)) in
+          emptied-write x place.run fits.run to y (emptied-wider x place.run fits.run (space_end r.size place.run.end) y empty to (omega arith)) z place.content (length content)
           (same_region_length r old empty_entry copied lies empty_long copied_long) (omega (arith, fits.start_below, fits.header.room, is_header)) (omega (arith, len)) torn
 
       -- the content
-      pub copied_stop : (Done : Type 0) → IsInsertStop run to Done x z
+      pub copied_stop : (Done : Type 0) → IsInsertStop place.run to Done x z
       copied_stop Done = inl (inr copied_emptied)
 
       module _ (meta : Meta) (digest : Option Digest) (is_name : meta.name.now ≡ label.name.now) (is_kind : meta.kind ≡ label.kind) (is_digest : option_copied meta.digest ≡ digest) (is_gap : meta.gap ≡ place.content - place.header - wanted.metadata_len)
@@ -283,8 +246,8 @@ module _ (r : Range) (old : List ℕ) (label : Label) (content : List ℕ) (want
         abbrev end : ℕ
         end = round64 (place.content + wanted.len)
 
-        room : HasRoom (length x) place end (length metadata)
-        room = subst (λ n. HasRoom (length x) place end n) (sym metadata_len) (room-for (length x) label content wanted place meta digest (omega (arith, size, lies, small)) fits short is is_name is_digest is_gap digest_len)
+        room : HasRoom place end (length metadata) (length x)
+        room = subst (λ n. HasRoom place end n (length x)) (sym metadata_len) (room-for (length x) label content wanted place meta digest (omega (arith, size, lies, small)) fits short is is_name is_digest is_gap digest_len)
 
         module _ (shown : List ℕ) (shown_long : length shown ≡ length copied) where
           abbrev w : List ℕ
@@ -299,25 +262,25 @@ module _ (r : Range) (old : List ℕ) (label : Label) (content : List ℕ) (want
               let long : length whole ≡ d - place.header = omega (arith, length-append metadata content, room.metadata_is) in
               let pad : end - d ≡ round64 (length whole) - length whole = omega (arith, long, fits.header.aligned, fits.header.room, len) in
               let is_metadata : metadata ≡ made_metadata new.name new.kind new.digest gap (length content) =
-              described-is meta label.name.now label.kind new.digest gap (length content) is_name is_kind (is_digest ∙ digest_is) (is_gap ∙ ap (λ n. place.content - place.header - n) is_header) (is_len ∙ len) in
-              let before : List ℕ = empty_between x run.start place.header in
+              rw (is_name, is_kind, is_digest, digest_is, is_gap, is_header, is_len, len) refl in
+              let before : List ℕ = empty_between x place.run.start place.header in
               third
               ∙ ap (λ (l : List ℕ). with_component l place end metadata) (second ∙ ap (λ (l : List ℕ). overwritten l place.content content) emptied)
               ∙ inserted x place end metadata room content (omega (arith, len))
-              ∙ ap (λ (l : List ℕ). overwritten x run.start (before ++ l)) (sym (append_assoc whole (padding (end - d) (kept_at x end)) (empty_between x end run.end)))
-              ∙ ap (λ n. overwritten x run.start (before ++ ((whole ++ padding n (kept_at x end)) ++ empty_between x end run.end))) pad
-              ∙ ap (λ (f : List ℕ). overwritten x run.start (before ++ (((f ++ content) ++ padding (round64 (length (f ++ content)) - length (f ++ content)) (kept_at x end)) ++ empty_between x end run.end))) is_metadata
-              ∙ ap (λ n. overwritten x run.start (before ++ (made new.name new.kind new.digest gap content (kept_at x n) ++ empty_between x n run.end))) (ap (λ n. round64 (place.content + n)) len)
+              ∙ ap (λ (l : List ℕ). overwritten x place.run.start (before ++ l)) (sym (append_assoc whole (padding (end - d) (kept_at x end)) (empty_between x end place.run.end)))
+              ∙ ap (λ n. overwritten x place.run.start (before ++ ((whole ++ padding n (kept_at x end)) ++ empty_between x end place.run.end))) pad
+              ∙ ap (λ (f : List ℕ). overwritten x place.run.start (before ++ (((f ++ content) ++ padding (round64 (length (f ++ content)) - length (f ++ content)) (kept_at x end)) ++ empty_between x end place.run.end))) is_metadata
+              ∙ ap (λ n. overwritten x place.run.start (before ++ (made new.name new.kind new.digest gap content (kept_at x n) ++ empty_between x n place.run.end))) (ap (λ n. round64 (place.content + n)) len)
 
           -- the metadata with the last commit
           pub shown_stop : (Sound Honest : Type 0) → Sound → (Honest → digest ≡ digest_of label.hash content) → (Honest → z ≡ overwritten y place.content content) → (w ≡ with_component z place end metadata) ⊎ IsUnfinished place z w
-              → IsInsertStop run to (Sound × (Honest → w ≡ added x new place)) x w
+              → IsInsertStop place.run to (Sound × (Honest → w ≡ added x new place)) x w
           shown_stop Sound Honest sound digest_is second (inl third) =
-              let behind : run.start + header_length ≤ to = omega (arith, near.1, fits.run.some) in
-              let first = further x z (run.start + (to - run.start)) to (omega (arith, behind)) (emptied-outside x run fits.run to z copied_emptied behind).after in
-              let last = finished-last z place end to metadata (subst (λ n. HasRoom n place end (length metadata)) (sym copied_emptied.same_length) room) (omega arith) (omega (arith, near.1)) in
+              let behind : place.run.start + header_length ≤ to = omega (arith, near.1, fits.run.some) in
+              let first = further x z (place.run.start + (to - place.run.start)) to (omega (arith, behind)) (emptied-outside x place.run fits.run to z copied_emptied behind).after in
+              let last = finished-last z place end to metadata (subst (λ n. HasRoom place end (length metadata) n) (sym copied_emptied.same_length) room) (omega arith) (omega (arith, near.1)) in
               inr ((sound, λ honest. shown_added (digest_is honest) (second honest) third), ap (λ (l : List ℕ). drop to l) third ∙ last ∙ first)
           shown_stop Sound Honest sound digest_is second (inr unfinished) =
-              let from = run.start + header_length in
-              inl (inr (emptied-write x run fits.run to z copied_emptied w from (max place.content (run.end - 4) - from) (same_region_length r old copied shown lies (copied_long ∙ empty_long) shown_long) (omega arith)
+              let from = place.run.start + header_length in
+              inl (inr (emptied-write x place.run fits.run to z copied_emptied w from (max place.content (place.run.end - 4) - from) (same_region_length r old copied shown lies (copied_long ∙ empty_long) shown_long) (omega arith)
               (omega (arith, near.1, fits.run.some, fits.start_below, fits.header.room, is_header)) unfinished))

@@ -1,8 +1,6 @@
 -- Parts of lists: an element between others, and writes of bytes and padding.
-use Rattle.std.proofs.Common.{◌≡◌, List, [], ◌∷◌, ◌++◌, All, refl, subst, inl, inr, ℕ, ◌+◌, ◌-◌, ◌≤◌, length, take, drop, replicate, Option, Some, None, sym, ◌∙◌, ap, arith, append_assoc, take-append-drop, length-append}
+use Rattle.std.proofs.Common.{◌≡◌, List, [], ◌∷◌, ◌++◌, All, refl, subst, zero, suc, rules, ℕ, ◌+◌, ◌-◌, ◌≤◌, length, take, drop, replicate, Option, Some, None, sym, ◌∙◌, ap, arith, append_assoc, length-append, length-drop}
 use Rattle.std.proofs.lemmas.List.Elements.{All-head, All-tail}
-use Rattle.std.proofs.lemmas.Bool.{cases_lt}
-use Rattle.std.proofs.Math.Seq.{drop-append-add}
 use Rattle.std.proofs.lemmas.List.{take_at, drop_all, drop_at, drop-drop, drop-append-le, length-replicate, length-take-le, drop-replicate, replicate-append-replicate}
 use Rattle.flash_format.specs.Made.{padding}
 use Rattle.flash_device.specs.Device.{overwritten}
@@ -30,77 +28,53 @@ one_split P (y ∷ before) after (y' ∷ before') after' x x' here here' none no
 
 -- ---- writes over recent writes
 
-over_middle : (p v r w : List ℕ) (at : ℕ) → length p ≡ at → length w ≡ length v → overwritten (p ++ (v ++ r)) at w ≡ p ++ (w ++ r)
-over_middle p v r w at place same =
-    ap (λ (l : List ℕ). l ++ (w ++ drop (at + length w) (p ++ (v ++ r)))) (take_at p (v ++ r) at place)
-    ∙ ap (λ n. p ++ (w ++ drop (at + n) (p ++ (v ++ r)))) same
-    ∙ ap (λ (l : List ℕ). p ++ (w ++ l))
-    (sym (drop-drop (length v) at (p ++ (v ++ r))) ∙ ap (λ (l : List ℕ). drop (length v) l) (drop_at p (v ++ r) at place) ∙ drop_at v r (length v) refl)
-
-regroup : (a u v w z : List ℕ) → a ++ ((u ++ (v ++ w)) ++ z) ≡ (a ++ u) ++ (v ++ (w ++ z))
-regroup a u v w z = simp append_assoc
+over_tail : (a t w : List ℕ) (at : ℕ) → length a ≡ at → overwritten (a ++ t) at w ≡ a ++ (w ++ drop (length w) t)
+over_tail a t w at place =
+    ap (λ (l : List ℕ). l ++ (w ++ drop (at + length w) (a ++ t))) (take_at a t at place)
+    ∙ ap (λ (l : List ℕ). a ++ (w ++ l)) (sym (drop-drop (length w) at (a ++ t)) ∙ ap (λ (l : List ℕ). drop (length w) l) (drop_at a t at place))
 
 -- a write over the middle of a recent write
-pub over_part : (x : List ℕ) (at : ℕ) (u v w new : List ℕ) (place : ℕ) → at ≤ length x → at + length u ≡ place → length new ≡ length v
-    → overwritten (overwritten x at (u ++ (v ++ w))) place new ≡ overwritten x at (u ++ (new ++ w))
-over_part x at u v w new place inside is same =
-    let a : List ℕ = take at x in
-    let z : List ℕ = drop (at + length (u ++ (v ++ w))) x in
-    let long : length (u ++ (v ++ w)) ≡ length (u ++ (new ++ w)) = omega (arith, length-append u (v ++ w), length-append v w, length-append u (new ++ w), length-append new w) in
-    let begins : length (a ++ u) ≡ place = omega (arith, length-append a u, length-take-le at x inside) in
-    ap (λ (l : List ℕ). overwritten l place new) (regroup a u v w z)
-    ∙ over_middle (a ++ u) v (w ++ z) new place begins same
-    ∙ sym (regroup a u new w z)
-    ∙ ap (λ n. a ++ ((u ++ (new ++ w)) ++ drop (at + n) x)) long
+pub over_part : (x : List ℕ) (at : ℕ) (u r new rest : List ℕ) (place : ℕ) → at ≤ length x → at + length u ≡ place → length new ≤ length r → drop (length new) r ≡ rest
+    → overwritten (overwritten x at (u ++ r)) place new ≡ overwritten x at (u ++ (new ++ rest))
+over_part x at u r new rest place inside is fits is_rest =
+    let a : List ℕ = take at x ++ u in
+    let z : List ℕ = drop (at + length (u ++ r)) x in
+    let begins : length a ≡ place = omega (arith, length-append (take at x) u, length-take-le at x inside) in
+    let long : length (u ++ r) ≡ length (u ++ (new ++ rest)) = omega (arith, length-append u r, length-append u (new ++ rest), length-append new rest, length-drop (length new) r, ap length is_rest, fits) in
+    ap (λ (l : List ℕ). overwritten l place new) (let e : take at x ++ ((u ++ r) ++ z) ≡ a ++ (r ++ z) = simp append_assoc in e)
+    ∙ over_tail a (r ++ z) new place begins
+    ∙ ap (λ (l : List ℕ). a ++ (new ++ l)) (drop-append-le (length new) r z fits ∙ ap (λ (l : List ℕ). l ++ z) is_rest)
+    ∙ (let e : a ++ (new ++ (rest ++ z)) ≡ take at x ++ ((u ++ (new ++ rest)) ++ z) = simp append_assoc in e)
+    ∙ ap (λ n. take at x ++ ((u ++ (new ++ rest)) ++ drop (at + n) x)) long
 
 -- ---- padding of an empty entry, in parts
 
 drop_over : (n : ℕ) (xs ys : List ℕ) → drop n (xs ++ ys) ≡ drop n xs ++ drop (n - length xs) ys
-drop_over n xs ys = elim (cases_lt (length xs) n) [
-  | inl past ↦
-      let sum : n ≡ length xs + (n - length xs) = omega (arith, past) in
-      ap (λ k. drop k (xs ++ ys)) sum ∙ drop-append-add xs ys (n - length xs) ∙ ap (λ (l : List ℕ). l ++ drop (n - length xs) ys) (sym (drop_all n xs (omega (arith, past))))
-  | inr within ↦
-      let none : n - length xs ≡ 0 = omega (arith, within) in
-      drop-append-le n xs ys within ∙ ap (λ k. drop n xs ++ drop k ys) (sym none)
-]
+drop_over n [] ys = let e : n - 0 ≡ n = omega arith in rw (drop_all {X = ℕ} n [] (omega arith), e) refl
+drop_over zero (x ∷ xs) ys = search rules
+drop_over (suc n) (x ∷ xs) ys = let e : suc n - suc (length xs) ≡ n - length xs = omega arith in rw e (drop_over n xs ys)
 
 -- the rest of a padding
 pub drop-padding : (a b : ℕ) (last : Option (List ℕ)) → drop a (padding (a + b) last) ≡ padding b last
-drop-padding a b None = let e : a + b - a ≡ b = omega arith in drop-replicate a (a + b) 0xff ∙ ap (λ n. replicate n 0xff) e
+drop-padding a b None = let e : a + b - a ≡ b = omega arith in rw (drop-replicate {X = ℕ} a (a + b) 0xff, e) refl
 drop-padding a b (Some last) =
-    let filler : List ℕ = replicate (a + b - 4) 0xff in
     let first : a + b - 4 - a ≡ b - 4 = omega arith in
-    let rest : 4 - (a + b) + (a - length filler) ≡ 4 - b = omega (arith, length-replicate {A = ℕ} (a + b - 4) 0xff) in
-    drop_over a filler (drop (4 - (a + b)) last)
-    ∙ ap (λ (l : List ℕ). l ++ drop (a - length filler) (drop (4 - (a + b)) last)) (drop-replicate a (a + b - 4) 0xff ∙ ap (λ n. replicate n 0xff) first)
-    ∙ ap (λ (l : List ℕ). replicate (b - 4) 0xff ++ l) (drop-drop (a - length filler) (4 - (a + b)) last ∙ ap (λ n. drop n last) rest)
+    let rest : 4 - (a + b) + (a - (a + b - 4)) ≡ 4 - b = omega arith in
+    drop_over a (replicate (a + b - 4) 0xff) (drop (4 - (a + b)) last) ∙ rw (drop-replicate {X = ℕ} a (a + b - 4) 0xff, first, length-replicate {A = ℕ} (a + b - 4) 0xff, drop-drop {A = ℕ} (a - (a + b - 4)) (4 - (a + b)) last, rest) refl
 
 -- a padding begins with 0xff
 pub padding-begins : (a b : ℕ) (last : Option (List ℕ)) → 4 ≤ b → padding (a + b) last ≡ replicate a 0xff ++ padding b last
-padding-begins a b None some = sym (replicate-append-replicate a b 0xff)
+padding-begins a b None some = sym (replicate-append-replicate {A = ℕ} a b 0xff)
 padding-begins a b (Some last) some =
-    let sum : a + (b - 4) ≡ a + b - 4 = omega arith in
+    let sum : a + b - 4 ≡ a + (b - 4) = omega arith in
     let none : 4 - (a + b) ≡ 0 = omega arith in
     let none_left : 4 - b ≡ 0 = omega arith in
-    ap (λ n. replicate n 0xff ++ drop (4 - (a + b)) last) (sym sum)
-    ∙ ap (λ (l : List ℕ). l ++ drop (4 - (a + b)) last) (sym (replicate-append-replicate a (b - 4) 0xff))
-    ∙ ap (λ n. (replicate a 0xff ++ replicate (b - 4) 0xff) ++ drop n last) (none ∙ sym none_left)
-    ∙ append_assoc (replicate a 0xff) (replicate (b - 4) 0xff) (drop (4 - b) last)
-
--- two parts, the first the rest of a longer padding
-pub padding-split : (a b : ℕ) (last : Option (List ℕ)) → padding (a + b) last ≡ take a (padding (a + b) last) ++ padding b last
-padding-split a b last =
-    sym (take-append-drop a (padding (a + b) last)) ∙ ap (λ (l : List ℕ). take a (padding (a + b) last) ++ l) (drop-padding a b last)
+    rw (sum, none, none_left, ← replicate-append-replicate {A = ℕ} a (b - 4) 0xff) (append_assoc (replicate a 0xff) (replicate (b - 4) 0xff) last)
 
 -- ---- the content of an addition
 
 part_at : (x before part after : List ℕ) (at : ℕ) → x ≡ before ++ (part ++ after) → length before ≡ at → slice_range x at (at + length part) ≡ part
-part_at x before part after at is long =
-    slice_range_is x at (length part)
-    ∙ ap (λ (l : List ℕ). take (length part) (drop at l)) is
-    ∙ ap (λ (l : List ℕ). take (length part) l) (drop_at before (part ++ after) at long)
-    ∙ take_at part after (length part) (omega arith)
+part_at x before part after at is long = rw is (slice_range_is (before ++ (part ++ after)) at (length part) ∙ rw (drop_at before (part ++ after) at long) (take_at part after (length part) refl))
 
 -- content after metadata
 pub content_at : (x before metadata content pad after : List ℕ) (start at : ℕ) → start ≤ length x → start + length before + length metadata ≡ at
@@ -108,8 +82,5 @@ pub content_at : (x before metadata content pad after : List ℕ) (start at : �
 content_at x before metadata content pad after start at inside there =
     let all : List ℕ = before ++ (((metadata ++ content) ++ pad) ++ after) in
     let rest : List ℕ = drop (start + length all) x in
-    part_at (overwritten x start all) (take start x ++ (before ++ metadata)) content (pad ++ (after ++ rest)) at (parted (take start x) rest)
+    part_at (overwritten x start all) (take start x ++ (before ++ metadata)) content (pad ++ (after ++ rest)) at (simp append_assoc)
     (omega (arith, length-append (take start x) (before ++ metadata), length-append before metadata, length-take-le start x inside))
-  where
-    parted : (p r : List ℕ) → p ++ ((before ++ (((metadata ++ content) ++ pad) ++ after)) ++ r) ≡ (p ++ (before ++ metadata)) ++ (content ++ (pad ++ (after ++ r)))
-    parted p r = simp append_assoc

@@ -1,10 +1,10 @@
 -- The place of a new component is the least allowed place in the first run with one.
-use Rattle.std.proofs.Common.{◌≡◌, ℕ, ◌+◌, ◌-◌, ◌*◌, ◌/◌, ◌%◌, ◌<◌, ◌≤◌, Bool, true, false, cond, List, [], ◌∷◌, ◌++◌, length, All, ap, subst, sym, ◌∙◌, refl, arith, rules, Option, Some, None, Ok, Err}
+use Rattle.std.proofs.Common.{◌≡◌, ℕ, ◌+◌, ◌-◌, ◌*◌, ◌/◌, ◌%◌, ◌<◌, ◌≤◌, Bool, true, false, cond, List, [], ◌∷◌, length, All, Contains, ap, subst, sym, ◌∙◌, refl, arith, rules, Option, Some, None, Ok, Err}
 use Rattle.std.specs.Prelude.{◌&&◌, nat_le, MatchOption, is_some, ok_or}
 use Rattle.std.specs.List.{cons_option, filter_map, slice_get}
 use Rattle.std.specs.Int.{next_multiple_of}
 use Rattle.std.proofs.lemmas.Bool.{eqb-false, leb-false, leb-true}
-use Rattle.std.proofs.lemmas.List.Elements.{All-nil, All-cons, All-head, All-tail, All-weaker}
+use Rattle.std.proofs.lemmas.List.Elements.{All-nil, All-cons, All-weaker, All-contains, Contains-append_right}
 use Rattle.std.proofs.Math.Nat.{add-mod-mod, mul-mod_left, mod-lt, div-add-mod, lt_of_mul-lt-mul_right, mul-le-mul_right}
 use Rattle.cbfs_edit.specs.Places.{is_bad_align, Allows, HasNoRoom, IsAllowed, IsHeaderOf, IsFirstPlace, IsPlaceAmong, IsWanted, limit_of, least_from, place_in, first_place, placing_in}
 use Rattle.cbfs_edit.specs.Removals.{IsCellRange}
@@ -28,8 +28,7 @@ some_unit unit good = omega (arith, eqb-false unit 0 good)
 
 next-whole : (from unit : ℕ) → 0 < unit → next_multiple_of from unit % unit ≡ 0
 next-whole from unit some =
-    let less : from % unit < unit = mod-lt from some in
-    let same : from + (unit - from % unit) ≡ (from / unit + 1) * unit = omega (arith, less, div-add-mod from unit) in
+    let same : from + (unit - from % unit) ≡ (from / unit + 1) * unit = omega (arith, mod-lt from some, div-add-mod from unit) in
     add-mod-mod from (unit - from % unit) unit ∙ ap (λ n. n % unit) same ∙ mul-mod_left (from / unit + 1) unit
 
 -- the least multiple from a number on
@@ -39,10 +38,10 @@ multiple_least unit from d some below whole =
     let here : unit * (next / unit) + next % unit ≡ next = div-add-mod next unit in
     let there : unit * (d / unit) + d % unit ≡ d = div-add-mod d unit in
     let near : next < from + unit = omega arith in
-    let below_next : next / unit * unit < (d / unit + 1) * unit = omega (arith, here, there, next-whole from unit some) in
-    let fewer : next / unit < d / unit + 1 = lt_of_mul-lt-mul_right unit below_next in
+    let whole_next = next-whole from unit some in
+    let fewer : next / unit < d / unit + 1 = lt_of_mul-lt-mul_right unit (omega (arith, here, there, whole_next)) in
     let enough : next / unit * unit ≤ d / unit * unit = mul-le-mul_right unit (omega (arith, fewer)) in
-    omega (arith, enough, here, there, next-whole from unit some)
+    omega (arith, enough, here, there, whole_next)
 
 -- the least allowed place from a place on
 pub least_from-least : (spot : Spot) (from d : ℕ) → is_bad_align spot ≡ false → from ≤ d → Allows spot d → least_from spot from ≤ d
@@ -126,9 +125,8 @@ first_place-right wanted size (run ∷ later) is = go (place_in wanted size run)
 -- ---- no other place
 
 module _ (wanted : Wanted) (size : ℕ) where
-  no_room : (before later : List CellRange) (run : CellRange) (c : ℕ) → All (HasNoRoom wanted size) (before ++ run ∷ later) → IsAllowed wanted size run c → ⊥
-  no_room [] later run c none allowed = All-head (HasNoRoom wanted size) run later none c allowed
-  no_room (r ∷ before) later run c none allowed = no_room before later run c (All-tail (HasNoRoom wanted size) r (before ++ run ∷ later) none) allowed
+  no_room : (runs : List CellRange) (p : Place) → All (HasNoRoom wanted size) runs → IsFirstPlace wanted size runs p → ⊥
+  no_room runs p none is = All-contains (HasNoRoom wanted size) runs p.run none (subst (λ (l : List CellRange). Contains l p.run) (sym is.whole) (Contains-append_right is.before (p.run ∷ is.later) p.run (0, omega arith, refl))) p.content is.allowed
 
   -- a start of content in the run is allowed
   abbrev HasRoom : CellRange → Type 0
@@ -138,17 +136,12 @@ module _ (wanted : Wanted) (size : ℕ) where
   without_room runs none = All-weaker (HasNoRoom wanted size) (λ run. HasRoom run → ⊥) (λ run no room. no room.0 room.1) runs none
 
   same_place : (p q : Place) → p.run ≡ q.run → p.header ≡ q.header → p.content ≡ q.content → p ≡ q
-  same_place p q run header content =
-      ap (λ (r : CellRange). let k : Place = record { run = r; header = p.header; content = p.content } in k) run
-      ∙ ap (λ n. let k : Place = record { run = q.run; header = n; content = p.content } in k) header
-      ∙ ap (λ n. let k : Place = record { run = q.run; header = q.header; content = n } in k) content
+  same_place p q run header content = let same : (let k : Place = record { run = p.run; header = p.header; content = p.content } in k) ≡ q = rw (run, header, content) refl in same
 
   pub one_place : (runs : List CellRange) (p q : Option Place) → IsPlaceAmong wanted size runs p → IsPlaceAmong wanted size runs q → p ≡ q
   one_place runs None None is other = refl
-  one_place runs None (Some q) is other =
-      absurd (no_room other.before other.later q.run q.content (subst (λ (l : List CellRange). All (HasNoRoom wanted size) l) other.whole is) other.allowed)
-  one_place runs (Some p) None is other =
-      absurd (no_room is.before is.later p.run p.content (subst (λ (l : List CellRange). All (HasNoRoom wanted size) l) is.whole other) is.allowed)
+  one_place runs None (Some q) is other = absurd (no_room runs q is other)
+  one_place runs (Some p) None is other = absurd (no_room runs p other is)
   one_place runs (Some p) (Some q) is other =
       let run : p.run ≡ q.run =
       (one_split HasRoom is.before is.later other.before other.later p.run q.run (p.content, is.allowed) (q.content, other.allowed) (without_room is.before is.none_before) (without_room other.before other.none_before)

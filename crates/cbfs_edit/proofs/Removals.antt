@@ -16,7 +16,7 @@ use Rattle.cbfs_edit.proofs.Sound.{accepted_by, found-some}
 use Rattle.cbfs_edit.proofs.EmptyEntries.{group_range, emptied-end, emptied-same, emptied-stopped, emptied-wider, space_end-below, space_end-near, emptied-components, removed-whole}
 use Rattle.std.specs.Str.{bytes_eq}
 use Rattle.std.specs.List.{concat}
-use Rattle.std.proofs.lemmas.Bool.{cases_Bool}
+use Rattle.std.proofs.lemmas.Bool.{cond_both}
 use Rattle.std.proofs.lemmas.List.Elements.{All-nil, All-cons, All-head, All-tail}
 use Rattle.flash_format.specs.Head.{head_of, is_free}
 use Rattle.flash_format.specs.Components.{Component, component_at, components_from}
@@ -51,31 +51,27 @@ pub removal_leaves : (r : Range) (name : List ℕ) (group : CellRange) (old mid 
     → (let a : Result CellRange EditFault = Ok group in IsErrOf a faults.Device ⊎ (a ≡ removal_in (bytes_in r old) name))
     → IsOldOrEmptied group (space_end r.size group.end) (bytes_in r mid) (bytes_in r new) → LeavesWhole (bytes_in r old) name (bytes_in r new)
 removal_leaves r name group old mid new lies small same (inl e) stop = absurd cc
-removal_leaves r name group old mid new lies small same (inr e) stop = left (rw same at stop)
-  where
-    left : IsOldOrEmptied group (space_end r.size group.end) (bytes_in r old) (bytes_in r new) → LeavesWhole (bytes_in r old) name (bytes_in r new)
-    left (inl unchanged) = inl unchanged
-    left (inr emptied) =
-        let x : List ℕ = bytes_in r old in
-        let y : List ℕ = bytes_in r new in
-        let size : length x ≡ r.size = length-bytes_in r old lies in
-        let is : IsAccepted x name group = accepted x name group (sym e) in
-        let to = space_end r.size group.end in
-        let near = space_end-near r.size group.end in
-        let whole = emptied-wider x group is.range to y emptied group.end near.0 in
-        let x_small : length x < 2 ^ 32 = omega (arith, size, lies, small) in
-        inr (
-          group,
-          sym e,
-          emptied-stopped x group is.range to y emptied (removed x group) (length x - 4) (omega (arith, near.1, is.range.some)) near.0 (omega (arith, size, space_end-below r.size group.end (omega (arith, size, is.range.inside)) is.range.end_aligned (omega (arith, size, is.whole))))
-              (inr (emptied-same x group is.range y whole is.cells x_small).components) (emptied-end x group is.range y whole is.cells x_small),
-        )
+removal_leaves r name group old mid new lies small same (inr e) (inl unchanged) = inl (unchanged ∙ ap (λ (l : List ℕ). bytes_in r l) same)
+removal_leaves r name group old mid new lies small same (inr e) (inr stop) =
+    let emptied = rw same at stop in
+    let x : List ℕ = bytes_in r old in
+    let y : List ℕ = bytes_in r new in
+    let size : length x ≡ r.size = length-bytes_in r old lies in
+    let is : IsAccepted x name group = accepted x name group (sym e) in
+    let near = space_end-near r.size group.end in
+    let whole = emptied-wider x group is.range (space_end r.size group.end) y emptied group.end near.0 in
+    let x_small : length x < 2 ^ 32 = omega (arith, size, lies, small) in
+    inr (
+      group,
+      sym e,
+      emptied-stopped x group is.range (space_end r.size group.end) y emptied (removed x group) (length x - 4) (omega (arith, near.1, is.range.some)) near.0 (omega (arith, size, space_end-below r.size group.end (omega (arith, size, is.range.inside)) is.range.end_aligned (omega (arith, size, is.whole))))
+          (inr (emptied-same x group is.range y whole is.cells x_small).components) (emptied-end x group is.range y whole is.cells x_small),
+    )
 
 -- the image after a change of its region
 pub image_of : (r : Range) (u old mid new : List ℕ) → LiesIn r old → mid ≡ old → length new ≡ length mid → SameOutside r.start r.size mid new → bytes_in r new ≡ u → new ≡ overwritten old r.start u
 image_of r u old mid new lies same size outside is =
-    let lies_mid : LiesIn r mid = omega (arith, lies, ap length same) in
-    subst (λ (l : List ℕ). new ≡ overwritten l r.start u) same (image_is r mid new u lies_mid size outside is)
+    subst (λ (l : List ℕ). new ≡ overwritten l r.start u) same (image_is r mid new u (omega (arith, lies, ap length same)) size outside is)
 
 -- ---- the first component with the name is removed, all others remain
 
@@ -88,28 +84,15 @@ unfolding components_from
 others_have_not name at [] none = All-nil (IsOther name)
 others_have_not name at (c ∷ cells) none =
     let later : All (IsOther name) (components_from (at + length c) cells) = others_have_not name (at + length c) cells (All-tail (IsNot name) c cells none) in
-    elim (cases_Bool (is_free (head_of c))) [
-      | inl e ↦ rw e later
-      | inr e ↦ rw e (All-cons (IsOther name) (component_at at c) (components_from (at + length c) cells) (All-head (IsNot name) c cells none e) later)
-    ]
-
--- a component, then the components of later cells
-one_then : (at : ℕ) (c : List ℕ) (cells : List (List ℕ)) → IsComponent c → components_from at (c ∷ cells) ≡ component_at at c ∷ components_from (at + length c) cells
-unfolding components_from
-one_then at c cells is = rw is refl
+    cond_both (is_free (head_of c)) _ _ (All (IsOther name)) (λ e. later) (λ e. All-cons (IsOther name) (component_at at c) (components_from (at + length c) cells) (All-head (IsNot name) c cells none e) later)
 
 -- a component between free cells, then later cells
 row_of_one : (at end : ℕ) (row more after : List (List ℕ)) (c : List ℕ) → AllFree row → AllFree more → IsComponent c → at + length (concat row) + length c + length (concat more) ≡ end
     → components_from at (row ++ (c ∷ (more ++ after))) ≡ component_at (at + length (concat row)) c ∷ components_from end after
+unfolding components_from
 row_of_one at end row more after c free free_more is ends =
-    let place : ℕ = at + length (concat row) in
-    components-append at row (c ∷ (more ++ after))
-    ∙ ap (λ (l : List Component). l ++ components_from place (c ∷ (more ++ after))) (components-free at row free)
-    ∙ one_then place c (more ++ after) is
-    ∙ ap (λ (l : List Component). component_at place c ∷ l)
-    (components-append (place + length c) more after
-    ∙ ap (λ (l : List Component). l ++ components_from (place + length c + length (concat more)) after) (components-free (place + length c) more free_more)
-    ∙ ap (λ n. components_from n after) ends)
+    let next : ℕ = at + length (concat row) + length c in
+    rw (components-append at row (c ∷ (more ++ after)), components-free at row free, is, components-append next more after, components-free next more free_more, ends) refl
 
 pub removal_takes_one : RemovalsTakeOneComponent
 removal_takes_one x name group small is =
@@ -125,9 +108,7 @@ removal_takes_one x name group small is =
         after = components_from group.end r.after;
         whole =
             ap (λ (l : List (List ℕ)). components_from 0 l) (whole_of name (cut x).cells group g)
-            ∙ components-append 0 r.before (g.row_before ++ (g.component ∷ (g.row_after ++ r.after)))
-            ∙ ap (λ n. components_from 0 r.before ++ components_from n (g.row_before ++ (g.component ∷ (g.row_after ++ r.after)))) first
-            ∙ ap (λ (l : List Component). components_from 0 r.before ++ l) (row_of_one group.start group.end g.row_before g.row_after r.after g.component g.row_before_free g.row_after_free g.is_component (end_of name (cut x).cells group g));
+            ∙ rw (components-append 0 r.before (g.row_before ++ (g.component ∷ (g.row_after ++ r.after))), first) (ap (λ (l : List Component). components_from 0 r.before ++ l) (row_of_one group.start group.end g.row_before g.row_after r.after g.component g.row_before_free g.row_after_free g.is_component (end_of name (cut x).cells group g)));
         named = g.named;
         none_before = others_have_not name 0 r.before g.first;
       };

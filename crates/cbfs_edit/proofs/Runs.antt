@@ -1,6 +1,6 @@
 -- The runs are the maximal sequences of free cells, in order. An empty entry over a run keeps the
 -- components.
-use Rattle.std.proofs.Common.{◌≡◌, ℕ, ◌+◌, ◌<◌, ◌⊎◌, inl, inr, zero, suc, List, [], ◌∷◌, ◌++◌, length, sym, ◌∙◌, ap, subst, refl, arith, All, Contains, append_assoc, length-append, ◌≤◌, ◌%◌}
+use Rattle.std.proofs.Common.{◌≡◌, ℕ, ◌+◌, ◌<◌, ◌⊎◌, ⊎_elim, inl, inr, zero, suc, List, [], ◌∷◌, ◌++◌, length, sym, ◌∙◌, ap, subst, refl, arith, All, Contains, append_assoc, length-append, ◌≤◌, ◌%◌}
 use Rattle.std.specs.Prelude.{nat_lt}
 use Rattle.std.specs.List.{concat, AllPairs}
 use Rattle.std.proofs.lemmas.Bool.{cases_Bool, lt-ltb, ltb-true, cond_both}
@@ -11,13 +11,13 @@ use Rattle.cbfs_edit.specs.Removals.{IsCellRange, by_rows}
 use Rattle.cbfs_edit.specs.Runs.{add_run, runs, runs_from, IsRunOf}
 use Rattle.cbfs_edit.specs.Laws.{RunsAreExact, RunsAscend, EmptiedRunsKeepTheComponents}
 use Rattle.cbfs_edit.specs.declared.group.CellRange.{CellRange}
-use Rattle.cbfs_edit.proofs.Groups.{IsFree, EndsWithComponent, BeginsWithComponent, length-concat-push, over_row, ends_after, ends_push, not_alone, between}
-use Rattle.flash_format.proofs.Splices.{concat-append, AllFree, components-free, group-components}
+use Rattle.cbfs_edit.proofs.Groups.{IsFree, EndsWithComponent, BeginsWithComponent, length-concat-push, length-placed, over_row, ends_after, ends_push, not_alone, between}
+use Rattle.flash_format.proofs.Splices.{AllFree, components-free, group-components}
 use Rattle.std.proofs.lemmas.List.Kept.{AllPairs-cons}
 use Rattle.flash_format.proofs.CutSteps.{cell_span}
 use Rattle.flash_format.proofs.CutLaws.{cut_exists}
 use Rattle.std.proofs.lemmas.List.{append-nil}
-use Rattle.flash_format.specs.Components.{Component, components_from}
+use Rattle.flash_format.specs.Components.{components_from}
 use Rattle.flash_format.specs.Splices.{CellsBetween}
 use Rattle.cbfs_edit.proofs.EmptyEntries.{group_range, emptied-components, emptied-end}
 
@@ -38,10 +38,7 @@ Contains-cases y ys x (suc k, below, is) = inr (k, omega arith, is)
 
 run-cases : (start end : ℕ) (others : List CellRange) (run : CellRange) → Contains (add_run start end others) run → ((start < end) × (record { start = start; end = end } ≡ run)) ⊎ Contains others run
 run-cases start end others run has = elim (cases_Bool (nat_lt start end)) [
-  | inl some ↦ elim (Contains-cases (record { start = start; end = end }) others run (rw some at has)) [
-    | inl here ↦ inl (ltb-true start end some, here)
-    | inr there ↦ inr there
-  ]
+  | inl some ↦ ⊎_elim (λ here. inl (ltb-true start end some, here)) (λ there. inr there) (Contains-cases (record { start = start; end = end }) others run (rw some at has))
   | inr none ↦ inr (rw none at has)
 ]
 
@@ -54,15 +51,11 @@ maximal start at done row [] run ends free begun is has = elim (run-cases start 
 ]
 maximal start at done row (c ∷ cells) run ends free begun is has =
     let next = at + length c in
-    let moved : done ++ ((row ++ c ∷ []) ++ cells) ≡ done ++ (row ++ c ∷ cells) = ap (λ (l : List (List ℕ)). done ++ l) (append_assoc row (c ∷ []) cells) in
-    let passed : ((done ++ row) ++ c ∷ []) ++ ([] ++ cells) ≡ done ++ (row ++ c ∷ cells) = append_assoc (done ++ row) (c ∷ []) cells ∙ append_assoc done row (c ∷ cells) in
-    let longer : start + length (concat (row ++ c ∷ [])) ≡ next = omega (arith, length-concat-push row c) in
-    let before : length (concat ((done ++ row) ++ c ∷ [])) ≡ next = omega (arith, length-concat-push (done ++ row) c, ap length (concat-append done row), length-append (concat done) (concat row)) in
     elim (cases_Bool (is_free (head_of c))) [
-      | inl e ↦ subst (λ (l : List (List ℕ)). IsRunOf l run) moved (maximal start next done (row ++ c ∷ []) cells run ends (All-push IsFree row c free e) begun longer (rw e at has))
+      | inl e ↦ simp append_assoc at (maximal start next done (row ++ c ∷ []) cells run ends (All-push IsFree row c free e) begun (omega (arith, length-concat-push row c)) (rw e at has))
       | inr e ↦ elim (run-cases start at (runs_from next next cells) run (rw e at has)) [
         | inl here ↦ closed start at done row (c ∷ cells) run ends free e begun is here.0 here.1
-        | inr there ↦ subst (λ (l : List (List ℕ)). IsRunOf l run) passed (maximal next next ((done ++ row) ++ c ∷ []) [] cells run (ends_push (done ++ row) c e) (All-nil IsFree) before (omega arith) there)
+        | inr there ↦ simp append_assoc at (maximal next next ((done ++ row) ++ c ∷ []) [] cells run (ends_push (done ++ row) c e) (All-nil IsFree) (omega (arith, length-placed done row c)) (omega arith) there)
       ]
     ]
 
@@ -72,10 +65,7 @@ run_maximal x run has = maximal 0 0 [] [] _ run tt (All-nil IsFree) refl refl ha
 -- ---- each such sequence is a run
 
 later_is : (run : CellRange) (others : List CellRange) (start end : ℕ) → Contains others run → Contains (add_run start end others) run
-later_is run others start end has = elim (cases_Bool (nat_lt start end)) [
-  | inl some ↦ rw some (suc has.0, omega (arith, has.1), has.2)
-  | inr none ↦ rw none has
-]
+later_is run others start end has = cond_both (nat_lt start end) _ others (λ (l : List CellRange). Contains l run) (λ some. (suc has.0, omega (arith, has.1), has.2)) (λ none. has)
 
 here_is : (start end : ℕ) (others : List CellRange) → start < end → Contains (add_run start end others) (record { start = start; end = end })
 here_is start end others some = rw (lt-ltb start end some) (0, omega arith, refl)
@@ -176,10 +166,6 @@ emptied_runs x run y aligned small has is =
     record {
       components =
           emptied-components x run r.range y is g small
-          ∙ sym (
-          group-components x run.start run.end g
-          ∙ ap (λ (l : List Component). components_from 0 g.before ++ l ++ components_from run.end g.after) (components-free run.start g.group r.free)
-          ∙ ap (λ (l : List Component). l ++ components_from run.end g.after) (append-nil (components_from 0 g.before))
-          );
+          ∙ sym (group-components x run.start run.end g ∙ rw (components-free run.start g.group r.free, append-nil (components_from 0 g.before)) refl);
       end = emptied-end x run r.range y is g small;
     }

@@ -1,5 +1,5 @@
 -- A search finds an added component, a removal takes it, and all others remain.
-use Rattle.std.proofs.Common.{◌≡◌, ℕ, ◌%◌, ◌<◌, ◌≤◌, All, append_assoc, length-append, false, List, [], ◌∷◌, ◌++◌, length, None, refl, sym, ◌∙◌, ap, arith, true, Option, Some, Ok, Err, subst, Contains, inl, inr, suc}
+use Rattle.std.proofs.Common.{◌≡◌, ℕ, ◌%◌, ◌<◌, ◌≤◌, All, length-append, false, List, [], ◌∷◌, ◌++◌, length, None, refl, sym, ◌∙◌, ap, arith, true, Option, Some, Ok, Err, subst, Contains, inl, inr, suc}
 use Rattle.std.specs.Prelude.{ok_or}
 use Rattle.std.specs.Str.{bytes_eq}
 use Rattle.std.proofs.lemmas.List.Elements.{All-nil, All-cons, All-head, All-tail, All-weaker, All-contains, Contains-append_right, Contains-append_left, Contains-append_cases}
@@ -37,18 +37,16 @@ all_left P (c ∷ a) b each = All-cons P c a (All-head P c (a ++ b) each) (all_l
 fine_size : (n : ℕ) → 0 < n → n % 64 ≡ 0 → has_bad_size n ≡ false
 fine_size n some whole = rw (ne_eqb n 0 (λ (e : n ≡ 0). omega (arith, e, some)), eq-eqb (n % 64) 0 whole) refl
 
-cell_there : (x c : List ℕ) (cells more : List (List ℕ)) → 0 < length x → (cut x).cells ≡ cells ++ (c ∷ more) → is_absent (entry x) ≡ false
-cell_there x c cells more some is = go (entry x) refl
+cell_there : (x : List ℕ) → 0 < length x → 0 < length (cut x).cells → is_absent (entry x) ≡ false
+cell_there x some cells = go (entry x) refl
   where
     go : (e : Entry) → entry x ≡ e → is_absent e ≡ false
-    go absent e =
-        let same : [] ≡ cells ++ (c ∷ more) = sym (ap (λ (k : Cut). k.cells) (cut_step x absent some e)) ∙ is in
-        absurd (omega (arith, ap length same, length-append cells (c ∷ more)))
+    go absent e = absurd (omega (arith, cells, ap (λ (k : Cut). length k.cells) (cut_step x absent some e)))
     go (damaged kind) e = refl
     go (cell span) e = refl
 
-good_shape : (x : List ℕ) → has_bad_size (length x) ≡ false → is_absent (entry x) ≡ false → shape_fault x ≡ None
-good_shape x good there = rw (good, there) refl
+one_among : (a b c d : List (List ℕ)) (m : List ℕ) → 0 < length (a ++ (b ++ (m ∷ []) ++ c) ++ d)
+one_among a b c d m = simp length-append (omega arith)
 
 -- ---- the region after an addition
 
@@ -56,28 +54,13 @@ module _ (x : List ℕ) (new : NewComponent) (spot : Spot) (place : Place) (is :
   pub one_more : AddsOne x new place
   one_more = additions_add_one x new spot place is
 
-  abbrev space_before : List (List ℕ)
-  space_before = space_cells (empty_between x place.run.start place.header)
-
-  abbrev space_after : List (List ℕ)
-  space_after = space_cells (empty_between x (cell_end new place) place.run.end)
-
-  cells_after : (cut (added x new place)).cells ≡ (one_more.cells.before ++ space_before) ++ (made_at x new place ∷ (space_after ++ one_more.cells.after))
-  cells_after =
-      let cells : List (List ℕ) = one_more.cells.before ++ (space_before ++ (made_at x new place ∷ []) ++ space_after) ++ one_more.cells.after in
-      ap (λ (c : Cut). c.cells) (cut_unique (added x new place) cells one_more.cells.rest one_more.cells.ending one_more.more.is_cut)
-      ∙ parted one_more.cells.before space_before space_after one_more.cells.after
-    where
-      parted : (a b c d : List (List ℕ)) → a ++ (b ++ (made_at x new place ∷ []) ++ c) ++ d ≡ (a ++ b) ++ (made_at x new place ∷ (c ++ d))
-      parted a b c d = simp append_assoc
-
   pub shape_after : shape_fault (added x new place) ≡ None
   shape_after =
+      let row : List (List ℕ) = space_cells (empty_between x place.run.start place.header) ++ (made_at x new place ∷ []) ++ space_cells (empty_between x (cell_end new place) place.run.end) in
+      let cells : length (cut (added x new place)).cells ≡ length (one_more.cells.before ++ row ++ one_more.cells.after) = ap (λ (c : Cut). length c.cells) (cut_unique (added x new place) (one_more.cells.before ++ row ++ one_more.cells.after) one_more.cells.rest one_more.cells.ending one_more.more.is_cut) in
       let long : length (added x new place) ≡ length x = added_length x new spot place is in
       let some : 64 ≤ length x = region_some x new spot place is in
-      let whole : length x % 64 ≡ 0 = accepted_size x new spot place is.placed in
-      good_shape (added x new place) (fine_size (length (added x new place)) (omega arith) (ap (λ n. n % 64) long ∙ whole))
-      (cell_there (added x new place) (made_at x new place) (one_more.cells.before ++ space_before) (space_after ++ one_more.cells.after) (omega arith) cells_after)
+      rw (fine_size (length (added x new place)) (omega arith) (ap (λ n. n % 64) long ∙ accepted_size x new spot place is.placed), cell_there (added x new place) (omega arith) (rw cells (one_among one_more.cells.before _ _ one_more.cells.after (made_at x new place)))) refl
 
   abbrev pub before : List Component
   before = components_from 0 one_more.cells.before
@@ -140,8 +123,7 @@ additions_undone x new spot place is =
     let at = place_after 0 (cut y).cells in
     let removes : removal_in y new.name ≡ Ok group =
     removal_is y new.name (shape_after x new spot place is) (ap (λ (e : End). unless_damaged at e (ok_or (group_of y new.name) faults.NotFound)) more.more.same_end ∙ sound.undamaged at (ok_or (group_of y new.name) faults.NotFound)) ∙ ap (λ (o : Option CellRange). ok_or o faults.NotFound) some.1 in
-    let long : length y ≡ length x = added_length x new spot place is in
-    let loses : LosesOne new.name y (removed y group) = removal_takes_one y new.name group (omega (arith, long, is.region)) removes in
+    let loses : LosesOne new.name y (removed y group) = removal_takes_one y new.name group (omega (arith, added_length x new spot place is, is.region)) removes in
     let was = loses.was in
     let once = one_split (IsNamed new.name) was.before was.after (before x new spot place is) (after x new spot place is) loses.component (added_component x new place) was.named (same_name new.name)
     (unnamed new.name was.before was.none_before) (unnamed new.name (before x new spot place is) (none_before x new spot place is))
@@ -177,5 +159,4 @@ additions_keep x new spot place is c has =
 pub removals_keep : RemovalsKeepOthers
 removals_keep x name group small is c has other =
     let loses = removal_takes_one x name group small is in
-    let differs : loses.component ≡ c → ⊥ = λ e. absurd (let k : true ≡ false = sym loses.was.named ∙ ap (λ (d : Component). bytes_eq d.name name) e ∙ other in cc) in
-    subst (λ (l : List Component). Contains l c) (sym loses.is) (one_less loses.was.before loses.was.after loses.component c differs (subst (λ (l : List Component). Contains l c) loses.was.whole has))
+    subst (λ (l : List Component). Contains l c) (sym loses.is) (one_less loses.was.before loses.was.after loses.component c (λ e. absurd (let k : true ≡ false = sym loses.was.named ∙ ap (λ (d : Component). bytes_eq d.name name) e ∙ other in cc)) (subst (λ (l : List Component). Contains l c) loses.was.whole has))

@@ -1,9 +1,9 @@
 -- Searches over the cells of a region.
-use Rattle.std.proofs.Common.{◌≡◌, ◌≢◌, ℕ, ◌+◌, ◌-◌, ◌/◌, ◌%◌, ◌≤◌, ◌⊎◌, inl, inr, IsTrue, List, [], ◌∷◌, length, Option, Some, None, Result, Ok, Err, refl, sym, ap, subst, ◌∙◌, arith, Bool, true, false, cond}
-use Rattle.std.specs.Prelude.{IfErr, IsErrOf, ◌||◌, is_some, nat_lt, ok_or}
+use Rattle.std.proofs.Common.{◌≡◌, ℕ, ◌+◌, ◌-◌, ◌/◌, ◌%◌, ◌≤◌, ◌⊎◌, ⊎_elim, inl, inr, IsTrue, List, [], ◌∷◌, length, Option, Some, None, Result, Ok, Err, refl, sym, ap, subst, ◌∙◌, arith, Bool, true, false, cond}
+use Rattle.std.specs.Prelude.{IfErr, IfOk, ⊤, IsErrOf, ◌||◌, is_some, nat_lt, ok_or}
 use mathlib.Core.Path.{fun_ext}
 use Rattle.flash_format.specs.Cut.{Cut, cut}
-use Rattle.flash_device.specs.Device.{Device, fault_count}
+use Rattle.flash_device.specs.Device.{fault_count}
 use Rattle.flash_device.specs.Pages.{Pages, HasRead}
 use Rattle.flash_device.proofs.WindowLemmas.{HasRead-none, HasRead-then, HasRead-within}
 use Rattle.flash_device.specs.Regions.{Range, LiesOn, bytes_in}
@@ -11,19 +11,19 @@ use Rattle.flash_device.proofs.DeviceLemmas.{honest_still, length-bytes_in}
 use Rattle.cbfs_walk.specs.Cells.{IsCellIn, cell_in}
 use Rattle.cbfs_walk.specs.Walks.{reads_over, StepResult, Walking, walk_of, answer_at, reads_at, StandsIn}
 use Rattle.cbfs_walk.specs.Shapes.{shape_fault, refused_or}
-use Rattle.cbfs_walk.specs.CellReadings.{reading_of, ReadsCells, by_answer, place_after}
+use Rattle.cbfs_walk.specs.CellReadings.{reading_of, by_answer, place_after}
 use Rattle.cbfs_walk.specs.declared.cell.Cell.{Cell}
 use Rattle.cbfs_walk.specs.declared.walk.Step.{Step}
 use Rattle.cbfs_walk.specs.declared.walk.WalkFault.{WalkFault}
 use Rattle.cbfs_walk.proofs.Shapes.{shaped_step}
 use Rattle.cbfs_walk.proofs.StepResults.{IsLast, last_reads}
-use Rattle.cbfs_edit.specs.Changes.{by_device}
+use Rattle.cbfs_edit.specs.Changes.{by_device, by_fault}
 use Rattle.cbfs_edit.specs.Removals.{edit_fault_of, unless_damaged, unless_unsound, removal_in, by_rows}
 use Rattle.cbfs_edit.specs.declared.fault.EditFault.{EditFault}
 use Rattle.std.specs.Str.{bytes_eq}
 use Rattle.flash_format.specs.Head.{head_of, is_free}
 use Rattle.flash_format.specs.Components.{cell_name, Component, components_from, component_at}
-use Rattle.cbfs_edit.specs.Searches.{group_by, place_by}
+use Rattle.cbfs_edit.specs.Searches.{group_by, HasSearched, place_by}
 use Rattle.cbfs_edit.specs.declared.group.CellRange.{CellRange}
 use Rattle.cbfs_edit.specs.declared.group.Search.TheVariants.{Looking}
 use Rattle.std.specs.List.{cons_option, filter_map, slice_get}
@@ -52,9 +52,6 @@ each_cell c given later read = later (λ cells. read (c ∷ cells))
 abbrev refused : {A : Type 0} → WalkFault → Reading A → Result A EditFault
 refused fault read = Err (edit_fault_of fault)
 
-law : {A : Type 0} → ReadsCells (read_cut {A = A}) (each_cell {A = A})
-law {A} at c k = fun_ext (λ (read : Reading A). refl)
-
 -- the result from an offset on
 pub found_from : {A : Type 0} → List ℕ → Reading A → ℕ → Result A EditFault
 found_from x read at = reading_of refused read_cut x at read
@@ -63,10 +60,7 @@ found_whole : {A : Type 0} (x : List ℕ) (read : Reading A) → unless_unsound 
 unfolding found_from reading_of
 found_whole {A} x read = go (shape_fault x)
   where
-    taken : Reading A → Result A EditFault
-    taken = read_cut 0 (cut x)
-
-    go : (o : Option WalkFault) → refused_or (λ fault. Err (edit_fault_of fault)) o (taken read) ≡ refused_or refused o taken read
+    go : (o : Option WalkFault) → refused_or (λ fault. Err (edit_fault_of fault)) o (read_cut 0 (cut x) read) ≡ refused_or refused o (read_cut 0 (cut x)) read
     go None = refl
     go (Some fault) = refl
 
@@ -76,7 +70,7 @@ found_by x read answer = by_answer refused read_cut each_cell x answer read
 
 found_step : {A : Type 0} (x : List ℕ) (read : Reading A) (at : ℕ) → at ≤ length x → at % 64 ≡ 0 → found_from x read at ≡ found_by x read (answer_at x at)
 unfolding found_from
-found_step {A} x read at inside aligned = ap (λ (f : Reading A → Result A EditFault). f read) (shaped_step refused read_cut each_cell law x at inside aligned)
+found_step {A} x read at inside aligned = ap (λ (f : Reading A → Result A EditFault). f read) (shaped_step refused read_cut each_cell (λ p c k. fun_ext (λ (r : Reading A). refl)) x at inside aligned)
 
 found_refusal : {A : Type 0} (x : List ℕ) (read : Reading A) (fault : WalkFault) → found_by x read (Err fault) ≡ Err (edit_fault_of fault)
 found_refusal x read (walk.Damaged at kind) = refl
@@ -85,19 +79,19 @@ found_refusal x read other = refl
 -- ---- the loop
 
 -- a search up to the walk's offset, with its invariant on any device
-pub record Surveying {F S A : Type 0} (r : Range) (sense : S → ℕ → Reading A) (want : Result A EditFault) (IsBefore : ℕ → S → Type 0) (w : Walking) (s : S) (old now : Pages F) : Type 0 where
+pub record Surveying {F S A : Type 0} (r : Range) (sense : S → ℕ → Reading A) (by : List ℕ → Result A EditFault) (IsBefore : ℕ → S → Type 0) (w : Walking) (s : S) (old now : Pages F) : Type 0 where
   pub region : w.region ≡ r
   pub going : w.ended ≡ None
   pub inside : w.at ≤ r.size
   pub aligned : w.at % 64 ≡ 0
   pub read : HasRead (w.at / 16) 0 old now
   pub before : IsBefore w.at s
-  pub so_far : IsTrue old.device.honest → want ≡ found_from (bytes_in r old.device.content) (sense s w.at) w.at
+  pub so_far : IsTrue old.device.honest → by (bytes_in r old.device.content) ≡ found_from (bytes_in r old.device.content) (sense s w.at) w.at
 
-pub surveying_start : {F S A : Type 0} (r : Range) (sense : S → ℕ → Reading A) (want : Result A EditFault) (IsBefore : ℕ → S → Type 0) (s : S) (old : Pages F)
-    → IsBefore 0 s → (let x = bytes_in r old.device.content in want ≡ unless_unsound x (sense s 0 (cut x).cells))
-    → Surveying r sense want IsBefore (walk_of r) s old old
-surveying_start r sense want IsBefore s old before is = record {
+pub surveying_start : {F S A : Type 0} (r : Range) (sense : S → ℕ → Reading A) (by : List ℕ → Result A EditFault) (IsBefore : ℕ → S → Type 0) (s : S) (old : Pages F)
+    → IsBefore 0 s → (let x = bytes_in r old.device.content in by x ≡ unless_unsound x (sense s 0 (cut x).cells))
+    → Surveying r sense by IsBefore (walk_of r) s old old
+surveying_start r sense by IsBefore s old before is = record {
   region = refl;
   going = refl;
   inside = omega arith;
@@ -111,12 +105,19 @@ told_step : (s : Step) (b : StepResult) → (let a : StepResult = Ok s in IsErrO
 told_step s b (inl e) = absurd cc
 told_step s b (inr e) = e
 
-module _ {F S A : Type 0} (r : Range) (sense : S → ℕ → Reading A) (want : Result A EditFault) (IsBefore : ℕ → S → Type 0) (w : Walking) (s : S) (old now : Pages F) (lies : LiesOn r old.device) (i : Surveying r sense want IsBefore w s old now) where
+-- an error of neither the device nor the source
+faultless : {A : Type 0} (r : Result A EditFault) → IfErr r (λ fault. by_fault fault ⊥ ⊥ ⊤) → (fault_count by_device r ≡ 0) × (IsErrOf r faults.Source → ⊥)
+faultless (Ok a) own = (refl, λ e. absurd cc)
+faultless (Err faults.Device) own = absurd own
+faultless (Err faults.Source) own = absurd own
+faultless (Err fault) own = (refl, λ e. absurd cc)
+
+module _ {F S A : Type 0} (r : Range) (sense : S → ℕ → Reading A) (by : List ℕ → Result A EditFault) (IsBefore : ℕ → S → Type 0) (w : Walking) (s : S) (old now : Pages F) (lies : LiesOn r old.device) (i : Surveying r sense by IsBefore w s old now) where
   abbrev x : List ℕ
   x = bytes_in r old.device.content
 
   answered : (a : StepResult) → IsTrue old.device.honest → a ≡ answer_at (bytes_in w.region now.device.content) w.at
-      → (a ≡ answer_at x w.at) × (want ≡ found_by x (sense s w.at) a)
+      → (a ≡ answer_at x w.at) × (by x ≡ found_by x (sense s w.at) a)
   answered a h is =
       let len : length x ≡ r.size = length-bytes_in r old.device.content lies.inside in
       let here : a ≡ answer_at x w.at = is ∙ ap (λ (k : Range). answer_at (bytes_in k now.device.content) w.at) i.region ∙ ap (λ (l : List ℕ). answer_at (bytes_in r l) w.at) (i.read.device.unchanged h) in
@@ -129,7 +130,7 @@ module _ {F S A : Type 0} (r : Range) (sense : S → ℕ → Reading A) (want : 
       → v ≡ record w { at = w.at + c.span; steps = w.steps + 1 }
       → IsBefore (c.at + c.span) t
       → (IsTrue mid.device.honest → StandsIn (bytes_in r mid.device.content) c → (cells : List (List ℕ)) → sense s c.at (cell_in (bytes_in r mid.device.content) c ∷ cells) ≡ sense t (c.at + c.span) cells)
-      → Surveying r sense want IsBefore v t old new
+      → Surveying r sense by IsBefore v t old new
   unfolding found_from
   surveying_more c v t mid new n given reads few more answer moved before pass = rw moved (record {
     region = i.region;
@@ -157,33 +158,24 @@ module _ {F S A : Type 0} (r : Range) (sense : S → ℕ → Reading A) (want : 
 
   module _ (step : Step) (last : IsLast step) where
     last_found : found_by x (sense s w.at) (Ok step) ≡ sense s w.at []
-    last_found = elim last [
-      | inl tail ↦ ap (λ (t : Step). found_by x (sense s w.at) (Ok t)) tail.1
-      | inr end ↦ ap (λ (t : Step). found_by x (sense s w.at) (Ok t)) end
-    ]
+    last_found = ⊎_elim (λ tail. ap (λ (t : Step). found_by x (sense s w.at) (Ok t)) tail.1) (λ end. ap (λ (t : Step). found_by x (sense s w.at) (Ok t)) end) last
 
-    pub last_after : (mid : Pages F) → HasRead (reads_at w.region.size w.at (Ok step)) 0 now mid → HasRead (r.size / 16 + 1) 0 old mid
-    last_after mid reading =
-        HasRead-within (w.at / 16 + reads_over (w.region.size - w.at)) (r.size / 16 + 1) 0 old mid (omega (arith, i.inside, i.aligned, ap (λ (k : Range). k.size) i.region))
-        (HasRead-then (w.at / 16) (reads_over (w.region.size - w.at)) 0 old now mid i.read (rw (last_reads step w.region.size w.at last) at reading))
-
-    pub last_answer : (IsTrue now.device.honest → w.ended ≡ None → (let a : StepResult = Ok step in IsErrOf a walk.Device ⊎ (a ≡ answer_at (bytes_in w.region now.device.content) w.at)))
-        → IsTrue old.device.honest → sense s w.at [] ≡ want
-    last_answer answer h = sym ((answered (Ok step) h (told_step _ _ (answer (honest_still i.read.device.calls.same_honesty h) i.going))).1 ∙ last_found)
+    pub searched : (Is : A → Type 0) (mid : Pages F) (result : Result A EditFault) → IfErr result (λ fault. by_fault fault ⊥ ⊥ ⊤) → IfOk result Is → result ≡ sense s w.at [] → HasRead (reads_at w.region.size w.at (Ok step)) 0 now mid
+        → (IsTrue now.device.honest → w.ended ≡ None → (let a : StepResult = Ok step in IsErrOf a walk.Device ⊎ (a ≡ answer_at (bytes_in w.region now.device.content) w.at))) → HasSearched by r Is old mid result
+    searched Is mid result own found is reading answer = record {
+      after = rw (faultless result own).0 (HasRead-within (w.at / 16 + reads_over (w.region.size - w.at)) (r.size / 16 + 1) 0 old mid (omega (arith, i.inside, i.aligned, ap (λ (k : Range). k.size) i.region))
+          (HasRead-then (w.at / 16) (reads_over (w.region.size - w.at)) 0 old now mid i.read (rw (last_reads step w.region.size w.at last) at reading)));
+      no_source = (faultless result own).1;
+      found = found;
+      answer = λ h. inr (is ∙ sym ((answered (Ok step) h (told_step _ _ (answer (honest_still i.read.device.calls.same_honesty h) i.going))).1 ∙ last_found));
+    }
 
   pub surveying_err : (fault : WalkFault) → (answer : IsTrue now.device.honest → w.ended ≡ None → (let a : StepResult = Err fault in IsErrOf a walk.Device ⊎ (a ≡ answer_at (bytes_in w.region now.device.content) w.at)))
-      → IsTrue old.device.honest → (let a : Result A EditFault = Err (edit_fault_of fault) in IsErrOf a faults.Device ⊎ (a ≡ want))
-  surveying_err fault answer h = go (answer (honest_still i.read.device.calls.same_honesty h) i.going)
-    where
-      go : (let a : StepResult = Err fault in IsErrOf a walk.Device ⊎ (a ≡ answer_at (bytes_in w.region now.device.content) w.at))
-          → (let a : Result A EditFault = Err (edit_fault_of fault) in IsErrOf a faults.Device ⊎ (a ≡ want))
-      go (inl device) = let is : fault ≡ walk.Device = cc in inl (ap (λ (f : WalkFault). let a : Result A EditFault = Err (edit_fault_of f) in a) is)
-      go (inr is) = inr (sym ((answered (Err fault) h is).1 ∙ found_refusal x (sense s w.at) fault))
-
-pub faultless : {A : Type 0} (r : Result A EditFault) → IfErr r (λ fault. fault ≢ faults.Device) → fault_count by_device r ≡ 0
-faultless (Ok a) other = refl
-faultless (Err faults.Device) other = absurd (other refl)
-faultless (Err fault) other = refl
+      → IsTrue old.device.honest → (let a : Result A EditFault = Err (edit_fault_of fault) in IsErrOf a faults.Device ⊎ (a ≡ by x))
+  surveying_err fault answer h =
+      ⊎_elim (λ device. let is : fault ≡ walk.Device = cc in inl (ap (λ (f : WalkFault). let a : Result A EditFault = Err (edit_fault_of f) in a) is))
+      (λ is. inr (sym ((answered (Err fault) h is).1 ∙ found_refusal x (sense s w.at) fault)))
+      (answer (honest_still i.read.device.calls.same_honesty h) i.going)
 
 -- ---- the search for a group
 

@@ -4,7 +4,7 @@ use Rattle.std.specs.Option.{option_map, option_map_or}
 use Rattle.std.specs.Result.{result_map_both, result_ok}
 use Rattle.std.specs.Prelude.{◌≡◌, ℕ, ◌+◌, ◌-◌, ◌==◌, ◌||◌, max, Bool, List, [], ◌∷◌, ◌++◌, length}
 use Rattle.std.specs.Prelude.{slice_range, nat_lt, Option, Some, None, Result, Err, if◌then◌else◌}
-use Rattle.std.specs.Prelude.{◌^◌, ◌<◌, ◌≤◌, false, take, drop}
+use Rattle.std.specs.Prelude.{◌≤◌, false, take, drop}
 use Rattle.flash_format.specs.Head.{round64}
 use Rattle.flash_format.specs.Made.{header_length, empty_entry, empty_header, hash_len, meta_length}
 use Rattle.flash_format.specs.Made.{made}
@@ -71,30 +71,27 @@ cell_end new place = round64 (place.content + length new.content)
 abbrev pub empty_between : List ℕ → ℕ → ℕ → List ℕ
 empty_between x start end = if start == end then [] else empty_entry (end - start) (kept_at x end)
 
-abbrev pub made_at : List ℕ → NewComponent → Place → List ℕ
-made_at x new place =
-    made new.name new.kind new.digest (place.content - place.header - metadata_len_of new)
-    new.content (kept_at x (cell_end new place))
+module _ (x : List ℕ) (new : NewComponent) (place : Place) where
+  abbrev pub made_at : List ℕ
+  made_at = made new.name new.kind new.digest (place.content - place.header - metadata_len_of new)
+      new.content (kept_at x (cell_end new place))
 
--- the component in a run, between empty entries
-abbrev pub added : List ℕ → NewComponent → Place → List ℕ
-added x new place = overwritten x place.run.start (empty_between x place.run.start place.header
-    ++ (made_at x new place ++ empty_between x (cell_end new place) place.run.end))
+  -- the component in a run, between empty entries
+  abbrev pub added : List ℕ
+  added = overwritten x place.run.start (empty_between x place.run.start place.header
+      ++ (made_at ++ empty_between x (cell_end new place) place.run.end))
 
-abbrev pub added_component : List ℕ → NewComponent → Place → Component
-added_component x new place =
-    made_component place.header new.name new.kind new.digest new.content (made_at x new place)
+  abbrev pub added_component : Component
+  added_component = made_component place.header new.name new.kind new.digest new.content made_at
 
--- one more component in place of free cells, with its content at the returned offset
-pub record AddsOne (x : List ℕ) (new : NewComponent) (place : Place) : Type 0 where
-  pub cells : CellsBetween x place.run.start place.run.end
-  pub free : AllFree cells.group
-  pub more : HasOneMore x place.run.start place.run.end cells
-      (space_cells (empty_between x place.run.start place.header) ++ (made_at x new place ∷ [])
-      ++ space_cells (empty_between x (cell_end new place) place.run.end))
-      (added_component x new place) (added x new place)
-  pub content : slice_range (added x new place) place.content (place.content + length new.content)
-      ≡ new.content
+  -- one more component in place of free cells, with its content at the returned offset
+  pub record AddsOne : Type 0 where
+    pub cells : CellsBetween x place.run.start place.run.end
+    pub free : AllFree cells.group
+    pub more : HasOneMore x place.run.start place.run.end cells
+        (space_cells (empty_between x place.run.start place.header) ++ (made_at ∷ [])
+        ++ space_cells (empty_between x (cell_end new place) place.run.end)) added_component added
+    pub content : slice_range added place.content (place.content + length new.content) ≡ new.content
 
 -- the start of the preserved end: the last four bytes, unless covered by content
 abbrev pub kept_from : List ℕ → NewComponent → Place → ℕ
@@ -132,9 +129,8 @@ abbrev pub added_to : List ℕ → NewComponent → Spot → List ℕ
 added_to x new spot = option_map_or (added x new) (result_ok (addition_in x new spot)) x
 
 -- room for the metadata, and for a cell up to `end`
-pub record HasRoom (size : ℕ) (place : Place) (end metadata : ℕ) : Type 0 where
+pub record HasRoom (place : Place) (end metadata size : ℕ) : Type 0 where
   pub run : IsCellRange place.run size
-  pub small : size < 2 ^ 32
   pub start_below : place.run.start ≤ place.header
   pub cell : IsCellRange (record { start = place.header; end = end }) place.run.end
   pub metadata_is : place.header + metadata ≡ place.content

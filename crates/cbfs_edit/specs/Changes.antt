@@ -4,7 +4,7 @@ use Rattle.std.specs.Prelude.{◌-◌, max, drop, Ok, ◌==◌}
 use Rattle.flash_device.specs.Device.{overwritten, SameOutside, Device, Reads, fault_count}
 use Rattle.flash_device.specs.Device.{refusals}
 use Rattle.flash_device.specs.Pages.{Pages, HasChanged}
-use Rattle.flash_device.specs.Regions.{Range, bytes_in}
+use Rattle.flash_device.specs.Regions.{Range, LiesOn, bytes_in}
 use Rattle.flash_device.specs.declared.paged.CopyInFault.{CopyInFault}
 use Rattle.flash_device.specs.declared.paged.CopyInFault.TheVariants as causes
 use Rattle.flash_format.specs.Made.{header_length, empty_header}
@@ -45,6 +45,11 @@ abbrev pub OnHonestChange : {F : Type 0} → Range → Pages F → Pages F
 OnHonestChange region old new P = IsTrue old.device.honest
     → P (bytes_in region old.device.content) (bytes_in region new.device.content)
 
+-- a property of the size of a region on a device
+pub record HoldsOn (Is : ℕ → Type 0) (r : Range) (device : Device) : Type 0 where
+  pub region : LiesOn r device
+  pub is : Is r.size
+
 -- A write into a region by at most n calls. On an honest device, success applies `done`, and `Left`
 -- holds in any case.
 pub record HasWrittenIn {F T E : Type 0} (region : Range) (n : ℕ)
@@ -56,15 +61,15 @@ pub record HasWrittenIn {F T E : Type 0} (region : Range) (n : ℕ)
 
 -- A copy of a source into a region. `copied` and `torn` require an honest device, `copied` also an
 -- honest source.
-pub record HasCopied {F T : Type 0} (region : Range) (at : ℕ)
-    (old new : Pages F) (input input_now : Device) (result : Result T CopyInFault) : Type 0 where
-  pub after : HasChanged region ((length input.content + 4095) / 4096)
+pub record HasCopied {F S T : Type 0} (facts : S → Device) (region : Range) (at : ℕ)
+    (old new : Pages F) (input input_now : S) (result : Result T CopyInFault) : Type 0 where
+  pub after : HasChanged region ((length (facts input).content + 4095) / 4096)
       (stop_count by_device result) old new
-  pub source : Reads ((length input.content + 4095) / 4096) (stop_count by_source result)
-      input input_now
+  pub source : Reads ((length (facts input).content + 4095) / 4096) (stop_count by_source result)
+      (facts input) (facts input_now)
   pub copied : OnHonestChange region old new (λ x y.
-      IsTrue input.honest → OnOk result (y ≡ overwritten x at input.content))
-  pub torn : OnHonestChange region old new (SameOutside at (length input.content))
+      IsTrue (facts input).honest → OnOk result (y ≡ overwritten x at (facts input).content))
+  pub torn : OnHonestChange region old new (SameOutside at (length (facts input).content))
 
 -- between the commits of an edit: an empty entry's header over the group, then arbitrary bytes up
 -- to `to`
@@ -83,8 +88,7 @@ pub record SameCells (x y : List ℕ) : Type 0 where
   pub end : (cut x).end ≡ (cut y).end
 
 -- The components before or after the edit. Bytes outside the group, and from `kept` on, remain.
-pub record IsStopped (x : List ℕ) (group : CellRange) (done : List ℕ) (kept : ℕ)
-    (y : List ℕ) : Type 0 where
+pub record IsStopped (group : CellRange) (kept : ℕ) (x done y : List ℕ) : Type 0 where
   pub components : (components y ≡ components x) ⊎ (components y ≡ components done)
   pub end : (cut y).end ≡ (cut x).end
   pub same_length : length y ≡ length x
@@ -94,12 +98,12 @@ pub record IsStopped (x : List ℕ) (group : CellRange) (done : List ℕ) (kept 
 -- after a device fault of a removal
 abbrev pub LeavesWhole : List ℕ → List ℕ → List ℕ → Type 0
 LeavesWhole x name y = (y ≡ x) ⊎ ((group : CellRange) × (removal_in x name ≡ Ok group)
-    × IsStopped x group (removed x group) (length x - 4) y)
+    × IsStopped group (length x - 4) x (removed x group) y)
 
 -- after a device fault of an addition; of the last four bytes, only bytes after the content remain
 abbrev pub AddLeavesWhole : List ℕ → NewComponent → Spot → List ℕ → Type 0
 AddLeavesWhole x new spot y = (y ≡ x) ⊎ ((place : Place) × (addition_in x new spot ≡ Ok place)
-    × IsStopped x place.run (added x new place) (kept_from x new place) y)
+    × IsStopped place.run (kept_from x new place) x (added x new place) y)
 
 -- after a source fault: the components of before
 abbrev pub AddLeavesBefore : List ℕ → NewComponent → Spot → List ℕ → Type 0

@@ -40,41 +40,40 @@ abbrev pub limit_of : Spot → ℕ → ℕ → ℕ
 limit_of (Fixed place) size end = end
 limit_of spot size end = space_end size end
 
--- the content may begin at `c`
-pub record IsAllowed (wanted : Wanted) (size : ℕ) (run : CellRange) (c : ℕ) : Type 0 where
-  pub after_header : run.start + wanted.metadata_len ≤ c
-  pub meets : Allows wanted.spot c
-  pub ends : c + wanted.len ≤ limit_of wanted.spot size run.end
-
-abbrev pub HasNoRoom : Wanted → ℕ → CellRange → Type 0
-HasNoRoom wanted size run = (c : ℕ) → IsAllowed wanted size run c → ⊥
-
 -- at the largest multiple of 64 with room for the metadata
 pub record IsHeaderOf (wanted : Wanted) (place : Place) : Type 0 where
   pub aligned : place.header % 64 ≡ 0
   pub room : place.header + wanted.metadata_len ≤ place.content
   pub largest : place.content < place.header + 64 + wanted.metadata_len
 
-pub record Fits (wanted : Wanted) (size : ℕ) (place : Place) : Type 0 where
-  pub run : IsCellRange place.run size
-  pub start_below : place.run.start ≤ place.header
-  pub header : IsHeaderOf wanted place
-  pub inside : place.content + wanted.len ≤ place.run.end
+module _ (wanted : Wanted) (size : ℕ) where
+  -- the content may begin at `c`
+  pub record IsAllowed (run : CellRange) (c : ℕ) : Type 0 where
+    pub after_header : run.start + wanted.metadata_len ≤ c
+    pub meets : Allows wanted.spot c
+    pub ends : c + wanted.len ≤ limit_of wanted.spot size run.end
 
--- the least allowed place in the first run with an allowed place
-pub record IsFirstPlace (wanted : Wanted) (size : ℕ) (runs : List CellRange)
-    (place : Place) : Type 0 where
-  pub before : List CellRange
-  pub later : List CellRange
-  pub whole : runs ≡ before ++ place.run ∷ later
-  pub none_before : All (HasNoRoom wanted size) before
-  pub allowed : IsAllowed wanted size place.run place.content
-  pub least : (d : ℕ) → IsAllowed wanted size place.run d → place.content ≤ d
-  pub header : IsHeaderOf wanted place
+  abbrev pub HasNoRoom : CellRange → Type 0
+  HasNoRoom run = (c : ℕ) → IsAllowed run c → ⊥
 
-abbrev pub IsPlaceAmong : Wanted → ℕ → List CellRange → Option Place → Type 0
-IsPlaceAmong wanted size runs found =
-    MatchOption found (All (HasNoRoom wanted size) runs) (IsFirstPlace wanted size runs)
+  pub record Fits (place : Place) : Type 0 where
+    pub run : IsCellRange place.run size
+    pub start_below : place.run.start ≤ place.header
+    pub header : IsHeaderOf wanted place
+    pub inside : place.content + wanted.len ≤ place.run.end
+
+  -- the least allowed place in the first run with an allowed place
+  pub record IsFirstPlace (runs : List CellRange) (place : Place) : Type 0 where
+    pub before : List CellRange
+    pub later : List CellRange
+    pub whole : runs ≡ before ++ place.run ∷ later
+    pub none_before : All HasNoRoom before
+    pub allowed : IsAllowed place.run place.content
+    pub least : (d : ℕ) → IsAllowed place.run d → place.content ≤ d
+    pub header : IsHeaderOf wanted place
+
+  abbrev pub IsPlaceAmong : List CellRange → Option Place → Type 0
+  IsPlaceAmong runs found = MatchOption found (All HasNoRoom runs) (IsFirstPlace runs)
 
 -- ---- as a function
 

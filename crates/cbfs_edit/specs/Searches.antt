@@ -1,20 +1,32 @@
 -- Searches cell by cell.
 use Rattle.std.specs.Option.{option_or}
 use Rattle.std.specs.Prelude.{◌≡◌, ℕ, ◌%◌, ◌^◌, ◌<◌, ◌≤◌, ◌||◌, is_some, List, IfSome, Result, Ok}
-use Rattle.std.specs.Prelude.{ok_or}
+use Rattle.std.specs.Prelude.{ok_or, ◌+◌, ◌/◌, ◌⊎◌, IsErrOf, IfOk}
+use Rattle.flash_device.specs.Device.{fault_count}
+use Rattle.flash_device.specs.Pages.{Pages, HasRead, OnHonestIn}
+use Rattle.flash_device.specs.Regions.{Range}
+use Rattle.cbfs_edit.specs.Changes.{by_device}
 use Rattle.flash_format.specs.Components.{components_from}
 use Rattle.cbfs_walk.specs.Search.{first_named}
 use Rattle.cbfs_edit.specs.Removals.{IsCellRange, group_from, row_end}
 use Rattle.cbfs_edit.specs.Runs.{runs_from}
 use Rattle.cbfs_edit.specs.Places.{Fits, IsWanted, first_place, unless_exists}
 use Rattle.cbfs_edit.specs.declared.fault.EditFault.{EditFault}
-use Rattle.cbfs_edit.specs.declared.fault.EditFault.TheVariants.{NotFound}
+use Rattle.cbfs_edit.specs.declared.fault.EditFault.TheVariants.{Device, Source, NotFound}
 use Rattle.cbfs_edit.specs.declared.group.CellRange.{CellRange}
 use Rattle.cbfs_edit.specs.declared.group.Search.{Search}
 use Rattle.cbfs_edit.specs.declared.group.Search.TheVariants.{Looking, Growing, Whole}
 use Rattle.cbfs_edit.specs.declared.place.Survey.{Survey}
 use Rattle.cbfs_edit.specs.declared.place.Wanted.{Wanted}
 use Rattle.cbfs_edit.specs.declared.place.Place.{Place}
+
+-- A search of a region. On an honest device, the result is `by` of its bytes, or a device fault.
+pub record HasSearched {F T : Type 0} (by : List ℕ → Result T EditFault) (region : Range)
+    (Is : T → Type 0) (old new : Pages F) (result : Result T EditFault) : Type 0 where
+  pub after : HasRead (region.size / 16 + 1) (fault_count by_device result) old new
+  pub no_source : IsErrOf result Source → ⊥
+  pub found : IfOk result Is
+  pub answer : OnHonestIn old.device region (λ x. IsErrOf result Device ⊎ (result ≡ by x))
 
 -- the result for the remaining cells
 abbrev pub group_by : List ℕ → Search → ℕ → List (List ℕ) → Result CellRange EditFault

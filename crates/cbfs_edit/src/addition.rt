@@ -8,7 +8,7 @@ ghost use Rattle.flash_format.specs.Made.{hash_len};
 ghost use Rattle.flash_device.specs.Device.{overwritten, Reads, fault_count};
 ghost use Rattle.flash_device.specs.Pages.{HasChanged, OnHonestIn};
 ghost use Rattle.flash_device.specs.Regions.{LiesOn, Reaches};
-ghost use Rattle.cbfs_edit.specs.Changes.{OnHonestChange, HasCopied, AddLeavesBefore};
+ghost use Rattle.cbfs_edit.specs.Changes.{OnHonestChange, HasCopied, HoldsOn, AddLeavesBefore};
 ghost use Rattle.cbfs_edit.specs.Changes.{AddLeavesWhole, IsInsertStop, written_to, by_device};
 ghost use Rattle.cbfs_edit.specs.Changes.{by_source, stop_count};
 ghost use Rattle.cbfs_edit.specs.Additions.{added, added_to, addition_in, algorithm_of, choice_of};
@@ -88,8 +88,7 @@ fn copy_content<F: Flash, S: Source>(
 ) -> Result<Option<Digest>, CopyInFault>
     requires { Reaches region (at + length (S.facts source.old).content) paged.old.device }
 
-    ensures after { HasCopied region at paged.old paged.new (S.facts source.old)
-        (S.facts source.new) result }
+    ensures after { HasCopied S.facts region at paged.old paged.new source.old source.new result }
     ensures digest_len { IfOk result (λ digest.
         (content : List ℕ) → hash_len digest ≡ hash_len (digest_of hash content)) }
 
@@ -121,8 +120,7 @@ fn copy_hashed<F: Flash, S: Source, H: sha2::Digest>(
 ) -> Result<H::Output, CopyInFault>
     requires { Reaches region (at + length (S.facts source.old).content) paged.old.device }
 
-    ensures after { HasCopied region at paged.old paged.new (S.facts source.old)
-        (S.facts source.new) result }
+    ensures after { HasCopied S.facts region at paged.old paged.new source.old source.new result }
 
     // For an honest source.
     ensures digest { IsTrue (S.facts source.old).honest →
@@ -185,8 +183,7 @@ fn insert<F: Flash, S: Source>(
     label: &Label<'_>,
     source: &mut S,
 ) -> Result<(), CopyInFault>
-    requires region { LiesOn region paged.old.device }
-    requires fits { Fits wanted region.size place }
+    requires fits { HoldsOn (λ size. Fits wanted size place) region paged.old.device }
     requires name { length label.now.name.now ≤ 127 }
     requires wanted { wanted
         ≡ wanted_for (component_of_label label.now (S.facts source.old).content) wanted.spot }

@@ -1,14 +1,14 @@
 //! The search for a removal's cells.
 ghost use Rattle.std.specs.Prelude.{◌≡◌, ◌⊎◌, ℕ, ◌+◌, ◌/◌, ◌<◌, ◌≤◌, List, [], ◌∷◌, IfOk, IfErr};
-ghost use Rattle.std.specs.Prelude.{IsErrOf};
+ghost use Rattle.std.specs.Prelude.{⊤};
 ghost use Rattle.flash_device.specs.Device.{fault_count};
 ghost use Rattle.flash_device.specs.Pages.{HasRead, HasAnswered, OnHonestIn};
 ghost use Rattle.flash_device.specs.Regions.{LiesOn};
 ghost use Rattle.cbfs_walk.specs.Cells.{IsCellOn, IsCellIn, cell_in};
 ghost use Rattle.cbfs_walk.specs.Walks.{StandsIn};
 ghost use Rattle.cbfs_edit.specs.Removals.{IsCellRange, removal_in};
-ghost use Rattle.cbfs_edit.specs.Changes.{by_device};
-ghost use Rattle.cbfs_edit.specs.Searches.{group_by, IsBefore};
+ghost use Rattle.cbfs_edit.specs.Changes.{by_fault};
+ghost use Rattle.cbfs_edit.specs.Searches.{group_by, HasSearched, IsBefore};
 
 use crate::fault::EditFault;
 use cbfs_walk::{Cell, Step, Walk, cells_stand_in_their_image, name_is};
@@ -43,13 +43,8 @@ pub fn find_group<F: Flash>(
 ) -> Result<CellRange, EditFault>
     requires { LiesOn region paged.old.device }
 
-    ensures after { HasRead (region.size / 16 + 1) (fault_count by_device result)
-        paged.old paged.new }
-    ensures no_source { IsErrOf result EditFault.Source → ⊥ }
-    ensures group { IfOk result (λ group. IsCellRange group region.size) }
-
-    ensures answer { OnHonestIn paged.old.device region (λ x.
-        IsErrOf result EditFault.Device ⊎ (result ≡ removal_in x name.now)) }
+    ensures { HasSearched (λ x. removal_in x name.now) region
+        (λ group. IsCellRange group region.size) paged.old paged.new result }
 {
     let mut walk = Walk::new(region);
     let mut search = Search::Looking { start: 0 };
@@ -75,10 +70,9 @@ fn pass<F: Flash>(
 
     ensures after { HasAnswered 1 paged.old paged.new result }
     ensures before { IfOk result (IsBefore (cell.now.at + cell.now.span)) }
-    ensures passed { OnHonestIn paged.old.device region (λ x.
-        StandsIn x cell.now → IfOk result (λ next.
-        (cells : List (List ℕ)) → group_by name.now search cell.now.at (cell_in x cell.now ∷ cells)
-        ≡ group_by name.now next (cell.now.at + cell.now.span) cells)) }
+    ensures passed { OnHonestIn paged.old.device region (λ x. StandsIn x cell.now → IfOk result
+        (λ next. (cells : List (List ℕ)) → group_by name.now search cell.now.at (cell_in x cell.now
+        ∷ cells) ≡ group_by name.now next (cell.now.at + cell.now.span) cells)) }
 {
     cells_stand_in_their_image();
     let end = cell.at + cell.span;
@@ -108,9 +102,8 @@ fn pass<F: Flash>(
 #[tactic(auto, unfolding(crate::specs::Removals::by_rows))]
 fn group_in(search: Search) -> Result<CellRange, EditFault>
     ensures is { (name : List ℕ) (at : ℕ) → result ≡ group_by name search at [] }
-    ensures group { IfOk result (λ group.
-        (at size : ℕ) → IsBefore at search → at ≤ size → IsCellRange group size) }
-    ensures fault { IfErr result (λ fault. fault ≡ EditFault.NotFound) }
+    ensures group { (at : ℕ) → IsBefore at search → IfOk result (λ group. IsCellRange group at) }
+    ensures fault { IfErr result (λ fault. by_fault fault ⊥ ⊥ ⊤) }
 {
     match search {
         Search::Looking { .. } => Err(EditFault::NotFound),

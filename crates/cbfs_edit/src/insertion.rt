@@ -2,10 +2,10 @@
 //!
 //! The first commit covers the run with the header of an empty entry, and the last commit shows the
 //! component. Bytes written between the commits are free space.
-ghost use Rattle.std.specs.Prelude.{◌≡◌, ◌⊎◌, ◌-◌, ◌%◌, ◌^◌, ◌<◌, ◌≤◌, length};
+ghost use Rattle.std.specs.Prelude.{◌≡◌, ◌⊎◌, ℕ, ◌-◌, ◌^◌, ◌<◌, ◌≤◌, length};
 ghost use Rattle.flash_format.specs.Made.{header_length, metadata_of, described_len};
 ghost use Rattle.flash_device.specs.Regions.{LiesOn};
-ghost use Rattle.cbfs_edit.specs.Changes.{HasWrittenIn};
+ghost use Rattle.cbfs_edit.specs.Changes.{HasWrittenIn, HoldsOn};
 ghost use Rattle.cbfs_edit.specs.Additions.{HasRoom, IsUnfinished, with_bound, with_component};
 ghost use Rattle.cbfs_edit.specs.Additions.{with_metadata, held_back, shown_by};
 
@@ -33,8 +33,7 @@ fn write_metadata<F: Flash>(
     end: u64,
     metadata: &[u8],
 ) -> Result<(), FlashFault>
-    requires region { LiesOn region paged.old.device }
-    requires room { HasRoom region.size place end (length metadata.now) }
+    requires { HoldsOn (HasRoom place end (length metadata.now)) region paged.old.device }
 
     ensures { HasWrittenIn region 1 (λ x. with_metadata x place metadata.now)
         (IsUnfinished place) paged.old paged.new result }
@@ -50,8 +49,7 @@ fn write_bound<F: Flash>(
     place: Place,
     end: u64,
 ) -> Result<(), FlashFault>
-    requires region { LiesOn region paged.old.device }
-    requires room { HasRoom region.size place end (place.content - place.header) }
+    requires { HoldsOn (HasRoom place end (place.content - place.header)) region paged.old.device }
 
     ensures { HasWrittenIn region 1 (λ x. with_bound x end place.run.end)
         (IsUnfinished place) paged.old paged.new result }
@@ -66,11 +64,7 @@ fn write_bound<F: Flash>(
 
 /// Returns the component's start, or the header of the empty entry before the component.
 fn shown_by(place: Place, metadata: &[u8]) -> [u8; HEADER_LENGTH]
-    requires metadata { header_length ≤ length metadata.now }
-    requires start_aligned { place.run.start % 64 ≡ 0 }
-    requires header_aligned { place.header % 64 ≡ 0 }
-    requires order { place.run.start ≤ place.header }
-    requires small { place.header < 2 ^ 32 }
+    requires { (end size : ℕ) × HasRoom place end (length metadata.now) size × (size < 2 ^ 32) }
     ensures { result ≡ shown_by place metadata.now }
 {
     if place.header == place.run.start {
@@ -90,8 +84,7 @@ fn show<F: Flash>(
     end: u64,
     metadata: &[u8],
 ) -> Result<(), FlashFault>
-    requires region { LiesOn region paged.old.device }
-    requires room { HasRoom region.size place end (length metadata.now) }
+    requires { HoldsOn (HasRoom place end (length metadata.now)) region paged.old.device }
 
     ensures { HasWrittenIn region 3 (λ x. with_component x place end metadata.now)
         (λ x y. (y ≡ with_component x place end metadata.now) ⊎ IsUnfinished place x y)
@@ -111,8 +104,7 @@ pub fn describe<F: Flash>(
     end: u64,
     meta: &Meta<'_>,
 ) -> Result<(), FlashFault>
-    requires region { LiesOn region paged.old.device }
-    requires room { HasRoom region.size place end (described_len meta.now) }
+    requires room { HoldsOn (HasRoom place end (described_len meta.now)) region paged.old.device }
     requires name { length meta.now.name.now ≤ 127 }
     requires gap { meta.now.gap < 64 }
 

@@ -1,17 +1,17 @@
 //! The search for a new component's place.
 ghost use Rattle.std.specs.Option.{option_or};
 ghost use Rattle.std.specs.Prelude.{◌≡◌, ◌≢◌, ◌⊎◌, ℕ, ◌+◌, ◌/◌, ◌^◌, ◌<◌, ◌≤◌, List, [], ◌∷◌, None};
-ghost use Rattle.std.specs.Prelude.{false, nat_lt, if◌then◌else◌, IfOk, IfErr, IfSome, IsErrOf};
+ghost use Rattle.std.specs.Prelude.{false, nat_lt, if◌then◌else◌, IfOk, IfErr, IfSome, ⊤};
 ghost use Rattle.flash_device.specs.Device.{fault_count};
 ghost use Rattle.flash_device.specs.Pages.{HasRead, HasAnswered, OnHonestIn};
 ghost use Rattle.flash_device.specs.Regions.{LiesOn};
 ghost use Rattle.cbfs_walk.specs.Cells.{IsCellOn, IsCellIn, cell_in};
 ghost use Rattle.cbfs_walk.specs.Walks.{StandsIn};
 ghost use Rattle.cbfs_edit.specs.Removals.{IsCellRange};
-ghost use Rattle.cbfs_edit.specs.Changes.{by_device};
+ghost use Rattle.cbfs_edit.specs.Changes.{by_fault};
 ghost use Rattle.cbfs_edit.specs.Places.{Fits, IsWanted, is_bad_align, limit_of, least_from};
 ghost use Rattle.cbfs_edit.specs.Places.{place_in, placing_in};
-ghost use Rattle.cbfs_edit.specs.Searches.{IsSurvey, place_by};
+ghost use Rattle.cbfs_edit.specs.Searches.{HasSearched, IsSurvey, place_by};
 
 use crate::fault::EditFault;
 use crate::group::CellRange;
@@ -70,13 +70,8 @@ pub fn find_place<F: Flash>(
     requires region { LiesOn region paged.old.device }
     requires wanted { IsWanted wanted }
 
-    ensures after { HasRead (region.size / 16 + 1) (fault_count by_device result)
-        paged.old paged.new }
-    ensures no_source { IsErrOf result EditFault.Source → ⊥ }
-    ensures fits { IfOk result (Fits wanted region.size) }
-
-    ensures answer { OnHonestIn paged.old.device region (λ x.
-        IsErrOf result EditFault.Device ⊎ (result ≡ placing_in x name.now wanted)) }
+    ensures { HasSearched (λ x. placing_in x name.now wanted) region (Fits wanted region.size)
+        paged.old paged.new result }
 {
     let mut walk = Walk::new(region);
     let mut survey = Survey {
@@ -108,9 +103,8 @@ fn pass<F: Flash>(
     ensures after { HasAnswered 1 paged.old paged.new result }
     ensures before { IfOk result (IsSurvey wanted region.size (cell.now.at + cell.now.span)) }
     ensures passed { OnHonestIn paged.old.device region (λ x. StandsIn x cell.now
-        → IfOk result (λ next. (cells : List (List ℕ))
-        → place_by name.now wanted region.size survey (cell_in x cell.now ∷ cells)
-        ≡ place_by name.now wanted region.size next cells)) }
+        → IfOk result (λ next. (cells : List (List ℕ)) → place_by name.now wanted region.size survey
+        (cell_in x cell.now ∷ cells) ≡ place_by name.now wanted region.size next cells)) }
 {
     cells_stand_in_their_image();
     let end = survey.row.end + cell.span;
@@ -138,8 +132,7 @@ fn answer_of(wanted: Wanted, region: Region, survey: Survey) -> Result<Place, Ed
 
     ensures is { (name : List ℕ) → result ≡ place_by name wanted region.size survey [] }
     ensures fits { IfOk result (Fits wanted region.size) }
-    ensures fault { IfErr result (λ fault. fault ≢ EditFault.Device) }
-    ensures no_source { IsErrOf result EditFault.Source → ⊥ }
+    ensures fault { IfErr result (λ fault. by_fault fault ⊥ ⊥ ⊤) }
 {
     if survey.exists {
         return Err(EditFault::Exists);

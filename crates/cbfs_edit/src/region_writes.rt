@@ -4,7 +4,7 @@ ghost use Rattle.std.specs.Prelude.{OnOk, OnErr, replicate};
 ghost use Rattle.flash_format.specs.Made.{header_length};
 ghost use Rattle.flash_device.specs.Device.{overwritten, SameOutside};
 ghost use Rattle.flash_device.specs.Regions.{LiesOn, Reaches};
-ghost use Rattle.cbfs_edit.specs.Changes.{HasCopied, HasWrittenIn, IsOldOrEmptied};
+ghost use Rattle.cbfs_edit.specs.Changes.{HasCopied, HasWrittenIn, HoldsOn, IsOldOrEmptied};
 ghost use Rattle.cbfs_edit.specs.Removals.{IsCellRange, removed, space_end};
 
 use crate::group::CellRange;
@@ -53,8 +53,7 @@ pub fn copy_into<F: Flash, S: Source, W: Watch>(
 ) -> Result<(), CopyInFault>
     requires { Reaches region (at + length (S.facts source.old).content) paged.old.device }
 
-    ensures after { HasCopied region at paged.old paged.new (S.facts source.old)
-        (S.facts source.new) result }
+    ensures after { HasCopied S.facts region at paged.old paged.new source.old source.new result }
 
     // For an honest source.
     ensures shown { IsTrue (S.facts source.old).honest → (seen : List ℕ) → W.saw watch.old seen →
@@ -90,8 +89,7 @@ pub fn write_empty_entry<F: Flash>(
     region: Region,
     group: CellRange,
 ) -> Result<(), FlashFault>
-    requires region { LiesOn region paged.old.device }
-    requires group { IsCellRange group region.size }
+    requires { HoldsOn (IsCellRange group) region paged.old.device }
 
     ensures { HasWrittenIn region (region.size / 4096 + 2) (λ x. removed x group)
         (IsOldOrEmptied group (space_end region.size group.end)) paged.old paged.new result }

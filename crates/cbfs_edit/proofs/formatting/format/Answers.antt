@@ -1,14 +1,11 @@
-use Rattle.std.proofs.Common.{arith}
+use Rattle.std.proofs.Common.{arith, rules}
 use Rattle.flash_device.specs.Regions.{bytes_in}
 use Rattle.flash_device.proofs.DeviceLemmas.{length-bytes_in}
 use Rattle.cbfs_edit.proofs.FormatLemmas.{format_done, format_stopped}
 use Rattle.cbfs_edit.proofs.formatting.format.Goals as goal
 
 pub returns-clause-formatted : goal.returns-clause-formatted
-returns-clause-formatted g c honest =
-    let content = c.args.paged.now.device.content in
-    format_done (bytes_in c.args.region content) _ c.size-end.result
-    (omega (arith, length-bytes_in c.args.region content c.requires.inside, c.size-end.ensures)) (omega arith) (c.in_ok-write_empty_entry.ensures.written honest)
+returns-clause-formatted g c = search (rules, format_done, length-bytes_in)
 
 pub returns-in_err-write_empty_entry-clause-stopped : goal.returns-in_err-write_empty_entry-clause-stopped
 returns-in_err-write_empty_entry-clause-stopped g c honest = λ is.

@@ -1,5 +1,4 @@
 use Rattle.std.proofs.Common.{◌-◌}
-use Rattle.flash_device.specs.Regions.{bytes_in}
 use Rattle.cbfs_edit.specs.Places.{placing_in}
 use Rattle.cbfs_edit.specs.Searches.{IsSurvey, place_by}
 use Rattle.cbfs_edit.proofs.Searches.{Surveying}
@@ -8,7 +7,7 @@ use Rattle.cbfs_edit.proofs.place.find_place.Given as goal
 abbrev pub invariant-loop-cell : goal.invariant-loop-cell
 invariant-loop-cell g l =
     let size = l.fn.region.size in
-    Surveying l.fn.region (λ s at cells. place_by l.name l.wanted size s cells) (placing_in (bytes_in l.fn.region l.initial.paged.device.content) l.name l.wanted) (IsSurvey l.wanted size) l.walk l.survey l.initial.paged l.paged
+    Surveying l.fn.region (λ s at cells. place_by l.name l.wanted size s cells) (λ x. placing_in x l.name l.wanted) (IsSurvey l.wanted size) l.walk l.survey l.initial.paged l.paged
 
 abbrev pub decreases-loop-cell : goal.decreases-loop-cell
 decreases-loop-cell g l = l.walk.region.size - l.walk.at

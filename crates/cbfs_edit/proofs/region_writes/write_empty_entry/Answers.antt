@@ -1,4 +1,4 @@
-use Rattle.std.proofs.Common.{◌-◌, ◌+◌, IsTrue, ap, rules}
+use Rattle.std.proofs.Common.{◌-◌, ◌+◌, ap, rules}
 use Rattle.std.proofs.lemmas.Result.{on_ok_weaker}
 use Rattle.flash_format.specs.Made.{header_length}
 use Rattle.flash_device.proofs.DeviceLemmas.{honest_still}
@@ -6,9 +6,7 @@ use Rattle.cbfs_edit.proofs.EmptyEntries.{commit_left, fill_done, fill_left, sam
 use Rattle.cbfs_edit.proofs.region_writes.write_empty_entry.Goals as goal
 
 pub returns-in_err-commit_in : goal.returns-in_err-commit_in
-returns-in_err-commit_in g c =
-    let left = λ (honest : IsTrue c.args.paged.now.device.honest). commit_left c.args.region c.args.group _ c.empty_header-header.result c.size.result c.requires.region.inside c.requires.group c.size.ensures c.empty_header-header.ensures _ (c.commit_in.ensures.left honest) in
-    record { after = search rules; written = search rules; left = left }
+returns-in_err-commit_in g c = search (rules, commit_left)
 
 pub returns : goal.returns
 returns g c =
@@ -18,10 +16,10 @@ returns g c =
       after = search rules;
       written = λ honest.
           on_ok_weaker c.fill_in.result
-          (fill_done c.args.region c.args.group _ c.empty_header-header.result c.size.result c.requires.region.inside c.requires.group c.size.ensures c.empty_header-header.ensures _ _ n (c.in_ok-commit_in.ensures.written honest) is_n)
+          (fill_done c.args.region c.args.group _ c.empty_header-header.result c.size.result c.requires.region.inside c.requires.is c.size.ensures c.empty_header-header.ensures _ _ n (c.in_ok-commit_in.ensures.written honest) is_n)
           (c.fill_in.ensures.written (honest_still c.commit_in.ensures.after.calls.same_honesty honest));
       left = λ honest.
-          fill_left c.args.region c.args.group _ c.empty_header-header.result c.size.result c.requires.region.inside c.requires.group c.size.ensures c.empty_header-header.ensures _ _ n (c.in_ok-commit_in.ensures.written honest) is_n
+          fill_left c.args.region c.args.group _ c.empty_header-header.result c.size.result c.requires.region.inside c.requires.is c.size.ensures c.empty_header-header.ensures _ _ n (c.in_ok-commit_in.ensures.written honest) is_n
           (same_region_length c.args.region _ _ _ c.requires.region.inside c.commit_in.ensures.after.calls.same_length c.fill_in.ensures.after.calls.same_length)
           (c.fill_in.ensures.left (honest_still c.commit_in.ensures.after.calls.same_honesty honest));
     }
