@@ -8,50 +8,14 @@ use Rattle.cbfs_commands.specs.Printouts.{CommandResult, HasOutput, Printout}
 module _ {F S W : Type 0} {sources : S → Device} {contents : W → Option (List ℕ)} {faults : W → ℕ} {n : ℕ} {old new : Pages F} {source : S} {out : W} {answer : CommandResult} where
   -- a report
   pub told_runs : {t : List ℕ → Printout} {out_new : W} → HasOutput contents faults n old new out out_new answer t → HasRun sources contents faults n (prints t) old new source source out out_new answer
-  told_runs h = record {
-    calls = h.read.device.calls;
-    source_calls = search rules;
-    sink = h.sink;
-    unread = search rules;
-    unwritten = search rules;
-    source = search rules;
-    output = search rules;
-    spares = search rules;
-    refused = search rules;
-    outcome = search rules;
-    stopped = search rules;
-  }
+  told_runs h = search rules
 
   -- a change with a source
   pub fed_runs : {c : Change} {source_new : S} → reads_source (changes c) ≡ true → HasApplied n c old new (sources source) (sources source_new) answer → HasRun sources contents faults n (changes c) old new source source_new out out answer
-  fed_runs reads h = record {
-    calls = h.calls;
-    source_calls = h.source_calls;
-    sink = search rules;
-    unread = search rules;
-    unwritten = search rules;
-    source = search rules;
-    output = search rules;
-    spares = h.spares;
-    refused = h.refused;
-    outcome = h.left;
-    stopped = h.stopped;
-  }
+  fed_runs reads h = search rules
 
   -- a removal, without a source
   pub removal_runs : (region name : List ℕ) → HasApplied n (removes region name) old new no_source no_source answer → HasRun sources contents faults n (changes (removes region name)) old new source source out out answer
-  removal_runs region name h = record {
-    calls = h.calls;
-    source_calls = search rules;
-    sink = search rules;
-    unread = search rules;
-    unwritten = search rules;
-    source = search rules;
-    output = search rules;
-    spares = h.spares;
-    refused = h.refused;
-    outcome = λ honest serves. h.left honest (λ reads. refl);
-    stopped = λ honest serves. h.stopped honest (λ reads. refl);
-  }
+  removal_runs region name h = search rules
 
 pub ruleset runs = (told_runs, fed_runs, removal_runs)

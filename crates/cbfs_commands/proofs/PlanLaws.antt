@@ -55,12 +55,7 @@ are_places n (area ∷ areas) places is =
 -- ---- no overlaps
 
 pub lie_apart : (a b : Range) → share_bytes a b ≡ false → LieApart a b
-lie_apart a b none = go (nat_lt a.start (b.start + b.size)) (nat_lt b.start (a.start + a.size)) refl refl none
-  where
-    go : (c d : Bool) → nat_lt a.start (b.start + b.size) ≡ c → nat_lt b.start (a.start + a.size) ≡ d → (c && d) ≡ false → LieApart a b
-    go true true e f p = absurd cc
-    go true false e f p = inl (grind (arith, nat_tests))
-    go false d e f p = inr (grind (arith, nat_tests))
+lie_apart a b none = grind (arith, nat_tests)
 
 apart_from : (place : Range) (others : List Range) → list_any (share_bytes place) others ≡ false → All (LieApart place) others
 apart_from place [] none = All-nil (LieApart place)

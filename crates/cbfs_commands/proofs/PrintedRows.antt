@@ -125,22 +125,14 @@ rows_read_back at other x y more rest sat sother fx fy e =
 some_row : (at : ℕ) (x more : List ℕ) → [] ≢ cell_row at x ++ more
 some_row at x more e = begun _ _ (e ∙ row_shape (is_free (head_of x)) at x more)
 
-rows_step : (at : ℕ) (x : List ℕ) (cells : List (List ℕ)) → rows_from false at (x ∷ cells) ≡ cell_row at x ++ rows_from false (at + length x) cells
-unfolding rows_from
-rows_step at x cells = ap (λ (l : List ℕ). l ++ rows_from false (at + length x) cells) (append-nil (cell_row at x))
-
-no_rows : (at : ℕ) → rows_from false at [] ≡ []
-unfolding rows_from
-no_rows at = refl
-
 pub listings_read_back : (at other : ℕ) (cells others : List (List ℕ)) → HaveNumbers at cells → HaveNumbers other others
     → rows_from false at cells ≡ rows_from false other others → AreSameCells at cells other others
+unfolding rows_from
 listings_read_back at other [] [] fits fits2 e = tt
-listings_read_back at other [] (y ∷ others) fits fits2 e = absurd (some_row other y (rows_from false (other + length y) others) (sym (no_rows at) ∙ e ∙ rows_step other y others))
-listings_read_back at other (x ∷ cells) [] fits fits2 e = absurd (some_row at x (rows_from false (at + length x) cells) (sym (no_rows other) ∙ sym e ∙ rows_step at x cells))
+listings_read_back at other [] (y ∷ others) fits fits2 e = absurd (some_row other y _ (simp append-nil at e))
+listings_read_back at other (x ∷ cells) [] fits fits2 e = absurd (some_row at x _ (sym (simp append-nil at e)))
 listings_read_back at other (x ∷ cells) (y ∷ others) fits fits2 e =
-    let one = rows_read_back at other x y (rows_from false (at + length x) cells) (rows_from false (other + length y) others) fits.0 fits2.0 fits.1 fits2.1
-    (sym (rows_step at x cells) ∙ e ∙ rows_step other y others) in
+    let one = rows_read_back at other x y (rows_from false (at + length x) cells) (rows_from false (other + length y) others) fits.0 fits2.0 fits.1 fits2.1 (simp append-nil at e) in
     (one.0, listings_read_back (at + length x) (other + length y) cells others fits.2 fits2.2 one.1)
 
 -- ---- lines of the layout

@@ -14,19 +14,9 @@ use Rattle.flash_map.specs.declared.search.StoreFault.TheVariants as faults
 use Rattle.flash_device.proofs.BytesLemmas.{overwritten-range, slice_range_is}
 use Rattle.flash_device.proofs.RegionLemmas.{written_in}
 
-range_size : (r : Range) (start size : ℕ) → (let p : Range = record { start = start; size = size } in p) ≡ r → r.start + r.size ≡ start + size
-range_size r start size is = ap (λ (p : Range). p.start + p.size) (sym is)
-
 pub inside_lies : (n : ℕ) (area : Option Area) (r : Range) → region_by_area n area ≡ Ok r → r.start + r.size ≤ n
 inside_lies n None r is = absurd cc
-inside_lies n (Some a) r is = go (nat_lt n (a.offset + a.size)) refl is
-  where
-    go : (b : Bool) → nat_lt n (a.offset + a.size) ≡ b → (let o : Result Range StoreFault = cond b (Err faults.RegionOutside) (Ok (record { start = a.offset; size = a.size })) in o) ≡ Ok r → r.start + r.size ≤ n
-    go true e f = absurd cc
-    go false e f =
-        let same : (let p : Range = record { start = a.offset; size = a.size } in p) ≡ r = cc in
-        let most : a.offset + a.size ≤ n = grind (arith, nat_tests) in
-        omega (arith, range_size r a.offset a.size same, most)
+inside_lies n (Some a) r is = grind (arith, nat_tests)
 
 pub region_lies : (image name : List ℕ) (r : Range) → region_of image name ≡ Ok r → LiesIn r image
 unfolding region_of
