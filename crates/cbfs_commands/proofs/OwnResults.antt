@@ -1,4 +1,6 @@
 -- No outcome's own answer is a fault of the device, the output or the source.
+use Rattle.std.proofs.Common.{arith}
+use Rattle.std.proofs.lemmas.Grind.{common_steps}
 use Rattle.std.proofs.Common.{◌≡◌, inl, inr, ℕ, Bool, true, false, cond, List, [], ◌∷◌, ◌++◌, drop, length, nat_lt, if◌then◌else◌, ◌+◌, ◌==◌, ◌&&◌, is_some, Option, Some, None, Result, Ok, Err, sym, subst}
 use Rattle.std.specs.List.{flat_map}
 use Rattle.std.specs.Option.{ok_or, option_map_or}
@@ -57,50 +59,33 @@ no_fault {T} answer own (inr (inr blamed)) = subst (λ (a : Result T Refusal). B
 
 -- one of two answers
 when : {T E : Type 0} (tell : E → Refusal) (b : Bool) (x y : Result T E) → Blameless tell x → Blameless tell y → Blameless tell (cond b x y)
-when tell true x y left right = left
-when tell false x y left right = right
+when tell v1 x y left right = grind (arith, common_steps)
 
 given : {T E : Type 0} (tell : E → Refusal) (o : Option T) (fault : E) → BlamesNone (tell fault) → Blameless tell (ok_or o fault)
-given tell None fault own = own
-given tell (Some value) fault own = tt
+given tell v1 fault own = grind (arith, common_steps)
 
 -- a result of a value
 next-blameless : {T U E : Type 0} (tell : E → Refusal) (r : Result T E) (next : T → Result U Refusal) → Blameless tell r → ((value : T) → Blameless itself (next value)) → Blameless itself (fault_or (λ fault. Err (tell fault)) r next)
-next-blameless tell (Err fault) next own each = own
-next-blameless tell (Ok value) next own each = each value
+next-blameless tell v1 next own each = grind (arith, common_steps)
 
 printout-blameless : {T E : Type 0} (tell : E → Refusal) (r : Result T E) (next : T → Printout) → Blameless tell r → ((value : T) → Blameless itself (next value).answer) → Blameless itself (fault_or (λ fault. refuses (tell fault)) r next).answer
-printout-blameless tell (Err fault) next own each = own
-printout-blameless tell (Ok value) next own each = each value
+printout-blameless tell v1 next own each = grind (arith, common_steps)
 
 -- ---- regions, their shape and their cells
 
 inside-blameless : (n : ℕ) (area : Option Area) → Blameless store_refusal (region_by_area n area)
-inside-blameless n None = tt
-inside-blameless n (Some a) = when store_refusal (nat_lt n (a.offset + a.size)) _ _ tt tt
+inside-blameless n v1 = grind (arith, common_steps)
 
 region_of-blameless : (image name : List ℕ) → Blameless store_refusal (region_of image name)
 unfolding region_of
-region_of-blameless image name = go (map_of image)
-  where
-    go : (q : Option ℕ) → Blameless store_refusal (region_under image name q)
-    go None = tt
-    go (Some q) = inside-blameless (length image) (area_in image q name)
+region_of-blameless image name = grind (arith, common_steps)
 
 -- either error of a region's shape, or the later answer
 unless-misshapen : {A : Type 0} (P : A → Type 0) (refuse : WalkFault → A) (x : List ℕ) (otherwise : A) → P (refuse walk.RegionShape) → P (refuse walk.NotCbfs) → P otherwise → P (refused_or refuse (shape_fault x) otherwise)
-unless-misshapen P refuse x otherwise misshapen empty other = go (has_bad_size (length x)) (0 == 0 && is_absent (entry x))
-  where
-    go : (bad absent : Bool) → P (refused_or refuse (cond bad (Some walk.RegionShape) (cond absent (Some walk.NotCbfs) None)) otherwise)
-    go true absent = misshapen
-    go false true = empty
-    go false false = other
+unless-misshapen v0 refuse x otherwise misshapen empty other = grind (arith, common_steps)
 
 found-blameless : (c : Option Component) (at : ℕ) (end : End) → Blameless walk_refusal (found_or c (not_found at end))
-found-blameless (Some c) at end = tt
-found-blameless None at complete = tt
-found-blameless None at tail = tt
-found-blameless None at (damage kind) = tt
+found-blameless v0 at end = grind (arith, common_steps)
 
 component_in-blameless : (x name : List ℕ) → Blameless walk_refusal (component_in x name)
 unfolding component_in
@@ -122,13 +107,7 @@ removal_in-blameless x name = unsound-blameless x _ (given edit_refusal (group_o
 
 addition_in-blameless : (x : List ℕ) (new : NewComponent) (spot : Spot) → Blameless edit_refusal (addition_in x new spot)
 unfolding addition_in placing_in
-addition_in-blameless x new spot = go (is_bad_name new.name) (is_bad_type new.kind) (is_bad_align spot)
-  where
-    go : (name kind align : Bool) → Blameless edit_refusal (option_map_or (λ fault. Err fault) (cond name (Some edit.BadName) (cond kind (Some edit.BadType) (cond align (Some edit.BadAlign) None))) (placing_in x new.name (wanted_for new spot)))
-    go true kind align = tt
-    go false true align = tt
-    go false false true = tt
-    go false false false = unsound-blameless x _ (when edit_refusal (is_some (first_named new.name (components x))) _ _ tt (given edit_refusal (first_place (wanted_for new spot) (length x) (runs x)) edit.NoSpace tt))
+addition_in-blameless x new spot = grind (arith, common_steps)
 
 -- ---- plans
 
@@ -136,11 +115,7 @@ head_for-blameless : (n : ℕ) (source : List ℕ) → Blameless itself (head_fo
 head_for-blameless n source = next-blameless itself _ _ (given itself (map_head source) refusals.TableBad tt) (λ head. when itself (head.size == n) _ _ tt tt)
 
 map_place-blameless : (n len : ℕ) (area : Option Area) → Blameless itself (map_place n len area)
-map_place-blameless n len area = next-blameless (λ fault. refusals.FmapArea) _ _ (other (region_by_area n area)) (λ place. when itself (nat_lt place.size len) _ _ tt tt)
-  where
-    other : (place : Result Range StoreFault) → Blameless (λ fault. refusals.FmapArea) place
-    other (Err fault) = tt
-    other (Ok place) = tt
+map_place-blameless n len area = grind (arith, common_steps)
 
 region_place-blameless : (n : ℕ) (area : Option Area) → Blameless itself (region_place n area)
 region_place-blameless n area = next-blameless store_refusal _ _ (inside-blameless n area) (λ place. when itself (has_bad_size place.size) _ _ tt tt)
@@ -164,8 +139,7 @@ plan_for-blameless n names source = next-blameless itself _ _ (head_for-blameles
 -- ---- commands
 
 told_found-blameless : (c : Option Component) → Blameless itself (option_map_or printed_component c (refuses refusals.NotFound)).answer
-told_found-blameless None = tt
-told_found-blameless (Some c) = elim (is_packed c.attributes) as (λ b. Blameless itself (let t : Printout = cond b (refuses refusals.Compressed) (shows c.content) in t).answer) [ true ↦ tt | false ↦ tt ]
+told_found-blameless v0 = grind (arith, common_steps)
 
 -- by the region's output or change
 by_region : (image name : List ℕ) (tell : List ℕ → Printout) → ((x : List ℕ) → Blameless itself (tell x).answer) → Blameless itself (printed_in image name tell).answer
