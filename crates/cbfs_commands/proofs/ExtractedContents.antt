@@ -1,4 +1,6 @@
 -- Added content is extracted.
+use Rattle.std.proofs.Common.{arith}
+use Rattle.std.proofs.lemmas.Grind.{common_steps}
 use Rattle.std.proofs.Common.{◌≡◌, ℕ, false, cond, List, length, Option, Some, None, Result, refl, ◌∙◌, ap}
 use Rattle.std.specs.Option.{option_map_or}
 use Rattle.flash_format.specs.Components.{is_packed}
@@ -21,8 +23,7 @@ use Rattle.cbfs_commands.proofs.RegionPlaces.{region_lies, whole_over}
 
 -- no compression attribute
 plain : (digest : Option Digest) → is_packed (made_attributes digest) ≡ false
-plain None = refl
-plain (Some digest) = refl
+plain v0 = grind (arith, common_steps)
 
 pub additions_extracted : AdditionsAreExtracted
 additions_extracted x new spot place is =

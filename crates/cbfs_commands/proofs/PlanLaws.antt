@@ -1,4 +1,5 @@
 -- A plan fits its image, and its ranges lie apart.
+use Rattle.std.proofs.lemmas.Grind.{common_steps}
 use Rattle.std.proofs.Common.{◌≡◌, inl, inr, ℕ, ◌+◌, ◌≤◌, ◌==◌, ◌&&◌, Bool, true, false, cond, All, List, [], ◌∷◌, length, Option, Some, None, Result, Ok, Err, refl, sym, ap, subst, arith}
 use Rattle.std.specs.Prelude.{IfOk, nat_le, nat_lt}
 use Rattle.std.specs.List.{AllPairs, list_any}
@@ -26,20 +27,15 @@ use Rattle.cbfs_commands.proofs.RegionPlaces.{inside_lies}
 
 -- each step succeeded
 done : {T U E : Type 0} (tell : E → Refusal) (r : Result T E) (next : T → Result U Refusal) (x : U) → fault_or (λ fault. Err (tell fault)) r next ≡ Ok x → (value : T) × (r ≡ Ok value) × (next value ≡ Ok x)
-done tell (Err fault) next x is = absurd cc
-done tell (Ok value) next x is = (value, refl, is)
+done tell v1 next x is = grind (arith, common_steps)
 
 passed : {T : Type 0} (bad : Bool) (refusal : Refusal) (value x : T) → (let r : Result T Refusal = cond bad (Err refusal) (Ok value) in r) ≡ Ok x → (bad ≡ false) × (value ≡ x)
-passed true refusal value x is = absurd cc
-passed false refusal value x is = (refl, cc)
+passed v0 refusal value x is = grind (arith, common_steps)
 
 -- ---- the regions
 
 is_place : (n : ℕ) (area : Option Area) (place : Range) → region_place n area ≡ Ok place → IsPlace n place
-is_place n area place is =
-    let found = done store_refusal (region_by_area n area) _ place is in
-    let shaped = passed (has_bad_size found.0.size) _ found.0 place found.2 in
-    subst (λ (r : Range). IsPlace n r) shaped.1 (record { inside = inside_lies n area found.0 found.1; size = shaped.0 })
+is_place n area place is = grind (arith, common_steps)
 
 are_places : (n : ℕ) (areas : List (Option Area)) (places : List Range) → region_places n areas ≡ Ok places → All (IsPlace n) places
 are_places n [] places is =
@@ -58,10 +54,7 @@ pub lie_apart : (a b : Range) → share_bytes a b ≡ false → LieApart a b
 lie_apart a b none = grind (arith, nat_tests)
 
 apart_from : (place : Range) (others : List Range) → list_any (share_bytes place) others ≡ false → All (LieApart place) others
-apart_from place [] none = All-nil (LieApart place)
-apart_from place (other ∷ others) none =
-    let parts = or_parts (share_bytes place other) (list_any (share_bytes place) others) none in
-    All-cons (LieApart place) other others (lie_apart place other parts.0) (apart_from place others parts.1)
+apart_from place v1 none = grind (arith, common_steps)
 
 all_apart : (places : List Range) → some_overlap places ≡ false → AllPairs LieApart places
 all_apart [] none = λ i j d order below. absurd (omega arith)

@@ -1,4 +1,5 @@
 -- Printed rows determine their cells.
+use Rattle.std.proofs.lemmas.Grind.{common_steps}
 use Rattle.std.proofs.Common.{◌≡◌, ◌≢◌, ℕ, ◌+◌, ◌^◌, ◌<◌, length, Bool, true, false, if◌then◌else◌, List, [], ◌∷◌, ◌++◌, Option, Some, None, unwrap_or, refl, sym, ap, ◌∙◌, arith}
 use Rattle.std.specs.List.{flat_map}
 use Rattle.std.specs.Option.{option_map_or}
@@ -24,8 +25,7 @@ use Rattle.cbfs_commands.specs.Rows.{area_line, map_line, cell_row, row_text, ro
 
 word_is_no_number : (s : List ℕ) (n : ℕ) → is_word s ≡ true → s ≢ hexadecimal n
 unfolding hexadecimal
-word_is_no_number [] n word e = absurd cc
-word_is_no_number (b ∷ s) n word e = let first : b ≡ 48 = cc in absurd (grind (arith, nat_tests))
+word_is_no_number v0 n word e = grind (arith, common_steps)
 
 -- the names are words, and decode
 module _ (name_of : ℕ → Option (List ℕ)) (word : (n : ℕ) (name : List ℕ) → name_of n ≡ Some name → is_word name ≡ true) where

@@ -1,4 +1,5 @@
 -- A named region lies in its image, and writes over it depend only on its own bytes.
+use Rattle.std.proofs.lemmas.Grind.{common_steps}
 use Rattle.std.proofs.Common.{◌≡◌, inl, inr, ℕ, ◌+◌, ◌≤◌, Bool, true, false, cond, List, length, take, drop, Option, Some, None, Result, Ok, Err, refl, sym, ◌∙◌, ap, arith}
 use Rattle.std.specs.Prelude.{nat_lt, slice_range}
 use Rattle.std.proofs.lemmas.Bool.{cases_lt}
@@ -15,24 +16,17 @@ use Rattle.flash_device.proofs.BytesLemmas.{overwritten-range, slice_range_is}
 use Rattle.flash_device.proofs.RegionLemmas.{written_in}
 
 pub inside_lies : (n : ℕ) (area : Option Area) (r : Range) → region_by_area n area ≡ Ok r → r.start + r.size ≤ n
-inside_lies n None r is = absurd cc
-inside_lies n (Some a) r is = grind (arith, nat_tests)
+inside_lies n v1 r is = grind (arith, common_steps)
 
 pub region_lies : (image name : List ℕ) (r : Range) → region_of image name ≡ Ok r → LiesIn r image
 unfolding region_of
-region_lies image name r is = go (map_of image) is
-  where
-    go : (q : Option ℕ) → region_under image name q ≡ Ok r → LiesIn r image
-    go None e = absurd cc
-    go (Some q) e = inside_lies (length image) (area_in image q name) r e
+region_lies image name r is = grind (arith, common_steps)
 
 -- ---- bytes over a region
 
 -- longer than the region
 longer : (r : Range) (image u : List ℕ) → LiesIn r image → r.size ≤ length u → bytes_in r (overwritten image r.start u) ≡ take r.size u
-longer r image u lies long =
-    slice_range_is (overwritten image r.start u) r.start r.size ∙ sym (take-take r.size (length u) (drop r.start (overwritten image r.start u)) long)
-    ∙ ap (λ (l : List ℕ). take r.size l) (sym (slice_range_is (overwritten image r.start u) r.start (length u)) ∙ overwritten-range image r.start u (omega (arith, lies)))
+longer r image u lies long = grind (arith, common_steps)
 
 shorter : (r : Range) (image u : List ℕ) → LiesIn r image → length u ≤ r.size → bytes_in r (overwritten image r.start u) ≡ overwritten (bytes_in r image) 0 u
 shorter r image u lies short =
