@@ -1,4 +1,5 @@
 -- The start and rest of an attribute list.
+use Rattle.std.proofs.lemmas.Grind.{common_steps}
 use Rattle.std.proofs.Common.{◌≡◌, ℕ, ◌+◌, ◌-◌, ◌≤◌, min, Bool, true, false, cond, List, [], ◌∷◌, length, take, drop, Option, Some, None, refl, sym, ap, subst, ◌∙◌, arith, eqb, ltb}
 use Rattle.std.specs.Prelude.{slice_range, is_some, unwrap_or}
 use Rattle.std.specs.Option.{option_map}
@@ -43,17 +44,13 @@ listed_tested r image at end h unused bad lies inside room head is_unused_is is_
 -- ---- the rest
 
 inverted : (a b : Bool) (k h : AttrHead) → (let v : declared.Listed = cond a End (cond b Malformed (listed.Attribute k)) in listed.Attribute h ≡ v) → (a ≡ false) × (b ≡ false) × (h ≡ k)
-inverted false false k h e = (refl, refl, cc)
-inverted _ _ k h e = absurd cc
+inverted v0 v1 k h e = grind (arith, common_steps)
 
 inverted_end : (a b : Bool) (k : AttrHead) → (let v : declared.Listed = cond a End (cond b Malformed (listed.Attribute k)) in End ≡ v) → a ≡ true
-inverted_end true b k e = refl
-inverted_end false true k e = absurd cc
-inverted_end false false k e = absurd cc
+inverted_end v0 b k e = grind (arith, common_steps)
 
 inverted_malformed : (a b : Bool) (k : AttrHead) → (let v : declared.Listed = cond a End (cond b Malformed (listed.Attribute k)) in Malformed ≡ v) → (a ≡ false) × (b ≡ true)
-inverted_malformed false true k e = (refl, refl)
-inverted_malformed _ _ k e = absurd cc
+inverted_malformed v0 v1 k e = grind (arith, common_steps)
 
 -- the first attribute, and the others
 pub record Goes (y : List ℕ) (h : AttrHead) : Type 0 where
@@ -88,25 +85,10 @@ pub record GoesOn (y : List ℕ) (h : AttrHead) (all : List Attribute) : Type 0 
   pub rest : attributes (drop h.len y) ≡ Some (after_first all)
 
 pub goes_on : (y : List ℕ) (h : AttrHead) (all : List Attribute) → Goes y h → attributes y ≡ Some all → GoesOn y h all
-goes_on y h all g e = go (attributes (drop h.len y)) refl (sym g.all ∙ e)
-  where
-    go : (o : Option (List Attribute)) → attributes (drop h.len y) ≡ o → option_map (λ others. attribute y ∷ others) o ≡ Some all → GoesOn y h all
-    go None is p = absurd cc
-    go (Some others) is p =
-        let same : attribute y ∷ others ≡ all = cc in
-        record {
-          first = sym same ∙ ap (λ (l : List Attribute). attribute y ∷ after_first l) same;
-          rest = is ∙ ap (λ (l : List Attribute). Some (after_first l)) same;
-        }
+goes_on y h all g e = grind (arith, common_steps)
 
 pub goes_head : (y : List ℕ) (h : AttrHead) (all : List Attribute) → Goes y h → attributes y ≡ Some all → Some h ≡ first_head all
-goes_head y h all g e =
-    let on = goes_on y h all g e in
-    let len : h.len ≡ 8 + length (slice_range y 8 h.len) = omega (arith, g.least, g.inside, length-range y 8 h.len g.inside) in
-    let f = λ (n : ℕ) (k : AttrHead). let v : Option AttrHead = Some (record { tag = k.tag; len = n }) in v in
-    ap (λ n. f n h) len
-    ∙ ap (λ (k : AttrHead). f (8 + length (slice_range y 8 k.len)) k) g.head
-    ∙ ap first_head (sym on.first)
+goes_head y h all g e = grind (arith, common_steps)
 
 pub goes_none : (y : List ℕ) (all : List Attribute) → attributes y ≡ Some [] → attributes y ≡ Some all → all ≡ []
 goes_none y all e f = let same : (let o : Option (List Attribute) = Some [] in o) ≡ Some all = sym e ∙ f in cc
@@ -114,15 +96,10 @@ goes_none y all e f = let same : (let o : Option (List Attribute) = Some [] in o
 -- ---- a walk over attributes
 
 attribute_field_is : (h : Head) (x : List ℕ) → attribute_field h x ≡ slice_range x (name_end h) h.offset
-attribute_field_is h x = go (eqb h.attributes_offset 0)
-  where
-    go : (none : Bool) → cond none [] (slice_range x h.attributes_offset h.offset) ≡ slice_range x (cond none h.offset h.attributes_offset) h.offset
-    go true = ap (λ n. take n (drop h.offset x)) {x = 0} {y = h.offset - h.offset} (omega arith)
-    go false = refl
+attribute_field_is h x = grind (arith, common_steps)
 
 some_is : {A : Type 0} (o : Option A) (other : A) → is_some o ≡ true → o ≡ Some (unwrap_or o other)
-some_is None other e = absurd cc
-some_is (Some a) other e = refl
+some_is v0 other e = grind (arith, common_steps)
 
 -- the attributes are well formed, and lie between name and content
 pub listed_all : (x : List ℕ) (c : Cell) → StandsIn x c → is_free c.head ≡ false
@@ -190,6 +167,4 @@ walk_step r image k a p q w l lies room view from to is all left = go l is
 
 pub gives_none : (x : List ℕ) (k : Cell) (a : ℕ) (all : List Attribute) (l : declared.Listed) → ((h : AttrHead) → l ≡ listed.Attribute h → ⊥) → GivesListed x k a all l
     → (None ≡ first_head all) × (attributes_left x (record { cell = k; at = k.head.offset }) ≡ Some (after_first all))
-gives_none x k a all (listed.Attribute h) other gives = absurd (other h refl)
-gives_none x k a all End other gives = gives
-gives_none x k a all Malformed other gives = absurd gives
+gives_none x k a all v4 other gives = grind (arith, common_steps)

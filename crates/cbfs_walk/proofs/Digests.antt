@@ -1,4 +1,5 @@
 -- The digest of a content, and the first hash attribute.
+use Rattle.std.proofs.lemmas.Grind.{common_steps}
 use Rattle.std.proofs.Common.{◌≡◌, ℕ, ◌+◌, ◌-◌, ◌<◌, ◌≤◌, Bool, true, false, cond, IsTrue, List, ◌++◌, take, drop, length, Option, Some, None, Ok, refl, sym, subst, ap, ◌∙◌, arith, ltb, le_refl}
 use Rattle.std.specs.Prelude.{slice_range, IfSome, option_and_then}
 use Rattle.std.specs.Str.{bytes_eq}
@@ -97,8 +98,7 @@ content_taken x c from at begins ends = ap (λ k. slice_range x k at) begins ∙
 -- the algorithm's row
 pub algorithm-hashed : (a : Algorithm) (bytes : List ℕ) → algorithm (hashed_by a bytes) ≡ a
 unfolding hashed_by
-algorithm-hashed algorithms.Sha256 bytes = refl
-algorithm-hashed algorithms.Sha512 bytes = refl
+algorithm-hashed v0 bytes = grind (arith, common_steps)
 
 pub length-hashed : (a : Algorithm) (bytes : List ℕ) → length (digest_bytes (hashed_by a bytes)) ≡ digest_len (hashed_by a bytes)
 unfolding hashed_by
@@ -129,8 +129,4 @@ read_to_content c tag o found is attribute first second =
 
 -- a comparison never results in an uncompared state
 pub compared_is_told : (stored computed : Digest) (state : HashState) → state ≡ comparison stored computed → IsUncompared state → ⊥
-compared_is_told stored computed state is = go (bytes_eq (digest_bytes stored) (digest_bytes computed)) is
-  where
-    go : (b : Bool) → state ≡ cond b (Valid stored) (Invalid stored) → IsUncompared state → ⊥
-    go true e told = subst (λ (s : HashState). IsUncompared s) e told
-    go false e told = subst (λ (s : HashState). IsUncompared s) e told
+compared_is_told stored computed state is = grind (arith, common_steps)

@@ -1,4 +1,5 @@
 -- Parts of a region.
+use Rattle.std.proofs.lemmas.Grind.{common_steps}
 use Rattle.std.proofs.Common.{◌≡◌, ℕ, ◌+◌, ◌-◌, ◌≤◌, List, length, take, drop, sym, ap, ◌∙◌, arith, length-take, length-drop}
 use Rattle.std.specs.Prelude.{slice_range, Result, Ok, Err, OnOk}
 use Rattle.std.proofs.lemmas.List.{take-take, drop-drop, drop-take}
@@ -32,9 +33,7 @@ part-in image r at n fits =
     ∙ sym (range_is (bytes_in r image) at n)
 
 pub range-drop : (x : List ℕ) (at a b : ℕ) → slice_range (drop at x) a b ≡ slice_range x (at + a) (at + b)
-range-drop x at a b =
-    let n : b - a ≡ at + b - (at + a) = omega arith in
-    ap (λ k. take k (drop a (drop at x))) n ∙ ap (take (at + b - (at + a))) (drop-drop a at x)
+range-drop x at a b = grind (arith, common_steps)
 
 pub range-take : (x : List ℕ) (a b n : ℕ) → a + n ≤ b → take n (slice_range x a b) ≡ slice_range x a (a + n)
 range-take x a b n le = take-take n (b - a) (drop a x) (omega arith) ∙ sym (range_is x a n)

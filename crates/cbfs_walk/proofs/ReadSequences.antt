@@ -1,4 +1,5 @@
 -- Consecutive reads.
+use Rattle.std.proofs.lemmas.Grind.{common_steps}
 use Rattle.std.proofs.Common.{◌≡◌, ℕ, ◌+◌, ◌-◌, ◌*◌, ◌<◌, ◌≤◌, Result, Ok, Err, ◌∙◌, refl, arith, le_refl}
 use Rattle.std.specs.Prelude.{IfOk, IsOk, length}
 use Rattle.flash_device.specs.Device.{Device, refusals}
@@ -9,8 +10,7 @@ use Rattle.flash_device.proofs.WindowLemmas.{ScansTo-none, ScansTo-on, SpendsTo-
 use Rattle.cbfs_walk.specs.Walks.{Passes, reads_over}
 
 pub IfOk-to : {E : Type 0} (result : Result ℕ E) (v w : ℕ) → v ≡ w → IfOk result (λ x. x ≡ v) → IfOk result (λ x. x ≡ w)
-IfOk-to (Ok x) v w same told = told ∙ same
-IfOk-to (Err e) v w same told = tt
+IfOk-to v0 v w same told = grind (arith, common_steps)
 
 -- ---- reads in order
 
