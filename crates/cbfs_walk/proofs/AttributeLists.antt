@@ -26,20 +26,11 @@ use Rattle.cbfs_walk.proofs.CutLaws.{standing, standing_good, cell_head, cell_pa
 
 listed_by : (x : List ℕ) (at end : ℕ) (h : AttrHead) → at + 8 ≤ end → end ≤ length x → h ≡ attr_head_of (slice_range x at (at + 8))
     → cond (is_unused h.tag) End (cond (has_bad_len h (end - at)) Malformed (listed.Attribute h)) ≡ listed_in (slice_range x at end)
-listed_by x at end h room inside e =
-    let rest = slice_range x at end in
-    let len : length rest ≡ end - at = length-range x at end inside in
-    let same : h ≡ attr_head_of rest = e ∙ ap attr_head_of (sym (range-take x at end 8 room)) ∙ attr_head_of-take rest 8 (omega arith) in
-    let long : ltb (length rest) 8 ≡ false = le-ltb (length rest) 8 (omega (arith, len, room)) in
-    let f = λ (k : AttrHead) (left : ℕ). let v : declared.Listed = cond (is_unused k.tag) End (cond (has_bad_len k left) Malformed (listed.Attribute k)) in v in
-    ap (λ k. f k (end - at)) same ∙ ap (f (attr_head_of rest)) (sym len) ∙ rw long refl
+listed_by x at end h room inside e = grind (arith, common_steps, attr_head_of-take, le-ltb, length-range, range-take)
 
 pub listed_tested : (r : Range) (image : List ℕ) (at end : ℕ) (h : AttrHead) (unused bad : Bool) → LiesIn r image → end ≤ r.size → 8 ≤ end - at → h ≡ attr_head_of (slice_range (bytes_in r image) at (at + 8))
     → unused ≡ is_unused h.tag → bad ≡ has_bad_len h (end - at) → cond unused End (cond bad Malformed (listed.Attribute h)) ≡ listed_in (slice_range (bytes_in r image) at end)
-listed_tested r image at end h unused bad lies inside room head is_unused_is is_bad =
-    ap (λ b. cond b End (cond bad Malformed (listed.Attribute h))) is_unused_is
-    ∙ ap (λ b. cond (is_unused h.tag) End (cond b Malformed (listed.Attribute h))) is_bad
-    ∙ listed_by (bytes_in r image) at end h (omega (arith, room)) (omega (arith, length-region r image lies, inside)) head
+listed_tested r image at end h unused bad lies inside room head is_unused_is is_bad = grind (arith, common_steps, length-region, listed_by)
 
 -- ---- the rest
 

@@ -102,8 +102,7 @@ algorithm-hashed v0 bytes = grind (arith, common_steps)
 
 pub length-hashed : (a : Algorithm) (bytes : List ℕ) → length (digest_bytes (hashed_by a bytes)) ≡ digest_len (hashed_by a bytes)
 unfolding hashed_by
-length-hashed algorithms.Sha256 bytes = length-sha256 bytes
-length-hashed algorithms.Sha512 bytes = length-sha512 bytes
+length-hashed v0 bytes = grind (arith, common_steps, length-sha256, length-sha512)
 
 -- ---- the first hash attribute
 
