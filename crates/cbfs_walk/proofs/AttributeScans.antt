@@ -116,12 +116,7 @@ first_later v0 tag at b y some = grind (arith, common_steps, first_after-drop)
 pub first_by : (tag at : ℕ) (l : declared.Listed) (y : List ℕ) → l ≡ listed_in y → first_in tag at y ≡ by_tag tag at l (λ n. first_in tag (at + n) (drop n y))
 unfolding first_after
 first_by tag at l [] told = ap (λ (k : declared.Listed). by_tag tag at k (λ n. first_in tag (at + n) (drop n []))) (sym told)
-first_by tag at l (b ∷ y) told = ap (λ (k : declared.Listed). by_tag tag at k (λ n. first_after (pred n) tag (at + 1) y)) (sym told) ∙ go l told
-  where
-    go : (l : declared.Listed) → l ≡ listed_in (b ∷ y) → by_tag tag at l (λ n. first_after (pred n) tag (at + 1) y) ≡ by_tag tag at l (λ n. first_in tag (at + n) (drop n (b ∷ y)))
-    go (listed.Attribute h) told = ap (cond (eqb h.tag tag) (Some (at, h))) (first_later h.len tag at b y (omega (arith, (goes (b ∷ y) h told).least)))
-    go listed.End told = refl
-    go listed.Malformed told = refl
+first_by tag at l (b ∷ y) told = grind (arith, common_steps, first_later, goes)
 
 pub first_more : (tag at : ℕ) (h : AttrHead) (y : List ℕ) → eqb h.tag tag ≡ false → listed.Attribute h ≡ listed_in y → first_in tag at y ≡ first_in tag (at + h.len) (drop h.len y)
 first_more tag at h y other told = first_by tag at (listed.Attribute h) y told ∙ ap (λ b. cond b (Some (at, h)) (first_in tag (at + h.len) (drop h.len y))) other

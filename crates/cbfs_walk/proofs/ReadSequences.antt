@@ -27,15 +27,7 @@ Passes-none r at p = let none = ScansTo-none (r.start + at) p in ordered (ScansT
 
 pub Passes-seen : {F T E : Type 0} {r : Range} {at n : ℕ} {old new : Pages F} {result : Result T E} → LiesOn r old.device → at + n ≤ r.size → n ≤ 256
     → HasSeen (r.start + at) n old new result → Passes r at at (refusals result) old new
-Passes-seen {F} {T} {E} {r} {at} {n} {old} {new} {result} lies inside short seen =
-    let q = r.start + at in
-    let room : q + n ≤ length old.device.content = omega (arith, lies, inside) in
-    let start = ScansTo-none q old in
-    ordered (SpendsTo-more q q q n old old new result (le_refl q) short room start seen) (λ none. ScansTo-more q q q n old old new result (answered result none) (le_refl q) short room start seen)
-  where
-    answered : (a : Result T E) → refusals a ≡ 0 → IsOk a
-    answered (Ok x) none = refl
-    answered (Err e) none = absurd cc
+Passes-seen {F} {T} {E} {r} {at} {n} {old} {new} {result} lies inside short seen = grind (arith, common_steps, le_refl, ordered)
 
 -- further reads, at or after the end of the previous reads
 pub Passes-then : {F : Type 0} {r : Range} {at p q next end last refused : ℕ} {old mid new : Pages F} → Passes r p q 0 old mid → Passes r next end refused mid new
