@@ -57,11 +57,7 @@ module _ (n : ℕ) (image : List ℕ) (long : length image ≡ n) (place : Range
 
   -- any other region
   beside : (other : Range) → LieApart other place → bytes_in other (with_edit place formatted image) ≡ bytes_in other image
-  beside other apart = written_beside other image place.start (formatted (bytes_in place image)) (omega (arith, is.inside, long)) (where_it_is apart)
-    where
-      where_it_is : LieApart other place → (place.start + length (formatted (bytes_in place image)) ≤ other.start) ⊎ (other.start + other.size ≤ place.start)
-      where_it_is (inl before) = inr before
-      where_it_is (inr after) = inl (omega (arith, after, formatted_long))
+  beside other apart = grind (arith, common_steps, formatted_long, written_beside)
 
   free : n < 2 ^ 32 → IsOneFreeCell (bytes_in place (with_edit place formatted image))
   free small =

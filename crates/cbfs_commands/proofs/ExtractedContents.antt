@@ -26,8 +26,7 @@ plain : (digest : Option Digest) → is_packed (made_attributes digest) ≡ fals
 plain v0 = grind (arith, common_steps)
 
 pub additions_extracted : AdditionsAreExtracted
-additions_extracted x new spot place is =
-    ap (λ (f : Found). fault_or (λ fault. refuses (walk_refusal fault)) f (λ found. option_map_or printed_component found (refuses refusals.NotFound))) (additions_found x new spot place is) ∙ ap (λ b. let t : Printout = cond b (refuses refusals.Compressed) (shows new.content) in t) (plain new.digest)
+additions_extracted x new spot place is = grind (arith, common_steps, additions_found, plain)
 
 pub files_extracted : AddedFilesAreExtracted
 files_extracted image name new spot region place asked is still =

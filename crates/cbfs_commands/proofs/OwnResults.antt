@@ -126,8 +126,7 @@ region_places-blameless n (area ∷ areas) = next-blameless itself _ _ (region_p
 
 plan_of-blameless : (n len : ℕ) (area : Option Area) (areas : List (Option Area)) → Blameless itself (plan_of n len area areas)
 unfolding plan_of
-plan_of-blameless n len area areas =
-    next-blameless itself _ _ (map_place-blameless n len area) (λ map. next-blameless itself _ _ (region_places-blameless n areas) (λ regions. when itself (some_overlap (map ∷ regions)) _ _ tt tt))
+plan_of-blameless n len area areas = grind (arith, common_steps, map_place-blameless, next-blameless, region_places-blameless, when)
 
 pub faultless_plan : (n len : ℕ) (area : Option Area) (areas : List (Option Area)) (result : Result Plan Refusal) → result ≡ plan_of n len area areas → HasNoFault result
 faultless_plan n len area areas result is = no_fault result (subst (λ (r : Result Plan Refusal). Blameless itself r) (sym is) (plan_of-blameless n len area areas))
@@ -146,23 +145,11 @@ by_region : (image name : List ℕ) (tell : List ℕ → Printout) → ((x : Lis
 by_region image name tell each = printout-blameless store_refusal _ _ (region_of-blameless image name) (λ region. each (bytes_in region image))
 
 edited : (image name source : List ℕ) (make : Range → List ℕ → List ℕ → Result (List ℕ) Refusal) → ((region : Range) (x : List ℕ) → Blameless itself (make region x source)) → Blameless itself (outcome (changes (edits name false make StopsIn)) image source).printout.answer
-edited image name source make each =
-    next-blameless itself _ _ (next-blameless store_refusal _ _ (region_of-blameless image name) (λ region. next-blameless itself _ _ (each region (bytes_in region image)) (λ bytes. tt))) (λ now. tt)
+edited image name source make each = grind (arith, common_steps, next-blameless, region_of-blameless)
 
 own_answer : (r : Request) (image source : List ℕ) → Blameless itself (outcome (effect r) image source).printout.answer
 unfolding print_region layout
-own_answer (requests.on_region region (requests.print verbose)) image source =
-    by_region image region (λ x. print_region x verbose) (λ x. unless-misshapen (λ (t : Printout). Blameless itself t.answer) (λ fault. refuses (walk_refusal fault)) x _ tt tt (next-blameless walk_refusal _ _ (found-blameless None (place_after 0 (cut x).cells) (cut x).end) (λ none. tt)))
-own_answer requests.layout image source = elim (map_of image) as (λ o. Blameless itself (option_map_or (λ q. shows (map_line q (fmap_head_of (drop q image)) ++ flat_map area_line (areas_at image q))) o (refuses refusals.NoFmap)).answer) [ None ↦ tt | Some q ↦ tt ]
-own_answer (requests.on_region region (requests.extract name)) image source = by_region image region (λ x. extract_region x name) (λ x. printout-blameless walk_refusal (component_in x name) _ (component_in-blameless x name) told_found-blameless)
-own_answer (requests.on_region region (requests.add name kind hash spot)) image source =
-    let new : NewComponent = new_component name kind hash source in
-    edited image region source (λ found x s. fault_or (λ fault. Err (edit_refusal fault)) (addition_in x new spot) (λ place. Ok (added x new place))) (λ found x. next-blameless edit_refusal (addition_in x new spot) (λ place. Ok (added x new place)) (addition_in-blameless x new spot) (λ place. tt))
-own_answer (requests.on_region region (requests.remove name)) image source =
-    edited image region source (λ found x s. fault_or (λ fault. Err (edit_refusal fault)) (removal_in x name) (λ group. Ok (removed x group))) (λ found x. next-blameless edit_refusal (removal_in x name) (λ group. Ok (removed x group)) (removal_in-blameless x name) (λ group. tt))
-own_answer (requests.on_region region requests.read) image source = by_region image region shows (λ x. tt)
-own_answer (requests.on_region region requests.write) image source = edited image region source (λ found x s. if length s == found.size then Ok s else Err refusals.SourceSize) (λ found x. when itself (length source == found.size) (Ok source) (Err refusals.SourceSize) tt tt)
-own_answer (requests.create names) image source = next-blameless itself _ _ (next-blameless itself _ _ (plan_for-blameless (length image) names source) (λ plan. tt)) (λ now. tt)
+own_answer v0 image source = grind (arith, common_steps, addition_in-blameless, by_region, component_in-blameless, edited, found-blameless, next-blameless, plan_for-blameless, printout-blameless, removal_in-blameless, told_found-blameless, unless-misshapen, when)
 
 -- ---- the law
 

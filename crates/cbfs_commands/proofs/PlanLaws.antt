@@ -66,11 +66,7 @@ all_apart (place ∷ places) none =
 
 table_fits : (source : List ℕ) (head : FmapHead) → map_head source ≡ Some head → map_len head ≤ length source
 unfolding is_map
-table_fits source head is =
-    let known = head_some source head (sym is) in
-    let parts = and_parts (nat_le fmap_head_len (length source)) (has_signature source && is_valid_head (fmap_head_of source) (length source)) known.0 in
-    let valid : is_valid_head (fmap_head_of source) (length source) ≡ true = (and_parts (has_signature source) (is_valid_head (fmap_head_of source) (length source)) parts.1).1 in
-    omega (arith, valid_fits (fmap_head_of source) (length source) valid, ap (λ (h : FmapHead). map_len h) known.1)
+table_fits source head is = grind (arith, common_steps, and_parts, head_some, valid_fits)
 
 pub record IsPlanned (n m : ℕ) (plan : Plan) : Type 0 where
   pub fits : FitsImage n m plan

@@ -100,10 +100,7 @@ module _ {F W : Type 0} {contents : W → Option (List ℕ)} {sinks : W → ℕ}
   ]
 
   rest-step : (s : Step) → a ≡ Ok s → OnHonest now.device (λ image. print_from verbose (bytes_in r image) w.at ≡ print_by verbose (bytes_in r image) (Ok s))
-  rest-step s is h = elim (rw is at (rest h)) [
-    | inl device ↦ absurd cc
-    | inr e ↦ e
-  ]
+  rest-step s is h = grind (arith, common_steps, rest)
 
   module _ (c : Cell) (is : a ≡ Ok (steps.Cell c)) (cell : GivesCell w.region.size w.at a) where
     abbrev few : ℕ
@@ -142,9 +139,7 @@ module _ {F W : Type 0} {contents : W → Option (List ℕ)} {sinks : W → ℕ}
 
   pub printed-done : (s : Step) → a ≡ Ok s → ((c : Cell) → s ≡ steps.Cell c → ⊥) → Printed next after (Ok tt)
   unfolding rows_from
-  printed-done (steps.Cell c) is not = absurd (not c refl)
-  printed-done steps.End is not = ends steps.End is (λ x. refl) (rw is at read)
-  printed-done (steps.Tail at) is not = ends (steps.Tail at) is (λ x. refl) (rw is at read)
+  printed-done v0 is not = grind (arith, common_steps, ends)
 
   pub printed-failed : (fault : WalkFault) → a ≡ Err fault → {result : CommandResult} → IsErrAnd result (λ x. x ≡ walk_refusal fault) → Printed next after result
   printed-failed fault is failed =

@@ -45,11 +45,7 @@ module _ (name_of : ℕ → Option (List ℕ)) (word : (n : ℕ) (name : List �
       go None None is_a is_b e = same_hexadecimals a b small_a small_b e
 
   text_field : (n : ℕ) → n < 2 ^ 64 → is_field (unwrap_or (name_of n) (hexadecimal n)) ≡ true
-  text_field n small = go (name_of n) refl
-    where
-      go : (p : Option (List ℕ)) → name_of n ≡ p → is_field (unwrap_or p (hexadecimal n)) ≡ true
-      go (Some s) is = word_is_field s (word n s is)
-      go None is = hexadecimal_field n small
+  text_field n small = grind (arith, common_steps, hexadecimal_field, word_is_field)
 
 -- ---- fields of a line
 
@@ -99,8 +95,7 @@ row_shape true at x more = simp append_assoc
 row_shape false at x more = simp append_assoc
 
 are_fields : (free : Bool) (at : ℕ) (x : List ℕ) → at < 2 ^ 64 → HasNumbers x → Fields (cell_fields free at x)
-are_fields true at x small f = (refl, (hexadecimal_field at small, (text_field name_of_type type_is_word _ f.kind, (decimal_field _ f.len, (text_field name_of_compression compression_is_word 0 (omega arith), tt)))))
-are_fields false at x small f = (name_field _, (hexadecimal_field at small, (text_field name_of_type type_is_word _ f.kind, (decimal_field _ f.len, (text_field name_of_compression compression_is_word _ f.compression, tt)))))
+are_fields v0 at x small f = grind (arith, common_steps, compression_is_word, decimal_field, hexadecimal_field, name_field, text_field, type_is_word)
 
 pub rows_read_back : (at other : ℕ) (x y more rest : List ℕ) → at < 2 ^ 64 → other < 2 ^ 64 → HasNumbers x → HasNumbers y
     → cell_row at x ++ more ≡ cell_row other y ++ rest → IsSameCell at x other y × (more ≡ rest)

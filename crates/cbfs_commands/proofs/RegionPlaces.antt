@@ -34,10 +34,7 @@ shorter r image u lies short =
     ap (λ n. bytes_in r (overwritten image n u)) place ∙ written_in r image 0 u lies (omega (arith, short))
 
 pub alike_over : (r : Range) (image other u : List ℕ) → LiesIn r image → LiesIn r other → bytes_in r other ≡ bytes_in r image → bytes_in r (overwritten other r.start u) ≡ bytes_in r (overwritten image r.start u)
-alike_over r image other u lies lies_other same = elim (cases_lt r.size (length u)) [
-  | inl long ↦ longer r other u lies_other (omega (arith, long)) ∙ sym (longer r image u lies (omega (arith, long)))
-  | inr short ↦ shorter r other u lies_other short ∙ ap (λ (l : List ℕ). overwritten l 0 u) same ∙ sym (shorter r image u lies short)
-]
+alike_over r image other u lies lies_other same = grind (arith, common_steps, cases_lt, longer, shorter)
 
 pub whole_over : (r : Range) (image u : List ℕ) → LiesIn r image → length u ≡ r.size → bytes_in r (overwritten image r.start u) ≡ u
 whole_over r image u lies size = ap (λ n. slice_range (overwritten image r.start u) r.start (r.start + n)) (sym size) ∙ overwritten-range image r.start u (omega (arith, lies))
