@@ -3,7 +3,8 @@ use Rattle.std.proofs.lemmas.Grind.{common_steps}
 use Rattle.std.proofs.Common.{◌≡◌, ◌≢◌, ℕ, ◌+◌, ◌^◌, ◌<◌, length, Bool, true, false, if◌then◌else◌, List, [], ◌∷◌, ◌++◌, Option, Some, None, unwrap_or, refl, sym, ap, ◌∙◌, arith}
 use Rattle.std.specs.List.{flat_map}
 use Rattle.std.specs.Option.{option_map_or}
-use Rattle.std.specs.Prelude.{⊤}
+use Rattle.std.specs.Prelude.{⊤, All, map, ◌==◌, ◌||◌}
+use Rattle.std.proofs.lemmas.List.Elements.{All-head, All-tail}
 use Rattle.std.specs.Fmt.{decimal}
 use Rattle.std.proofs.lemmas.Bool.Decides.{nat_tests}
 use Rattle.std.proofs.lemmas.List.{append-nil, append_assoc}
@@ -18,7 +19,7 @@ use Rattle.flash_format.specs.declared.flashmap.FmapHead.{FmapHead}
 use Rattle.flash_format.specs.declared.head.Head.{Head}
 use Rattle.flash_format.proofs.PrintedLaws.{decimal_field, hexadecimal_field, name_field, same_decimals, same_hexadecimals, same_names, split}
 use Rattle.flash_format.proofs.TypeLaws.{compression_back, compression_is_word, is_word, read_back, type_is_word, word_is_field}
-use Rattle.cbfs_commands.specs.Laws.{AreSameAreas, AreSameCells, HasAreaNumbers, HasMapNumbers, HasNumbers, HaveAreaNumbers, HaveNumbers, IsSameArea, IsSameCell, IsSameMap}
+use Rattle.cbfs_commands.specs.Laws.{HasAreaNumbers, HasMapNumbers, HasNumbers, HaveNumbers, shown_area, shown_cell, shown_cells, shown_map}
 use Rattle.cbfs_commands.specs.Rows.{area_line, map_line, cell_row, row_text, rows_from}
 
 -- ---- names or numbers
@@ -97,38 +98,42 @@ row_shape false at x more = simp append_assoc
 are_fields : (free : Bool) (at : ℕ) (x : List ℕ) → at < 2 ^ 64 → HasNumbers x → Fields (cell_fields free at x)
 are_fields v0 at x small f = grind (arith, common_steps, compression_is_word, decimal_field, hexadecimal_field, name_field, text_field, type_is_word)
 
+same_details : (x y : List ℕ) (p q : Bool) → p ≡ q → HasNumbers x → HasNumbers y → label p x ≡ label q y → printed_compression (packing_if p x) ≡ printed_compression (packing_if q y)
+    → (let o : Option (List ℕ × ℕ) = if p then None else Some (cell_name x, packing (cell_attributes x)) in o) ≡ (if q then None else Some (cell_name y, packing (cell_attributes y)))
+same_details x y true true same fx fy names packings = refl
+same_details x y false false same fx fy names packings =
+    let name = same_names _ _ names in
+    let compression = same_texts name_of_compression compression_is_word (number_for compression_table) compression_back _ _ fx.compression fy.compression packings in
+    cc
+same_details x y _ _ same fx fy names packings = absurd cc
+
 pub rows_read_back : (at other : ℕ) (x y more rest : List ℕ) → at < 2 ^ 64 → other < 2 ^ 64 → HasNumbers x → HasNumbers y
-    → cell_row at x ++ more ≡ cell_row other y ++ rest → IsSameCell at x other y × (more ≡ rest)
+    → cell_row at x ++ more ≡ cell_row other y ++ rest → (shown_cell at x ≡ shown_cell other y) × (more ≡ rest)
 rows_read_back at other x y more rest sat sother fx fy e =
     let p = is_free (head_of x) in
     let q = is_free (head_of y) in
     let s = split_line (cell_fields p at x) (cell_fields q other y) more rest (are_fields p at x sat fx) (are_fields q other y sother fy) refl (sym (row_shape p at x more) ∙ e ∙ row_shape q other y rest) in
     let kind = same_texts name_of_type type_is_word type_of_text read_back _ _ fx.kind fy.kind (cc) in
+    let place = same_hexadecimals at other sat sother (cc) in
+    let len = same_decimals _ _ fx.len fy.len (cc) in
     let names : label p x ≡ label q y = cc in
     let packings : printed_compression (packing_if p x) ≡ printed_compression (packing_if q y) = cc in
-    let used_too : p ≡ false → q ≡ false = λ used. rw (← kind) used in (
-      record {
-        place = same_hexadecimals at other sat sother (cc);
-        kind = kind;
-        len = same_decimals _ _ fx.len fy.len (cc);
-        name = λ used. same_names _ _ (rw (used, used_too used) at names);
-        compression = λ used. same_texts name_of_compression compression_is_word (number_for compression_table) compression_back _ _ fx.compression fy.compression (rw (used, used_too used) at packings);
-      },
-      s.1,
-    )
+    let details = same_details x y p q (ap (λ k. k == 0 || k == 0xffffffff) kind) fx fy names packings in
+    (cc, s.1)
 
 some_row : (at : ℕ) (x more : List ℕ) → [] ≢ cell_row at x ++ more
 some_row at x more e = begun _ _ (e ∙ row_shape (is_free (head_of x)) at x more)
 
 pub listings_read_back : (at other : ℕ) (cells others : List (List ℕ)) → HaveNumbers at cells → HaveNumbers other others
-    → rows_from false at cells ≡ rows_from false other others → AreSameCells at cells other others
+    → rows_from false at cells ≡ rows_from false other others → shown_cells at cells ≡ shown_cells other others
 unfolding rows_from
-listings_read_back at other [] [] fits fits2 e = tt
+listings_read_back at other [] [] fits fits2 e = refl
 listings_read_back at other [] (y ∷ others) fits fits2 e = absurd (some_row other y _ (simp append-nil at e))
 listings_read_back at other (x ∷ cells) [] fits fits2 e = absurd (some_row at x _ (sym (simp append-nil at e)))
 listings_read_back at other (x ∷ cells) (y ∷ others) fits fits2 e =
     let one = rows_read_back at other x y (rows_from false (at + length x) cells) (rows_from false (other + length y) others) fits.0 fits2.0 fits.1 fits2.1 (simp append-nil at e) in
-    (one.0, listings_read_back (at + length x) (other + length y) cells others fits.2 fits2.2 one.1)
+    let others_too = listings_read_back (at + length x) (other + length y) cells others fits.2 fits2.2 one.1 in
+    cc
 
 -- ---- lines of the layout
 
@@ -142,28 +147,26 @@ area_shape a more = simp append_assoc
 are_area_fields : (a : Area) → HasAreaNumbers a → Fields (area_fields a)
 are_area_fields a f = (name_field _, (hexadecimal_field _ f.offset, (decimal_field _ f.size, (hexadecimal_field _ f.flags, tt))))
 
-pub areas_read_back : (a b : Area) (more rest : List ℕ) → HasAreaNumbers a → HasAreaNumbers b → area_line a ++ more ≡ area_line b ++ rest → IsSameArea a b × (more ≡ rest)
+pub areas_read_back : (a b : Area) (more rest : List ℕ) → HasAreaNumbers a → HasAreaNumbers b → area_line a ++ more ≡ area_line b ++ rest → (shown_area a ≡ shown_area b) × (more ≡ rest)
 areas_read_back a b more rest fa fb e =
-    let s = split_line (area_fields a) (area_fields b) more rest (are_area_fields a fa) (are_area_fields b fb) refl (sym (area_shape a more) ∙ e ∙ area_shape b rest) in (
-      record {
-        name = same_names _ _ (cc);
-        offset = same_hexadecimals _ _ fa.offset fb.offset (cc);
-        size = same_decimals _ _ fa.size fb.size (cc);
-        flags = same_hexadecimals _ _ fa.flags fb.flags (cc);
-      },
-      s.1,
-    )
+    let s = split_line (area_fields a) (area_fields b) more rest (are_area_fields a fa) (are_area_fields b fb) refl (sym (area_shape a more) ∙ e ∙ area_shape b rest) in
+    let name = same_names (text_of a.name) (text_of b.name) (cc) in
+    let offset = same_hexadecimals _ _ fa.offset fb.offset (cc) in
+    let size = same_decimals _ _ fa.size fb.size (cc) in
+    let flags = same_hexadecimals _ _ fa.flags fb.flags (cc) in
+    (cc, s.1)
 
 some_line : (a : Area) (more : List ℕ) → [] ≢ area_line a ++ more
 some_line a more e = begun _ _ (e ∙ area_shape a more)
 
-pub all_areas_read_back : (areas others : List Area) → HaveAreaNumbers areas → HaveAreaNumbers others → flat_map area_line areas ≡ flat_map area_line others → AreSameAreas areas others
-all_areas_read_back [] [] fits fits2 e = tt
+pub all_areas_read_back : (areas others : List Area) → All HasAreaNumbers areas → All HasAreaNumbers others → flat_map area_line areas ≡ flat_map area_line others → map shown_area areas ≡ map shown_area others
+all_areas_read_back [] [] fits fits2 e = refl
 all_areas_read_back [] (b ∷ others) fits fits2 e = absurd (some_line b (flat_map area_line others) e)
 all_areas_read_back (a ∷ areas) [] fits fits2 e = absurd (some_line a (flat_map area_line areas) (sym e))
 all_areas_read_back (a ∷ areas) (b ∷ others) fits fits2 e =
-    let one = areas_read_back a b (flat_map area_line areas) (flat_map area_line others) fits.0 fits2.0 e in
-    (one.0, all_areas_read_back areas others fits.1 fits2.1 one.1)
+    let one = areas_read_back a b (flat_map area_line areas) (flat_map area_line others) (All-head HasAreaNumbers a areas fits) (All-head HasAreaNumbers b others fits2) e in
+    let others_too = all_areas_read_back areas others (All-tail HasAreaNumbers a areas fits) (All-tail HasAreaNumbers b others fits2) one.1 in
+    cc
 
 abbrev map_fields : ℕ → FmapHead → List (List ℕ)
 map_fields q h = codes "fmap" ∷ hexadecimal q ∷ printed_name (text_of h.name) ∷ decimal h.size ∷ decimal h.nareas ∷ []
@@ -175,14 +178,11 @@ map_shape q h more = simp append_assoc
 are_map_fields : (q : ℕ) (h : FmapHead) → HasMapNumbers q h → Fields (map_fields q h)
 are_map_fields q h f = (refl, (hexadecimal_field q f.place, (name_field _, (decimal_field _ f.size, (decimal_field _ f.nareas, tt)))))
 
-pub maps_read_back : (q p : ℕ) (h k : FmapHead) (more rest : List ℕ) → HasMapNumbers q h → HasMapNumbers p k → map_line q h ++ more ≡ map_line p k ++ rest → IsSameMap q h p k × (more ≡ rest)
+pub maps_read_back : (q p : ℕ) (h k : FmapHead) (more rest : List ℕ) → HasMapNumbers q h → HasMapNumbers p k → map_line q h ++ more ≡ map_line p k ++ rest → (shown_map q h ≡ shown_map p k) × (more ≡ rest)
 maps_read_back q p h k more rest fh fk e =
-    let s = split_line (map_fields q h) (map_fields p k) more rest (are_map_fields q h fh) (are_map_fields p k fk) refl (sym (map_shape q h more) ∙ e ∙ map_shape p k rest) in (
-      record {
-        place = same_hexadecimals q p fh.place fk.place (cc);
-        name = same_names _ _ (cc);
-        size = same_decimals _ _ fh.size fk.size (cc);
-        nareas = same_decimals _ _ fh.nareas fk.nareas (cc);
-      },
-      s.1,
-    )
+    let s = split_line (map_fields q h) (map_fields p k) more rest (are_map_fields q h fh) (are_map_fields p k fk) refl (sym (map_shape q h more) ∙ e ∙ map_shape p k rest) in
+    let place = same_hexadecimals q p fh.place fk.place (cc) in
+    let name = same_names (text_of h.name) (text_of k.name) (cc) in
+    let size = same_decimals _ _ fh.size fk.size (cc) in
+    let nareas = same_decimals _ _ fh.nareas fk.nareas (cc) in
+    (cc, s.1)
