@@ -145,15 +145,15 @@ unfolding area_line
 area_shape a more = simp append_assoc
 
 are_area_fields : (a : Area) → HasAreaNumbers a → Fields (area_fields a)
-are_area_fields a f = (name_field _, (hexadecimal_field _ f.offset, (decimal_field _ f.size, (hexadecimal_field _ f.flags, tt))))
+are_area_fields a f = (name_field _, (hexadecimal_field _ f.0, (decimal_field _ f.1, (hexadecimal_field _ f.2, tt))))
 
 pub areas_read_back : (a b : Area) (more rest : List ℕ) → HasAreaNumbers a → HasAreaNumbers b → area_line a ++ more ≡ area_line b ++ rest → (shown_area a ≡ shown_area b) × (more ≡ rest)
 areas_read_back a b more rest fa fb e =
     let s = split_line (area_fields a) (area_fields b) more rest (are_area_fields a fa) (are_area_fields b fb) refl (sym (area_shape a more) ∙ e ∙ area_shape b rest) in
     let name = same_names (text_of a.name) (text_of b.name) (cc) in
-    let offset = same_hexadecimals _ _ fa.offset fb.offset (cc) in
-    let size = same_decimals _ _ fa.size fb.size (cc) in
-    let flags = same_hexadecimals _ _ fa.flags fb.flags (cc) in
+    let offset = same_hexadecimals _ _ fa.0 fb.0 (cc) in
+    let size = same_decimals _ _ fa.1 fb.1 (cc) in
+    let flags = same_hexadecimals _ _ fa.2 fb.2 (cc) in
     (cc, s.1)
 
 some_line : (a : Area) (more : List ℕ) → [] ≢ area_line a ++ more
@@ -176,13 +176,13 @@ unfolding map_line
 map_shape q h more = simp append_assoc
 
 are_map_fields : (q : ℕ) (h : FmapHead) → HasMapNumbers q h → Fields (map_fields q h)
-are_map_fields q h f = (refl, (hexadecimal_field q f.place, (name_field _, (decimal_field _ f.size, (decimal_field _ f.nareas, tt)))))
+are_map_fields q h f = (refl, (hexadecimal_field q f.0, (name_field _, (decimal_field _ f.1, (decimal_field _ f.2, tt)))))
 
 pub maps_read_back : (q p : ℕ) (h k : FmapHead) (more rest : List ℕ) → HasMapNumbers q h → HasMapNumbers p k → map_line q h ++ more ≡ map_line p k ++ rest → (shown_map q h ≡ shown_map p k) × (more ≡ rest)
 maps_read_back q p h k more rest fh fk e =
     let s = split_line (map_fields q h) (map_fields p k) more rest (are_map_fields q h fh) (are_map_fields p k fk) refl (sym (map_shape q h more) ∙ e ∙ map_shape p k rest) in
-    let place = same_hexadecimals q p fh.place fk.place (cc) in
+    let place = same_hexadecimals q p fh.0 fk.0 (cc) in
     let name = same_names (text_of h.name) (text_of k.name) (cc) in
-    let size = same_decimals _ _ fh.size fk.size (cc) in
-    let nareas = same_decimals _ _ fh.nareas fk.nareas (cc) in
+    let size = same_decimals _ _ fh.1 fk.1 (cc) in
+    let nareas = same_decimals _ _ fh.2 fk.2 (cc) in
     (cc, s.1)

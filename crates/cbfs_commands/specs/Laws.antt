@@ -101,19 +101,15 @@ pub record RowsAreReadBack : Type 0 where
       → rows_from false at cells ≡ rows_from false other others
       → shown_cells at cells ≡ shown_cells other others
 
-pub record HasAreaNumbers (a : Area) : Type 0 where
-  pub offset : a.offset < 2 ^ 64
-  pub size : a.size < 2 ^ 64
-  pub flags : a.flags < 2 ^ 64
+abbrev pub HasAreaNumbers : Area → Type 0
+HasAreaNumbers a = (a.offset < 2 ^ 64) × (a.size < 2 ^ 64) × (a.flags < 2 ^ 64)
 
 -- names up to the NUL
 abbrev pub shown_area : Area → List ℕ × ℕ × ℕ × ℕ
 shown_area a = (text_of a.name, a.offset, a.size, a.flags)
 
-pub record HasMapNumbers (q : ℕ) (h : FmapHead) : Type 0 where
-  pub place : q < 2 ^ 64
-  pub size : h.size < 2 ^ 64
-  pub nareas : h.nareas < 2 ^ 64
+abbrev pub HasMapNumbers : ℕ → FmapHead → Type 0
+HasMapNumbers q h = (q < 2 ^ 64) × (h.size < 2 ^ 64) × (h.nareas < 2 ^ 64)
 
 abbrev pub shown_map : ℕ → FmapHead → ℕ × List ℕ × ℕ × ℕ
 shown_map q h = (q, text_of h.name, h.size, h.nareas)

@@ -66,12 +66,9 @@ impl AttrWalk {
         ensures ended { self.old.at ≡ self.old.cell.head.offset → result ≡ Ok None }
         ensures no_call { self.old.at ≡ self.old.cell.head.offset → paged.new ≡ paged.old }
 
-        ensures head { OnHonestIn paged.old.device region (λ x. (all : List Attribute)
-            → attributes_left x self.old ≡ Some all
-            → IfOk result (λ found. found ≡ first_head all)) }
-        ensures rest { OnHonestIn paged.old.device region (λ x. (all : List Attribute)
-            → attributes_left x self.old ≡ Some all
-            → IfOk result (λ _. attributes_left x self.new ≡ Some (after_first all))) }
+        ensures list { OnHonestIn paged.old.device region (λ x. (all : List Attribute)
+            → attributes_left x self.old ≡ Some all → IfOk result (λ found.
+            (found ≡ first_head all) × (attributes_left x self.new ≡ Some (after_first all)))) }
     {
         let at = self.cell.at + u64::from(self.at);
         let end = self.cell.at + u64::from(self.cell.head.offset);

@@ -110,9 +110,8 @@ impl Walk {
         ensures ended { IfSome self.old.ended (λ answer. result ≡ answer) }
         ensures no_call { IsSome self.old.ended → paged.new ≡ paged.old }
 
-        ensures answer { OnHonestIn paged.old.device self.old.region
-            (λ x. self.old.ended ≡ None
-            → IsErrOf result WalkFault.Device ⊎ (result ≡ answer_at x self.old.at)) }
+        ensures answer { OnHonestIn paged.old.device self.old.region (λ x. self.old.ended ≡ None →
+            IsErrOf result WalkFault.Device ⊎ (result ≡ answer_at x self.old.at)) }
     {
         if let Some(answer) = self.ended {
             return answer;
