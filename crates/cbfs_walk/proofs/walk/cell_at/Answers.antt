@@ -1,3 +1,4 @@
+use Rattle.std.proofs.lemmas.Grind.{common_steps}
 use Rattle.std.proofs.Common.{arith, inr, le_refl, sym, drop}
 use Rattle.flash_device.specs.Regions.{bytes_in}
 use Rattle.cbfs_walk.proofs.Checks.{checks_give}
@@ -21,9 +22,7 @@ pub returns-then-is_free-clause-answer : goal.returns-then-is_free-clause-answer
 returns-then-is_free-clause-answer g c = λ h head. inr (answer_free _ c.args.cell.now head c.if-is_free.ensures)
 
 pub returns-in-Some-clause-answer : goal.returns-in-Some-clause-answer
-returns-in-Some-clause-answer g c = λ h head.
-    let rest = drop c.args.cell.now.at (bytes_in c.args.region c.args.paged.now.device.content) in
-    inr (answer_damaged rest c.args.cell.now c.in-Some.kind c.if-is_free.ensures (rw c.in-Some.is at (c.in_ok-kind.ensures.damage h)))
+returns-in-Some-clause-answer g c = grind (arith, common_steps, answer_damaged)
 
 pub returns-in-None-clause-answer : goal.returns-in-None-clause-answer
 returns-in-None-clause-answer g c = λ h head. inr (answer_whole _ c.args.cell.now head c.if-is_free.ensures (rw c.in-None.is at (c.in_ok-kind.ensures.damage h)))
