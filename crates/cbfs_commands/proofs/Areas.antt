@@ -1,16 +1,14 @@
 -- The rows of a flashmap's areas.
 use Rattle.std.proofs.lemmas.Grind.{common_steps}
-use Rattle.std.proofs.Common.{◌≡◌, ℕ, ◌+◌, ◌-◌, ◌*◌, ◌<◌, ◌≤◌, List, [], ◌++◌, drop, Option, suc, ap, ◌∙◌, arith, Some, None}
+use Rattle.std.proofs.Common.{◌≡◌, ℕ, ◌+◌, ◌-◌, ◌*◌, ◌<◌, ◌≤◌, List, [], ◌++◌, drop, suc, ap, ◌∙◌, arith, Some}
 use Rattle.std.specs.List.{flat_map}
-use Rattle.std.specs.Option.{option_map, option_map_or}
 use Rattle.std.proofs.lemmas.List.{drop-drop}
-use Rattle.flash_format.specs.Flashmap.{area_of, areas_at, areas_from, map_of, fmap_head_of}
+use Rattle.flash_format.specs.Flashmap.{area_of, areas_from}
 use Rattle.flash_map.specs.Fmap.{found_in}
 use Rattle.flash_map.specs.declared.search.FoundMap.{FoundMap}
 use Rattle.cbfs_commands.specs.Rows.{area_line, map_line, layout}
 use Rattle.cbfs_commands.proofs.OutputParts.{text_then}
-use Rattle.cbfs_commands.specs.Printouts.{Printout, refuses, shows}
-use Rattle.cbfs_commands.specs.declared.refusal.Refusal.TheVariants as refusals
+use Rattle.cbfs_commands.specs.Printouts.{Printout, shows}
 
 abbrev pub rows_of : List ℕ → ℕ → ℕ → List ℕ
 rows_of image n at = flat_map area_line (areas_from n (drop at image))

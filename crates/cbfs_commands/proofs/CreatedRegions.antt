@@ -1,6 +1,6 @@
 -- Each region formatted by `create` is one free cell.
 use Rattle.std.proofs.lemmas.Grind.{common_steps}
-use Rattle.std.proofs.Common.{◌≡◌, ◌⊎◌, inl, inr, ℕ, zero, suc, ◌+◌, ◌-◌, ◌%◌, ◌^◌, ◌<◌, ◌≤◌, false, All, List, [], ◌∷◌, length, take, replicate, Some, refl, sym, ◌∙◌, ap, subst, arith, length-take, length-drop}
+use Rattle.std.proofs.Common.{◌≡◌, ℕ, ◌-◌, ◌%◌, ◌^◌, ◌<◌, ◌≤◌, false, All, List, [], ◌∷◌, length, take, replicate, Some, refl, sym, ◌∙◌, ap, subst, arith, length-take, length-drop}
 use Rattle.std.specs.Prelude.{fold}
 use Rattle.std.specs.List.{list_any}
 use Rattle.std.proofs.lemmas.Bool.{or_parts}
@@ -24,7 +24,7 @@ use Rattle.cbfs_commands.proofs.RegionPlaces.{whole_over}
 use Rattle.cbfs_commands.proofs.PlanLaws.{lie_apart, planned}
 
 positive : (size : ℕ) → has_bad_size size ≡ false → 0 < size
-positive v0 good = grind (arith, common_steps)
+positive size good = grind (arith, common_steps)
 
 -- as empty entries, in order
 abbrev all_formatted : List ℕ → List Range → List ℕ

@@ -1,8 +1,7 @@
 -- A creation can change all bytes of the image. An interruption has no further promise.
 use Rattle.std.proofs.lemmas.Grind.{common_steps}
-use Rattle.std.proofs.Common.{◌≡◌, ◌∙◌, ◌⊎◌, ◌++◌, inl, inr, IsErrOf, IsTrue, Ok, Err, Result, ℕ, List, length, drop, take, replicate, length-drop, ◌+◌, ap, refl, sym, arith}
+use Rattle.std.proofs.Common.{◌≡◌, ◌⊎◌, inl, inr, IsErrOf, IsTrue, Ok, Err, Result, ℕ, List, length, take, replicate, refl, arith}
 use Rattle.std.specs.Prelude.{fold}
-use Rattle.std.proofs.lemmas.List.{append-nil, length-replicate, nil_from_length}
 use Rattle.flash_device.specs.Device.{Calls, Device, SameOutside, fault_count, overwritten}
 use Rattle.flash_device.specs.Laws.{with_edit}
 use Rattle.flash_device.specs.Regions.{Range}

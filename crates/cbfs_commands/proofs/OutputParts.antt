@@ -1,13 +1,11 @@
 -- Output by parts: a written text, then the rest of a call.
 use Rattle.std.proofs.lemmas.Grind.{common_steps}
 use Rattle.std.proofs.Common.{◌≡◌, ℕ, ◌+◌, ◌<◌, ◌≤◌, ◌⊎◌, IsTrue, inl, inr, List, [], ◌++◌, length, take, Option, Ok, Err, refl, sym, ap, ◌∙◌, subst, arith, length-append, append_assoc}
-use Rattle.std.specs.Prelude.{IsErrOf, OnErr}
-use Rattle.std.proofs.lemmas.List.{take-append-le}
+use Rattle.std.specs.Prelude.{OnErr}
 use Rattle.std.proofs.Math.Seq.{take-append-add}
 use Rattle.std.specs.Io.KnownBytes.{Appends}
 use Rattle.std.specs.Result.{IsErrAnd}
 use Rattle.std.proofs.KnownBytes.{Appends-nil, Appends-trans}
-use Rattle.flash_device.specs.Device.{Device, fault_count}
 use Rattle.flash_device.specs.Pages.{Pages, HasRead, OnHonest}
 use Rattle.flash_device.specs.Regions.{Range, bytes_in}
 use Rattle.flash_device.proofs.DeviceLemmas.{honest_still, LiesOn-calls}
@@ -40,19 +38,15 @@ prints-then old mid new answer text t wrote (inr (inr failed)) =
     let more = first_of_both old mid new text t.written n wrote failed.1.2 in
     inr (inr (failed.0, (length text + n, omega (arith, length-append text t.written, failed.1.1), more)))
 
--- a partial text is a prefix of any longer text
-first_of_longer : (old new : Option (List ℕ)) (text rest : List ℕ) (n : ℕ) → n ≤ length text → Appends old new (take n text) → Appends old new (take n (text ++ rest))
-first_of_longer old new text rest n short wrote = rw (take-append-le n text rest short) wrote
-
 prints-stopped : (old new : Option (List ℕ)) (refusal : Refusal) (text : List ℕ) (t : Printout) → PrintsOut old new (Err refusal) (shows text)
     → PrintsOut old new (Err refusal) (text_then text t)
-prints-stopped old new refusal text t v5 = grind (arith, common_steps)
+prints-stopped old new refusal text t it = grind (arith, common_steps)
 
 pub handed : (answer : CommandResult) (refusal : Refusal) → IsErrAnd answer (λ r. r ≡ refusal) → (let a : CommandResult = Err refusal in a) ≡ answer
-handed v0 refusal is = grind (arith, common_steps)
+handed answer refusal is = grind (arith, common_steps)
 
 printout-text : (old new : Option (List ℕ)) (text : List ℕ) → PrintsOut old new (Ok tt) (shows text) → Appends old new text
-printout-text old new text v3 = grind (arith, common_steps)
+printout-text old new text it = grind (arith, common_steps)
 
 -- ---- the output so far
 
@@ -180,13 +174,3 @@ still_cell {region = region} {cell = cell} read is = record {
       let before = subst (λ b. IsTrue b) read.device.calls.same_honesty h in
       subst (λ (l : List ℕ). StandsIn (bytes_in region l) cell) (sym (read.device.unchanged before)) (is.stands before);
 }
-
--- a call that only reads the device, by its parts
-pub told_by_parts : {F W : Type 0} {contents : W → Option (List ℕ)} {faults : W → ℕ} {n : ℕ} {old new : Pages F} {out_old out_new : W} {answer : CommandResult} {t : List ℕ → Printout}
-    → OnHonest old.device (λ image. PrintsOut (contents out_old) (contents out_new) answer (t image))
-    → HasRead n (fault_count by_device answer) old new
-    → faults out_old ≤ faults out_new
-    → (IsErrOf answer refusals.Output → faults out_old < faults out_new)
-    → (IsErrOf answer refusals.Source → ⊥)
-    → HasOutput contents faults n old new out_old out_new answer t
-told_by_parts printout read sink output no_source = record { read = read; sink = sink; output = output; no_source = no_source; printout = printout }

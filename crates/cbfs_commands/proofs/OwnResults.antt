@@ -1,41 +1,36 @@
 -- No outcome's own answer is a fault of the device, the output or the source.
 use Rattle.std.proofs.Common.{arith}
 use Rattle.std.proofs.lemmas.Grind.{common_steps}
-use Rattle.std.proofs.Common.{◌≡◌, inl, inr, ℕ, Bool, true, false, cond, List, [], ◌∷◌, ◌++◌, drop, length, nat_lt, if◌then◌else◌, ◌+◌, ◌==◌, ◌&&◌, is_some, Option, Some, None, Result, Ok, Err, sym, subst}
-use Rattle.std.specs.List.{flat_map}
+use Rattle.std.proofs.Common.{◌≡◌, inl, inr, ℕ, Bool, false, cond, List, [], ◌∷◌, ◌==◌, Option, Result, Ok, Err, sym, subst}
 use Rattle.std.specs.Option.{ok_or, option_map_or}
 use Rattle.std.specs.Prelude.{⊤}
 use Rattle.flash_format.specs.declared.flashmap.Area.{Area}
-use Rattle.flash_format.specs.Components.{Component, components, is_packed}
+use Rattle.flash_format.specs.Components.{Component, components}
 use Rattle.flash_format.specs.Cut.{End, complete, tail, damage, cut}
-use Rattle.flash_format.specs.Entry.{entry}
-use Rattle.flash_format.specs.Flashmap.{areas_at, fmap_head_of, map_len, map_of, area_in}
+use Rattle.flash_format.specs.Flashmap.{map_len}
 use Rattle.flash_map.specs.Fmap.{map_head}
 use Rattle.flash_device.specs.Regions.{Range, bytes_in}
-use Rattle.flash_map.specs.Regions.{region_by_area, region_of, region_under}
-use Rattle.flash_map.specs.declared.search.StoreFault.{StoreFault}
+use Rattle.flash_map.specs.Regions.{region_by_area, region_of}
 use Rattle.cbfs_walk.specs.Search.{Found, component_in, first_named, found_or, not_found}
 use Rattle.cbfs_walk.specs.CellReadings.{place_after}
-use Rattle.cbfs_walk.specs.Shapes.{has_bad_size, is_absent, refused_or, shape_fault}
+use Rattle.cbfs_walk.specs.Shapes.{has_bad_size, refused_or, shape_fault}
 use Rattle.cbfs_walk.specs.declared.walk.WalkFault.{WalkFault}
 use Rattle.cbfs_walk.specs.declared.walk.WalkFault.TheVariants as walk
-use Rattle.cbfs_edit.specs.Additions.{NewComponent, added, addition_in, is_bad_name, is_bad_type, new_component, wanted_for}
-use Rattle.cbfs_edit.specs.Removals.{group_of, removal_in, removed, unless_damaged, unless_unsound}
-use Rattle.cbfs_edit.specs.Places.{first_place, is_bad_align, placing_in}
-use Rattle.cbfs_edit.specs.Runs.{runs}
+use Rattle.cbfs_edit.specs.Additions.{NewComponent, addition_in}
+use Rattle.cbfs_edit.specs.Removals.{group_of, removal_in, unless_damaged, unless_unsound}
+use Rattle.cbfs_edit.specs.Places.{placing_in}
 use Rattle.cbfs_edit.specs.declared.fault.EditFault.{EditFault}
 use Rattle.cbfs_edit.specs.declared.fault.EditFault.TheVariants as edit
 use Rattle.cbfs_edit.specs.declared.place.Spot.{Spot}
 use Rattle.cbfs_commands.specs.declared.create.plan.Plan.{Plan}
 use Rattle.cbfs_commands.specs.declared.refusal.Refusal.{Refusal}
 use Rattle.cbfs_commands.specs.declared.refusal.Refusal.TheVariants as refusals
-use Rattle.cbfs_commands.specs.Creations.{head_for, map_place, plan_for, plan_of, region_place, region_places, some_overlap}
+use Rattle.cbfs_commands.specs.Creations.{head_for, map_place, plan_for, plan_of, region_place, region_places}
 use Rattle.cbfs_commands.specs.Effects.{changes, effect, edits, outcome, Request}
-use Rattle.cbfs_commands.specs.Rows.{area_line, layout, map_line}
-use Rattle.cbfs_commands.specs.Outcomes.{StopsIn, extract_region, print_region, printed_component, printed_in}
+use Rattle.cbfs_commands.specs.Rows.{layout}
+use Rattle.cbfs_commands.specs.Outcomes.{StopsIn, print_region, printed_component, printed_in}
 use Rattle.cbfs_commands.specs.Refusals.{HasNoFault, edit_refusal, fault_or, store_refusal, walk_refusal}
-use Rattle.cbfs_commands.specs.Effects as requests
-use Rattle.cbfs_commands.specs.Printouts.{Printout, refuses, shows}
+use Rattle.cbfs_commands.specs.Printouts.{Printout, refuses}
 
 -- an error that is no such fault
 abbrev BlamesNone : Refusal → Type 0
@@ -59,22 +54,22 @@ no_fault {T} answer own (inr (inr blamed)) = subst (λ (a : Result T Refusal). B
 
 -- one of two answers
 when : {T E : Type 0} (tell : E → Refusal) (b : Bool) (x y : Result T E) → Blameless tell x → Blameless tell y → Blameless tell (cond b x y)
-when tell v1 x y left right = grind (arith, common_steps)
+when tell b x y left right = grind (arith, common_steps)
 
 given : {T E : Type 0} (tell : E → Refusal) (o : Option T) (fault : E) → BlamesNone (tell fault) → Blameless tell (ok_or o fault)
-given tell v1 fault own = grind (arith, common_steps)
+given tell o fault own = grind (arith, common_steps)
 
 -- a result of a value
 next-blameless : {T U E : Type 0} (tell : E → Refusal) (r : Result T E) (next : T → Result U Refusal) → Blameless tell r → ((value : T) → Blameless itself (next value)) → Blameless itself (fault_or (λ fault. Err (tell fault)) r next)
-next-blameless tell v1 next own each = grind (arith, common_steps)
+next-blameless tell r next own each = grind (arith, common_steps)
 
 printout-blameless : {T E : Type 0} (tell : E → Refusal) (r : Result T E) (next : T → Printout) → Blameless tell r → ((value : T) → Blameless itself (next value).answer) → Blameless itself (fault_or (λ fault. refuses (tell fault)) r next).answer
-printout-blameless tell v1 next own each = grind (arith, common_steps)
+printout-blameless tell r next own each = grind (arith, common_steps)
 
 -- ---- regions, their shape and their cells
 
 inside-blameless : (n : ℕ) (area : Option Area) → Blameless store_refusal (region_by_area n area)
-inside-blameless n v1 = grind (arith, common_steps)
+inside-blameless n area = grind (arith, common_steps)
 
 region_of-blameless : (image name : List ℕ) → Blameless store_refusal (region_of image name)
 unfolding region_of
@@ -82,10 +77,10 @@ region_of-blameless image name = grind (arith, common_steps)
 
 -- either error of a region's shape, or the later answer
 unless-misshapen : {A : Type 0} (P : A → Type 0) (refuse : WalkFault → A) (x : List ℕ) (otherwise : A) → P (refuse walk.RegionShape) → P (refuse walk.NotCbfs) → P otherwise → P (refused_or refuse (shape_fault x) otherwise)
-unless-misshapen v0 refuse x otherwise misshapen empty other = grind (arith, common_steps)
+unless-misshapen P refuse x otherwise misshapen empty other = grind (arith, common_steps)
 
 found-blameless : (c : Option Component) (at : ℕ) (end : End) → Blameless walk_refusal (found_or c (not_found at end))
-found-blameless v0 at end = grind (arith, common_steps)
+found-blameless c at end = grind (arith, common_steps)
 
 component_in-blameless : (x name : List ℕ) → Blameless walk_refusal (component_in x name)
 unfolding component_in
@@ -138,7 +133,7 @@ plan_for-blameless n names source = next-blameless itself _ _ (head_for-blameles
 -- ---- commands
 
 told_found-blameless : (c : Option Component) → Blameless itself (option_map_or printed_component c (refuses refusals.NotFound)).answer
-told_found-blameless v0 = grind (arith, common_steps)
+told_found-blameless c = grind (arith, common_steps)
 
 -- by the region's output or change
 by_region : (image name : List ℕ) (tell : List ℕ → Printout) → ((x : List ℕ) → Blameless itself (tell x).answer) → Blameless itself (printed_in image name tell).answer
@@ -149,7 +144,7 @@ edited image name source make each = grind (arith, common_steps, next-blameless,
 
 own_answer : (r : Request) (image source : List ℕ) → Blameless itself (outcome (effect r) image source).printout.answer
 unfolding print_region layout
-own_answer v0 image source = grind (arith, common_steps, addition_in-blameless, by_region, component_in-blameless, edited, found-blameless, next-blameless, plan_for-blameless, printout-blameless, removal_in-blameless, told_found-blameless, unless-misshapen, when)
+own_answer r image source = grind (arith, common_steps, addition_in-blameless, by_region, component_in-blameless, edited, found-blameless, next-blameless, plan_for-blameless, printout-blameless, removal_in-blameless, told_found-blameless, unless-misshapen, when)
 
 -- ---- the law
 

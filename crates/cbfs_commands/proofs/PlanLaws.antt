@@ -1,7 +1,7 @@
 -- A plan fits its image, and its ranges lie apart.
 use Rattle.std.proofs.lemmas.Grind.{common_steps}
-use Rattle.std.proofs.Common.{◌≡◌, inl, inr, ℕ, ◌+◌, ◌≤◌, ◌==◌, ◌&&◌, Bool, true, false, cond, All, List, [], ◌∷◌, length, Option, Some, None, Result, Ok, Err, refl, sym, ap, subst, arith}
-use Rattle.std.specs.Prelude.{IfOk, nat_le, nat_lt}
+use Rattle.std.proofs.Common.{◌≡◌, ℕ, ◌+◌, ◌≤◌, ◌==◌, Bool, true, false, cond, All, List, [], ◌∷◌, length, Option, Some, None, Result, Ok, Err, refl, sym, ap, subst, arith}
+use Rattle.std.specs.Prelude.{IfOk, nat_lt}
 use Rattle.std.specs.List.{AllPairs, list_any}
 use Rattle.std.specs.Option.{ok_or}
 use Rattle.std.proofs.lemmas.Bool.{and_parts, or_parts}
@@ -10,27 +10,26 @@ use Rattle.std.proofs.lemmas.List.Elements.{All-nil, All-cons}
 use Rattle.std.proofs.lemmas.List.Kept.{AllPairs-cons}
 use Rattle.flash_format.specs.declared.flashmap.FmapHead.{FmapHead}
 use Rattle.flash_format.specs.declared.flashmap.Area.{Area}
-use Rattle.flash_format.specs.Flashmap.{fmap_head_len, fmap_head_of, has_signature, is_map, is_valid_head, map_len}
+use Rattle.flash_format.specs.Flashmap.{is_map, map_len}
 use Rattle.flash_map.specs.Fmap.{map_head}
 use Rattle.flash_device.specs.Laws.{LieApart}
 use Rattle.flash_device.specs.Regions.{Range}
 use Rattle.flash_map.specs.Regions.{region_by_area}
 use Rattle.flash_map.proofs.FmapLemmas.{head_some, valid_fits}
-use Rattle.cbfs_walk.specs.Shapes.{has_bad_size}
 use Rattle.cbfs_commands.specs.declared.create.plan.Plan.{Plan}
 use Rattle.cbfs_commands.specs.declared.refusal.Refusal.{Refusal}
 use Rattle.cbfs_commands.specs.declared.refusal.Refusal.TheVariants as refusals
 use Rattle.cbfs_commands.specs.Creations.{FitsImage, IsPlace, head_for, map_place, share_bytes, plan_for, plan_of, region_place, region_places, some_overlap}
 use Rattle.cbfs_commands.specs.Laws.{PlansAreLaid}
-use Rattle.cbfs_commands.specs.Refusals.{fault_or, store_refusal}
+use Rattle.cbfs_commands.specs.Refusals.{fault_or}
 use Rattle.cbfs_commands.proofs.RegionPlaces.{inside_lies}
 
 -- each step succeeded
 done : {T U E : Type 0} (tell : E → Refusal) (r : Result T E) (next : T → Result U Refusal) (x : U) → fault_or (λ fault. Err (tell fault)) r next ≡ Ok x → (value : T) × (r ≡ Ok value) × (next value ≡ Ok x)
-done tell v1 next x is = grind (arith, common_steps)
+done tell r next x is = grind (arith, common_steps)
 
 passed : {T : Type 0} (bad : Bool) (refusal : Refusal) (value x : T) → (let r : Result T Refusal = cond bad (Err refusal) (Ok value) in r) ≡ Ok x → (bad ≡ false) × (value ≡ x)
-passed v0 refusal value x is = grind (arith, common_steps)
+passed bad refusal value x is = grind (arith, common_steps)
 
 -- ---- the regions
 
@@ -54,7 +53,7 @@ pub lie_apart : (a b : Range) → share_bytes a b ≡ false → LieApart a b
 lie_apart a b none = grind (arith, nat_tests)
 
 apart_from : (place : Range) (others : List Range) → list_any (share_bytes place) others ≡ false → All (LieApart place) others
-apart_from place v1 none = grind (arith, common_steps)
+apart_from place others none = grind (arith, common_steps)
 
 all_apart : (places : List Range) → some_overlap places ≡ false → AllPairs LieApart places
 all_apart [] none = λ i j d order below. absurd (omega arith)

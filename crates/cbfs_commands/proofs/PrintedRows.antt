@@ -2,11 +2,9 @@
 use Rattle.std.proofs.lemmas.Grind.{common_steps}
 use Rattle.std.proofs.Common.{◌≡◌, ◌≢◌, ℕ, ◌+◌, ◌^◌, ◌<◌, length, Bool, true, false, if◌then◌else◌, List, [], ◌∷◌, ◌++◌, Option, Some, None, unwrap_or, refl, sym, ap, ◌∙◌, arith}
 use Rattle.std.specs.List.{flat_map}
-use Rattle.std.specs.Option.{option_map_or}
 use Rattle.std.specs.Prelude.{⊤, All, map, ◌==◌, ◌||◌}
 use Rattle.std.proofs.lemmas.List.Elements.{All-head, All-tail}
 use Rattle.std.specs.Fmt.{decimal}
-use Rattle.std.proofs.lemmas.Bool.Decides.{nat_tests}
 use Rattle.std.proofs.lemmas.List.{append-nil, append_assoc}
 use lib.Chars.{codes}
 use Rattle.flash_format.specs.Head.{head_of, is_free}
@@ -16,7 +14,6 @@ use Rattle.flash_format.specs.Texts.{hexadecimal, is_field, printed_compression,
 use Rattle.flash_format.specs.TypeNames.{compression_table, name_of_compression, name_of_type, number_for, type_of_text}
 use Rattle.flash_format.specs.declared.flashmap.Area.{Area}
 use Rattle.flash_format.specs.declared.flashmap.FmapHead.{FmapHead}
-use Rattle.flash_format.specs.declared.head.Head.{Head}
 use Rattle.flash_format.proofs.PrintedLaws.{decimal_field, hexadecimal_field, name_field, same_decimals, same_hexadecimals, same_names, split}
 use Rattle.flash_format.proofs.TypeLaws.{compression_back, compression_is_word, is_word, read_back, type_is_word, word_is_field}
 use Rattle.cbfs_commands.specs.Laws.{HasAreaNumbers, HasMapNumbers, HasNumbers, HaveNumbers, shown_area, shown_cell, shown_cells, shown_map}
@@ -26,7 +23,7 @@ use Rattle.cbfs_commands.specs.Rows.{area_line, map_line, cell_row, row_text, ro
 
 word_is_no_number : (s : List ℕ) (n : ℕ) → is_word s ≡ true → s ≢ hexadecimal n
 unfolding hexadecimal
-word_is_no_number v0 n word e = grind (arith, common_steps)
+word_is_no_number s n word e = grind (arith, common_steps)
 
 -- the names are words, and decode
 module _ (name_of : ℕ → Option (List ℕ)) (word : (n : ℕ) (name : List ℕ) → name_of n ≡ Some name → is_word name ≡ true) where
@@ -96,7 +93,7 @@ row_shape true at x more = simp append_assoc
 row_shape false at x more = simp append_assoc
 
 are_fields : (free : Bool) (at : ℕ) (x : List ℕ) → at < 2 ^ 64 → HasNumbers x → Fields (cell_fields free at x)
-are_fields v0 at x small f = grind (arith, common_steps, compression_is_word, decimal_field, hexadecimal_field, name_field, text_field, type_is_word)
+are_fields free at x small f = grind (arith, common_steps, compression_is_word, decimal_field, hexadecimal_field, name_field, text_field, type_is_word)
 
 same_details : (x y : List ℕ) (p q : Bool) → p ≡ q → HasNumbers x → HasNumbers y → label p x ≡ label q y → printed_compression (packing_if p x) ≡ printed_compression (packing_if q y)
     → (let o : Option (List ℕ × ℕ) = if p then None else Some (cell_name x, packing (cell_attributes x)) in o) ≡ (if q then None else Some (cell_name y, packing (cell_attributes y)))

@@ -1,7 +1,7 @@
 -- A region after a refused edit.
 use Rattle.std.proofs.Common.{arith}
 use Rattle.std.proofs.lemmas.Grind.{common_steps}
-use Rattle.std.proofs.Common.{◌≡◌, ◌≢◌, ◌⊎◌, [], inl, inr, ℕ, List, Result, Ok, Err, IsErrOf, refl, sym, ◌∙◌}
+use Rattle.std.proofs.Common.{◌≡◌, ◌≢◌, ◌⊎◌, [], inl, inr, ℕ, List, Result, Ok, Err, IsErrOf}
 use Rattle.std.specs.Result.{IsErrAnd, result_unwrap_or}
 use Rattle.flash_device.specs.Regions.{Range, bytes_in}
 use Rattle.flash_map.specs.Regions.{region_of}
@@ -12,9 +12,8 @@ use Rattle.cbfs_edit.specs.declared.addition.Placed.{Placed}
 use Rattle.cbfs_edit.specs.declared.fault.EditFault.{EditFault}
 use Rattle.cbfs_edit.specs.declared.fault.EditFault.TheVariants as edit
 use Rattle.cbfs_edit.specs.declared.group.CellRange.{CellRange}
-use Rattle.cbfs_edit.specs.declared.place.Place.{Place}
 use Rattle.cbfs_edit.specs.declared.place.Spot.{Spot}
-use Rattle.cbfs_edit.specs.Additions.{added, addition_in, new_component, placed_of}
+use Rattle.cbfs_edit.specs.Additions.{addition_in, new_component, placed_of}
 use Rattle.cbfs_edit.specs.Changes.{AddLeavesBefore, AddLeavesWhole, LeavesWhole}
 use Rattle.cbfs_edit.specs.Removals.{removal_in}
 use Rattle.cbfs_commands.specs.declared.refusal.Refusal.{Refusal}
@@ -23,26 +22,14 @@ use Rattle.cbfs_commands.specs.Effects.{adds, changes, outcome, removes}
 use Rattle.cbfs_commands.specs.Outcomes.{AddStopsIn, LeavesOr}
 use Rattle.cbfs_commands.specs.Refusals.{edit_refusal, fault_or, store_refusal}
 use Rattle.cbfs_commands.specs.Printouts.{CommandResult}
-use Rattle.cbfs_commands.proofs.OutputParts.{handed}
-
--- the error of the place is the error of the addition
-refused_place : (place : Result Place EditFault) (fault : EditFault) (next : Place → Result (List ℕ) Refusal) → (let r : Result Placed EditFault = Err fault in r ≡ placed_of place) → fault_or (λ f. Err (edit_refusal f)) place next ≡ Err (edit_refusal fault)
-refused_place v0 fault next is = grind (arith, common_steps)
 
 -- a found region: the answer is the edit's error, and only a fault leaves a change
 module _ (image between now source name : List ℕ) (region : Range) (fault : EditFault) (answer : CommandResult) (sought : (let r : Result Range StoreFault = Ok region in IsErrOf r store.Device ⊎ (r ≡ region_of image name))) (unread : between ≡ image) (printout : IsErrAnd answer (λ refusal. refusal ≡ edit_refusal fault)) (same : fault ≢ edit.Device → fault ≢ edit.Source → now ≡ between) where
   here : Ok region ≡ region_of image name
   here = elim sought [ inl failed ↦ absurd cc | inr is ↦ is ]
 
-  answer_is : answer ≡ Err (edit_refusal fault)
-  answer_is = sym (handed answer (edit_refusal fault) printout)
-
   left : (next : Range → Result (List ℕ) Refusal) → (fault ≢ edit.Device → fault ≢ edit.Source → next region ≡ Err (edit_refusal fault)) → let made : Result (List ℕ) Refusal = fault_or (λ f. Err (store_refusal f)) (region_of image name) next in LeavesOr now answer (record { printout = record { written = []; answer = fault_or Err made (λ now. Ok tt) }; image = result_unwrap_or made image })
   left next refused = grind (arith, common_steps)
-
-  -- the faults of the edit and of the answer agree
-  by_side : {T D S : Type 0} (f : EditFault) → answer ≡ Err (edit_refusal f) → (let r : Result T EditFault = Err f in (IsErrOf r edit.Device → D) × (IsErrOf r edit.Source → S)) → (answer ≡ Err refusals.Device → D) × (answer ≡ Err refusals.Source → S)
-  by_side v0 is of = grind (arith, common_steps)
 
   pub addition_refused : (component : List ℕ) (kind : ℕ) (hash : HashChoice) (spot : Spot) → let new = new_component component kind hash source in let x = bytes_in region between in let r : Result Placed EditFault = Err fault in
       (IsErrOf r edit.Device ⊎ (IsErrOf r edit.Source ⊎ (r ≡ placed_of (addition_in x new spot)))) → (IsErrOf r edit.Device → AddLeavesWhole x new spot (bytes_in region now)) → (IsErrOf r edit.Source → AddLeavesBefore x new spot (bytes_in region now))

@@ -1,22 +1,17 @@
 -- A named region lies in its image, and writes over it depend only on its own bytes.
 use Rattle.std.proofs.lemmas.Grind.{common_steps}
-use Rattle.std.proofs.Common.{◌≡◌, inl, inr, ℕ, ◌+◌, ◌≤◌, Bool, true, false, cond, List, length, take, drop, Option, Some, None, Result, Ok, Err, refl, sym, ◌∙◌, ap, arith}
-use Rattle.std.specs.Prelude.{nat_lt, slice_range}
+use Rattle.std.proofs.Common.{◌≡◌, ℕ, ◌+◌, ◌≤◌, List, length, take, Option, Ok, sym, ◌∙◌, ap, arith}
+use Rattle.std.specs.Prelude.{slice_range}
 use Rattle.std.proofs.lemmas.Bool.{cases_lt}
-use Rattle.std.proofs.lemmas.Bool.Decides.{nat_tests}
-use Rattle.std.proofs.lemmas.List.{take-take}
 use Rattle.flash_format.specs.declared.flashmap.Area.{Area}
-use Rattle.flash_format.specs.Flashmap.{map_of, area_in}
 use Rattle.flash_device.specs.Device.{overwritten}
 use Rattle.flash_device.specs.Regions.{Range, LiesIn, bytes_in}
-use Rattle.flash_map.specs.Regions.{region_by_area, region_of, region_under}
-use Rattle.flash_map.specs.declared.search.StoreFault.{StoreFault}
-use Rattle.flash_map.specs.declared.search.StoreFault.TheVariants as faults
-use Rattle.flash_device.proofs.BytesLemmas.{overwritten-range, slice_range_is}
+use Rattle.flash_map.specs.Regions.{region_by_area, region_of}
+use Rattle.flash_device.proofs.BytesLemmas.{overwritten-range}
 use Rattle.flash_device.proofs.RegionLemmas.{written_in}
 
 pub inside_lies : (n : ℕ) (area : Option Area) (r : Range) → region_by_area n area ≡ Ok r → r.start + r.size ≤ n
-inside_lies n v1 r is = grind (arith, common_steps)
+inside_lies n area r is = grind (arith, common_steps)
 
 pub region_lies : (image name : List ℕ) (r : Range) → region_of image name ≡ Ok r → LiesIn r image
 unfolding region_of

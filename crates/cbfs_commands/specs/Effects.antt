@@ -1,5 +1,5 @@
 -- The meaning of commands: outcome, allowed changes, used devices, and effect of an interruption.
-use Rattle.std.specs.Prelude.{ℕ, Bool, List, map, ◌≡◌, ◌+◌, ◌/◌, ◌<◌, ◌≤◌, ◌⊎◌, true, false, []}
+use Rattle.std.specs.Prelude.{ℕ, Bool, List, map, ◌≡◌, ◌+◌, ◌/◌, ◌⊎◌, true, false, []}
 use Rattle.std.specs.Prelude.{length, Option, Some, None, is_some, MatchOption, Result, Ok, Err}
 use Rattle.std.specs.Prelude.{IsErrOf, IsTrue, ◌==◌, if◌then◌else◌}
 use Rattle.cbfs_edit.specs.declared.addition.HashChoice.{HashChoice}

@@ -79,8 +79,13 @@ pub record HasNumbers (x : List ℕ) : Type 0 where
 
 -- offset, type, content length, and a component's name and compression
 abbrev pub shown_cell : ℕ → List ℕ → ℕ × ℕ × ℕ × Option (List ℕ × ℕ)
-shown_cell at x = (at, (head_of x).kind, (head_of x).len, if is_free (head_of x) then None
-    else Some (cell_name x, packing (cell_attributes x)))
+shown_cell at x = (
+  at,
+  (head_of x).kind,
+  (head_of x).len,
+  if is_free (head_of x) then None
+      else Some (cell_name x, packing (cell_attributes x)),
+)
 
 abbrev pub HaveNumbers : ℕ → List (List ℕ) → Type 0
 HaveNumbers at [] = ⊤

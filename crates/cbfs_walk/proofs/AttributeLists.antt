@@ -1,6 +1,6 @@
 -- The start and rest of an attribute list.
 use Rattle.std.proofs.lemmas.Grind.{common_steps}
-use Rattle.std.proofs.Common.{◌≡◌, ℕ, ◌+◌, ◌-◌, ◌≤◌, min, Bool, true, false, cond, List, [], ◌∷◌, length, take, drop, Option, Some, None, refl, sym, ap, subst, ◌∙◌, arith, eqb, ltb}
+use Rattle.std.proofs.Common.{◌≡◌, ℕ, ◌+◌, ◌-◌, ◌≤◌, min, Bool, true, false, cond, List, [], ◌∷◌, length, take, drop, Option, Some, None, refl, sym, ap, subst, ◌∙◌, arith}
 use Rattle.std.specs.Prelude.{slice_range, is_some, unwrap_or}
 use Rattle.std.specs.Option.{option_map}
 use Rattle.std.proofs.lemmas.Bool.{le-ltb}
@@ -35,13 +35,13 @@ listed_tested r image at end h unused bad lies inside room head is_unused_is is_
 -- ---- the rest
 
 inverted : (a b : Bool) (k h : AttrHead) → (let v : declared.Listed = cond a End (cond b Malformed (listed.Attribute k)) in listed.Attribute h ≡ v) → (a ≡ false) × (b ≡ false) × (h ≡ k)
-inverted v0 v1 k h e = grind (arith, common_steps)
+inverted a b k h e = grind (arith, common_steps)
 
 inverted_end : (a b : Bool) (k : AttrHead) → (let v : declared.Listed = cond a End (cond b Malformed (listed.Attribute k)) in End ≡ v) → a ≡ true
-inverted_end v0 b k e = grind (arith, common_steps)
+inverted_end a b k e = grind (arith, common_steps)
 
 inverted_malformed : (a b : Bool) (k : AttrHead) → (let v : declared.Listed = cond a End (cond b Malformed (listed.Attribute k)) in Malformed ≡ v) → (a ≡ false) × (b ≡ true)
-inverted_malformed v0 v1 k e = grind (arith, common_steps)
+inverted_malformed a b k e = grind (arith, common_steps)
 
 -- the first attribute, and the others
 pub record Goes (y : List ℕ) (h : AttrHead) : Type 0 where
@@ -90,7 +90,7 @@ attribute_field_is : (h : Head) (x : List ℕ) → attribute_field h x ≡ slice
 attribute_field_is h x = grind (arith, common_steps)
 
 some_is : {A : Type 0} (o : Option A) (other : A) → is_some o ≡ true → o ≡ Some (unwrap_or o other)
-some_is v0 other e = grind (arith, common_steps)
+some_is o other e = grind (arith, common_steps)
 
 -- the attributes are well formed, and lie between name and content
 pub listed_all : (x : List ℕ) (c : Cell) → StandsIn x c → is_free c.head ≡ false
@@ -158,4 +158,4 @@ walk_step r image k a p q w l lies room view from to is all left = go l is
 
 pub gives_none : (x : List ℕ) (k : Cell) (a : ℕ) (all : List Attribute) (l : declared.Listed) → ((h : AttrHead) → l ≡ listed.Attribute h → ⊥) → GivesListed x k a all l
     → (None ≡ first_head all) × (attributes_left x (record { cell = k; at = k.head.offset }) ≡ Some (after_first all))
-gives_none x k a all v4 other gives = grind (arith, common_steps)
+gives_none x k a all l other gives = grind (arith, common_steps)

@@ -7,9 +7,8 @@ use Rattle.std.specs.Option.{option_map, option_map_or}
 use Rattle.byteorder.specs.Endian.{big_number}
 use Rattle.flash_format.specs.declared.attribute.AttrHead.{AttrHead}
 use Rattle.flash_format.specs.Head.{be32, is_free}
-use Rattle.flash_format.specs.Entry.{Attribute, attribute, attributes, attr_head_of, data_of, least_len, COMPRESSION, name_end}
+use Rattle.flash_format.specs.Entry.{Attribute, attribute, attributes, attr_head_of, data_of, least_len, COMPRESSION}
 use Rattle.flash_format.specs.Components.{packing, cell_attributes}
-use Rattle.flash_device.specs.Device.{Device}
 use Rattle.flash_device.specs.Pages.{Pages}
 use Rattle.flash_device.specs.Regions.{Range, LiesIn, LiesOn, bytes_in}
 use Rattle.cbfs_walk.specs.Walks.{Passes, StandsIn}
@@ -111,7 +110,7 @@ first_after-drop (suc skip) tag at [] = refl
 first_after-drop (suc skip) tag at (b ∷ y) = first_after-drop skip tag (at + 1) y ∙ ap (λ k. first_in tag k (drop skip y)) {x = at + 1 + skip} {y = at + suc skip} (omega arith)
 
 first_later : (n tag at b : ℕ) (y : List ℕ) → 0 < n → first_after (pred n) tag (at + 1) y ≡ first_in tag (at + n) (drop n (b ∷ y))
-first_later v0 tag at b y some = grind (arith, common_steps, first_after-drop)
+first_later n tag at b y some = grind (arith, common_steps, first_after-drop)
 
 pub first_by : (tag at : ℕ) (l : declared.Listed) (y : List ℕ) → l ≡ listed_in y → first_in tag at y ≡ by_tag tag at l (λ n. first_in tag (at + n) (drop n y))
 unfolding first_after

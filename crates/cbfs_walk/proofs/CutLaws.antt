@@ -2,7 +2,6 @@
 use Rattle.std.proofs.Common.{◌≡◌, ℕ, ◌+◌, ◌<◌, ◌≤◌, Bool, true, false, cond, List, [], ◌∷◌, length, drop, Some, None, Result, Ok, Err, refl, sym, ap, subst, ◌∙◌, arith, eqb, length-take, length-drop, not, ◌&&◌}
 use Rattle.std.specs.Prelude.{slice_range, is_some}
 use Rattle.std.proofs.lemmas.List.{drop-drop}
-use Rattle.std.proofs.lemmas.Bool.{eqb-true, and_parts}
 use Rattle.std.proofs.lemmas.Grind.{common_steps}
 use Rattle.flash_format.specs.declared.head.Head.{Head}
 use Rattle.flash_format.specs.declared.head.Extent.{Extent}
@@ -17,7 +16,7 @@ use Rattle.flash_format.proofs.Fronts.{head_of-take, range-take}
 use Rattle.flash_device.specs.Regions.{bytes_in}
 use Rattle.cbfs_walk.specs.Cells.{IsCellIn, cell_in}
 use Rattle.cbfs_walk.specs.Shapes.{has_bad_size, is_absent, refused_or}
-use Rattle.cbfs_walk.specs.Walks.{StepResult, answer_at, answer_by, StandsIn}
+use Rattle.cbfs_walk.specs.Walks.{answer_at, answer_by, StandsIn}
 use Rattle.cbfs_walk.specs.Laws.{GoesOn, WalksFollowTheCut, CellsStandInTheirImage}
 use Rattle.cbfs_walk.specs.declared.cell.Cell.{Cell}
 use Rattle.cbfs_walk.specs.declared.walk.Step.TheVariants as steps
@@ -26,7 +25,7 @@ use Rattle.cbfs_walk.proofs.Checks.{IsGood, checks_give, checked_extent}
 use Rattle.cbfs_walk.proofs.Parts.{range_is, range-drop, part-in, length-region}
 
 none_first : (at : ℕ) (e : Entry) → (eqb at 0 && is_absent e) ≡ true → (at ≡ 0) × (e ≡ absent)
-none_first at v1 z = grind (arith, common_steps)
+none_first at e z = grind (arith, common_steps)
 
 -- the cell, and the later cut
 pub cut_at : (x : List ℕ) (at span : ℕ) → 0 < length (drop at x) → entry (drop at x) ≡ cell span → cut (drop at x) ≡ after (slice_range x at (at + span) ∷ []) (cut (drop (at + span) x))

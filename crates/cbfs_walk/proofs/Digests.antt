@@ -1,21 +1,18 @@
 -- The digest of a content, and the first hash attribute.
 use Rattle.std.proofs.lemmas.Grind.{common_steps}
-use Rattle.std.proofs.Common.{◌≡◌, ℕ, ◌+◌, ◌-◌, ◌<◌, ◌≤◌, Bool, true, false, cond, IsTrue, List, ◌++◌, take, drop, length, Option, Some, None, Ok, refl, sym, subst, ap, ◌∙◌, arith, ltb, le_refl}
+use Rattle.std.proofs.Common.{◌≡◌, ℕ, ◌+◌, ◌-◌, ◌<◌, ◌≤◌, true, false, cond, IsTrue, List, ◌++◌, take, drop, length, Option, Some, None, Ok, sym, ap, ◌∙◌, arith, ltb, le_refl}
 use Rattle.std.specs.Prelude.{slice_range, IfSome, option_and_then}
-use Rattle.std.specs.Str.{bytes_eq}
 use Rattle.std.proofs.lemmas.Bool.{lt-ltb, le-ltb}
 use Rattle.byteorder.specs.Endian.{big_number}
 use Rattle.sha2.proofs.Facts256.{length-sha256}
 use Rattle.sha2.proofs.Facts512.{length-sha512}
 use Rattle.flash_format.specs.declared.digest.Algorithm.{Algorithm}
-use Rattle.flash_format.specs.declared.digest.Algorithm.TheVariants as algorithms
 use Rattle.flash_format.specs.declared.digest.Digest.{Digest}
 use Rattle.flash_format.specs.declared.head.Head.{Head}
 use Rattle.flash_format.specs.Head.{be32}
 use Rattle.flash_format.specs.Entry.{data_of, HASH}
 use Rattle.flash_format.specs.Components.{cell_attributes, cell_content}
 use Rattle.std.proofs.lemmas.List.{take-append-drop}
-use Rattle.flash_device.specs.Device.{Device}
 use Rattle.flash_device.specs.Pages.{Pages}
 use Rattle.flash_device.specs.Regions.{Range, LiesIn, bytes_in}
 use Rattle.cbfs_walk.specs.Walks.{Passes, StandsIn}
@@ -24,7 +21,6 @@ use Rattle.cbfs_walk.specs.AttrWalks.{IsAttrOf, Placed, searched_to}
 use Rattle.cbfs_walk.specs.Hashes.{hashed_by, digest_by, stored_digest, comparison, state_by, hash_state, content_at, hash_state_in, IsUncompared}
 use Rattle.cbfs_walk.specs.declared.cell.Cell.{Cell}
 use Rattle.cbfs_walk.specs.declared.hashes.HashState.{HashState}
-use Rattle.cbfs_walk.specs.declared.hashes.HashState.TheVariants.{Valid, Invalid}
 use Rattle.flash_format.specs.Made.{algorithm, algorithm_row, algorithm_numbered, digest_with, digest_bytes, digest_len}
 use Rattle.cbfs_walk.proofs.Parts.{length-region, range-inner, range-take, range-after, length-range}
 use Rattle.cbfs_walk.proofs.ReadSequences.{Passes-then}
@@ -98,11 +94,11 @@ content_taken x c from at begins ends = ap (λ k. slice_range x k at) begins ∙
 -- the algorithm's row
 pub algorithm-hashed : (a : Algorithm) (bytes : List ℕ) → algorithm (hashed_by a bytes) ≡ a
 unfolding hashed_by
-algorithm-hashed v0 bytes = grind (arith, common_steps)
+algorithm-hashed a bytes = grind (arith, common_steps)
 
 pub length-hashed : (a : Algorithm) (bytes : List ℕ) → length (digest_bytes (hashed_by a bytes)) ≡ digest_len (hashed_by a bytes)
 unfolding hashed_by
-length-hashed v0 bytes = grind (arith, common_steps, length-sha256, length-sha512)
+length-hashed a bytes = grind (arith, common_steps, length-sha256, length-sha512)
 
 -- ---- the first hash attribute
 

@@ -1,16 +1,16 @@
 -- Consecutive reads.
 use Rattle.std.proofs.lemmas.Grind.{common_steps}
-use Rattle.std.proofs.Common.{◌≡◌, ℕ, ◌+◌, ◌-◌, ◌*◌, ◌<◌, ◌≤◌, Result, Ok, Err, ◌∙◌, refl, arith, le_refl}
-use Rattle.std.specs.Prelude.{IfOk, IsOk, length}
-use Rattle.flash_device.specs.Device.{Device, refusals}
+use Rattle.std.proofs.Common.{◌≡◌, ℕ, ◌+◌, ◌-◌, ◌*◌, ◌<◌, ◌≤◌, Result, refl, arith, le_refl}
+use Rattle.std.specs.Prelude.{IfOk}
+use Rattle.flash_device.specs.Device.{refusals}
 use Rattle.flash_device.specs.Pages.{Pages, HasAnswered, HasSeen}
 use Rattle.flash_device.specs.Regions.{Range, LiesOn}
 use Rattle.flash_device.specs.Scans.{ScansTo, SpendsTo}
-use Rattle.flash_device.proofs.WindowLemmas.{ScansTo-none, ScansTo-on, SpendsTo-on, ScansTo-more, SpendsTo-more, ScansTo-then, SpendsTo-then, ScansTo-spends, SpendsTo-reads}
+use Rattle.flash_device.proofs.WindowLemmas.{ScansTo-none, ScansTo-on, SpendsTo-on, ScansTo-then, SpendsTo-then, ScansTo-spends, SpendsTo-reads}
 use Rattle.cbfs_walk.specs.Walks.{Passes, reads_over}
 
 pub IfOk-to : {E : Type 0} (result : Result ℕ E) (v w : ℕ) → v ≡ w → IfOk result (λ x. x ≡ v) → IfOk result (λ x. x ≡ w)
-IfOk-to v0 v w same told = grind (arith, common_steps)
+IfOk-to result v w same told = grind (arith, common_steps)
 
 -- ---- reads in order
 

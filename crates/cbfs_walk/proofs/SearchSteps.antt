@@ -1,13 +1,13 @@
 -- The search for a component, cell by cell.
 use Rattle.std.proofs.lemmas.Grind.{common_steps}
-use Rattle.std.proofs.Common.{◌≡◌, ℕ, ◌+◌, ◌-◌, ◌/◌, ◌%◌, ◌≤◌, Bool, true, false, cond, not, ◌&&◌, ◌⊎◌, inl, inr, IsTrue, List, ◌∷◌, length, Option, Some, None, Result, Ok, Err, refl, sym, ap, ◌∙◌, arith}
+use Rattle.std.proofs.Common.{◌≡◌, ℕ, ◌+◌, ◌/◌, ◌%◌, ◌≤◌, Bool, true, false, cond, not, ◌&&◌, ◌⊎◌, inl, inr, IsTrue, List, length, Option, Some, None, Result, Ok, Err, refl, sym, ap, ◌∙◌, arith}
 use Rattle.std.specs.Prelude.{IsErrOf}
 use Rattle.std.specs.Str.{bytes_eq}
 use Rattle.flash_format.specs.declared.head.Head.{Head}
 use Rattle.flash_format.specs.Head.{head_of, is_free}
 use Rattle.flash_format.specs.Cut.{Cut}
-use Rattle.flash_format.specs.Components.{Component, cell_name, component_at, components_from}
-use Rattle.flash_device.specs.Device.{Device, fault_count}
+use Rattle.flash_format.specs.Components.{cell_name, component_at, components_from}
+use Rattle.flash_device.specs.Device.{fault_count}
 use Rattle.flash_device.specs.Pages.{Pages, HasRead}
 use Rattle.flash_device.specs.Regions.{Range, LiesOn, bytes_in}
 use Rattle.cbfs_walk.specs.Walks.{reads_over, StepResult, Walking, walk_of, answer_at, StandsIn, GivesCell, reads_at, by_device, walk_after}
@@ -24,7 +24,7 @@ use Rattle.flash_device.proofs.WindowLemmas.{HasRead-none, HasRead-then, HasRead
 use Rattle.cbfs_walk.proofs.Parts.{length-region}
 use Rattle.cbfs_walk.proofs.CutLaws.{standing, cell_head, cell_len}
 use Rattle.cbfs_walk.proofs.Shapes.{shaped_step}
-use Rattle.cbfs_walk.proofs.StepResults.{IsLast, last_reads}
+use Rattle.cbfs_walk.proofs.StepResults.{IsLast}
 
 refused : WalkFault → Found
 refused fault = Err fault
@@ -77,7 +77,7 @@ searching_start r name old = record {
 }
 
 told_step : (s : Step) (b : StepResult) → (let a : StepResult = Ok s in IsErrOf a faults.Device ⊎ (a ≡ b)) → Ok s ≡ b
-told_step s b v2 = grind (arith, common_steps)
+told_step s b it = grind (arith, common_steps)
 
 cell_is : (at span : ℕ) (h k : Head) (n : ℕ) → h ≡ k → n ≡ span → (let a : Cell = record { at = at; head = h; span = n } in a) ≡ record { at = at; head = k; span = span }
 cell_is at span h k n e f = ap (λ (j : Head). let a : Cell = record { at = at; head = j; span = n } in a) e ∙ ap (λ m. let a : Cell = record { at = at; head = k; span = m } in a) f
@@ -163,7 +163,7 @@ module _ {F : Type 0} (r : Range) (name : List ℕ) (w : Walking) (old now : Pag
 
   refusal : (fault : WalkFault) → found_cell (found_by (bytes_in r old.device.content) name (Err fault)) ≡ Err fault
   unfolding found_by find_cut components_from refused
-  refusal v0 = grind (arith, common_steps)
+  refusal fault = grind (arith, common_steps)
 
   pub searching_err : (fault : WalkFault) → (answer : IsTrue now.device.honest → w.ended ≡ None → (let a : StepResult = Err fault in IsErrOf a faults.Device ⊎ (a ≡ answer_at (bytes_in w.region now.device.content) w.at)))
       → IsTrue old.device.honest → (let a : Result (Option Cell) WalkFault = Err fault in IsErrOf a faults.Device ⊎ (a ≡ found_cell (component_in (bytes_in r old.device.content) name)))

@@ -1,17 +1,16 @@
 -- A walk's result at a position, by the entry.
-use Rattle.std.proofs.Common.{◌≡◌, ℕ, ◌-◌, ◌%◌, ◌<◌, ◌≤◌, Some, Bool, true, false, cond, not, ◌&&◌, ◌⊎◌, inl, inr, List, length, drop, Ok, Err, refl, sym, ap, ◌∙◌, arith, eqb, length-drop, true≢false, le_refl}
-use Rattle.std.specs.Prelude.{is_some, IfOk, IsErrOf}
-use Rattle.std.proofs.lemmas.Bool.{eqb-true, ne_eqb, and_right}
+use Rattle.std.proofs.Common.{◌≡◌, ℕ, ◌-◌, ◌%◌, ◌<◌, ◌≤◌, Some, true, false, ◌&&◌, ◌⊎◌, inl, inr, List, length, drop, Ok, Err, refl, sym, ap, ◌∙◌, arith, eqb, length-drop, le_refl}
+use Rattle.std.specs.Prelude.{IfOk, IsErrOf}
+use Rattle.std.proofs.lemmas.Bool.{and_right}
 use Rattle.std.proofs.lemmas.Grind.{common_steps}
 use Rattle.flash_format.specs.declared.head.Head.{Head}
 use Rattle.flash_format.specs.declared.head.Extent.{Extent}
 use Rattle.flash_format.specs.declared.head.DamageKind.{DamageKind}
-use Rattle.flash_format.specs.declared.head.DamageKind.TheVariants as kinds
 use Rattle.flash_format.specs.Head.{head_of, is_free, extent_of}
-use Rattle.flash_format.specs.Entry.{attributes, Entry, absent, damaged, cell, entry, front, present, component, is_terminated, name_field, attribute_field}
+use Rattle.flash_format.specs.Entry.{Entry, absent, damaged, cell, entry, front, present, component}
 use Rattle.flash_format.proofs.CutSteps.{front_some}
 use Rattle.flash_format.proofs.EntryLaws.{present_by}
-use Rattle.flash_device.specs.Device.{Device, fault_count}
+use Rattle.flash_device.specs.Device.{fault_count}
 use Rattle.flash_device.specs.Pages.{Pages, HasRead}
 use Rattle.flash_device.specs.Regions.{Range}
 use Rattle.flash_device.proofs.WindowLemmas.{HasRead-within}
@@ -28,9 +27,6 @@ use Rattle.cbfs_walk.specs.declared.walk.WalkFault.TheVariants as faults
 pub good_size : (size : ℕ) → false ≡ has_bad_size size → size % 64 ≡ 0
 good_size size e = grind (arith, common_steps)
 
-pub good_some : (size : ℕ) → false ≡ has_bad_size size → size ≡ 0 → ⊥
-good_some size e z = true≢false (sym (e ∙ ap has_bad_size z))
-
 pub answer_shape : (x : List ℕ) (at size : ℕ) → length x ≡ size → true ≡ has_bad_size size → Err faults.RegionShape ≡ answer_at x at
 unfolding answer_at
 answer_shape x at size len bad = rw (len, ← bad) refl
@@ -38,10 +34,6 @@ answer_shape x at size len bad = rw (len, ← bad) refl
 pub answer_end : (x : List ℕ) (at size : ℕ) → length x ≡ size → false ≡ has_bad_size size → at ≡ size → Ok steps.End ≡ answer_at x at
 unfolding answer_at
 answer_end x at size len good end = grind (arith, common_steps)
-
--- the region's first entry
-first_entry : (x : List ℕ) (at : ℕ) (e : Entry) → e ≡ entry (drop at x) → (eqb at 0 && is_absent (entry x)) ≡ (eqb at 0 && is_absent e)
-first_entry x at e is = grind (arith, common_steps)
 
 pub answer_entry : (x : List ℕ) (at size : ℕ) (e : Entry) → length x ≡ size → false ≡ has_bad_size size → at < size → e ≡ entry (drop at x) → (eqb at 0 && is_absent e) ≡ false
     → answer_by (drop at x) at e ≡ answer_at x at
@@ -100,13 +92,13 @@ cell_gives size c (Ok step) is good aligned inside told =
 -- ---- an ended walk
 
 pub ends_faultless : (a : StepResult) → EndsWalk a → fault_count by_device a ≡ 0
-ends_faultless v0 e = grind (arith, common_steps)
+ends_faultless a e = grind (arith, common_steps)
 
 pub ends_cell : (size at : ℕ) (a : StepResult) → EndsWalk a → GivesCell size at a
-ends_cell size at v2 e = grind (arith, common_steps)
+ends_cell size at a e = grind (arith, common_steps)
 
 pub ends_moved : (w : Walking) (a : StepResult) → EndsWalk a → w.ended ≡ Some a → w ≡ walk_after w a
-ends_moved w v1 e is = grind (arith, common_steps)
+ends_moved w a e is = grind (arith, common_steps)
 
 -- ---- the last steps of a walk
 
@@ -114,4 +106,4 @@ abbrev pub IsLast : Step → Type 0
 IsLast step = ((at : ℕ) × (step ≡ steps.Tail at)) ⊎ (step ≡ steps.End)
 
 pub last_reads : (step : Step) (size at : ℕ) → IsLast step → reads_at size at (Ok step) ≡ reads_over (size - at)
-last_reads step size at v3 = grind (arith, common_steps)
+last_reads step size at it = grind (arith, common_steps)

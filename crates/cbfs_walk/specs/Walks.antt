@@ -1,6 +1,6 @@
 -- Walks over the cells of a region, and ordered reads.
 use Rattle.std.specs.Prelude.{◌≡◌, ℕ, ◌+◌, ◌-◌, ◌/◌, List, Result, IfOk, length, drop, Option, Some, None, Ok, Err, ◌==◌, if◌then◌else◌, ⊤}
-use Rattle.flash_device.specs.Device.{Device, refusals}
+use Rattle.flash_device.specs.Device.{refusals}
 use Rattle.flash_device.specs.Pages.{Pages, HasRead, OnHonestIn}
 use Rattle.flash_device.specs.Regions.{Range}
 use Rattle.flash_device.specs.Scans.{ScansTo, SpendsTo}

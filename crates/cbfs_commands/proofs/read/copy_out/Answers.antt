@@ -1,12 +1,9 @@
 use Rattle.std.proofs.lemmas.Grind.{common_steps}
-use Rattle.std.proofs.Common.{◌≡◌, ℕ, ◌+◌, inl, inr, List, Option, Err, refl, subst, arith}
+use Rattle.std.proofs.Common.{◌≡◌, ℕ, ◌+◌, List, Option, Err, arith}
 use Rattle.std.specs.Prelude.{slice_range}
 use Rattle.std.specs.Result.{IsErrAnd}
 use Rattle.flash_device.specs.Pages.{HasCopiedOut, Pages}
-use Rattle.flash_device.specs.Device.{Device}
 use Rattle.flash_device.specs.declared.paged.CopyFault.{CopyFault}
-use Rattle.flash_device.specs.declared.paged.CopyFault.TheVariants as copy
-use Rattle.cbfs_commands.specs.declared.refusal.Refusal.TheVariants as refusals
 use Rattle.cbfs_commands.specs.Refusals.{copy_refusal}
 use Rattle.cbfs_commands.specs.Printouts.{CommandResult, HasOutput, shows}
 use Rattle.cbfs_commands.proofs.OutputParts.{handed}
@@ -16,7 +13,7 @@ module _ {F W : Type 0} {contents : W → Option (List ℕ)} {faults : W → ℕ
   -- an interrupted copy writes a prefix
   stopped : (fault : CopyFault) → HasCopiedOut {T = Unit {0}} contents faults k at n old new a b (Err fault) → IsErrAnd answer (λ r. r ≡ copy_refusal fault)
       → HasOutput contents faults k old new a b answer (λ image. shows (slice_range image at (at + n)))
-  stopped v0 copied is = grind (arith, common_steps, handed)
+  stopped fault copied is = grind (arith, common_steps, handed)
 
 pub returns-in_err-copy_out : goal.returns-in_err-copy_out
 returns-in_err-copy_out g c = stopped c.in_err-copy_out.field-0.0 c.in_err-copy_out.ensures.after c.from_residual.ensures.1

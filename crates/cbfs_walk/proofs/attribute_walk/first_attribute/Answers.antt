@@ -1,5 +1,5 @@
 use Rattle.std.proofs.lemmas.Grind.{common_steps}
-use Rattle.std.proofs.Common.{ap, ◌∙◌, ◌+◌, arith, refl, le_refl, rules}
+use Rattle.std.proofs.Common.{ap, ◌∙◌, ◌+◌, arith, le_refl, rules}
 use Rattle.std.proofs.lemmas.Bool.{eq-eqb, ne_eqb}
 use Rattle.std.proofs.lemmas.Result.{err_from_is_err_and}
 use Rattle.cbfs_walk.specs.AttrWalks.{first_in}

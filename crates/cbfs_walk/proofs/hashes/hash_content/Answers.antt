@@ -1,6 +1,5 @@
 use Rattle.std.proofs.lemmas.Grind.{common_steps}
-use Rattle.std.proofs.Common.{arith, ◌+◌, rules}
-use Rattle.flash_device.specs.Regions.{bytes_in}
+use Rattle.std.proofs.Common.{arith, rules}
 use Rattle.std.proofs.lemmas.Result.{err_from_is_err_and}
 use Rattle.cbfs_walk.proofs.ReadSequences.{Passes-within}
 use Rattle.cbfs_walk.proofs.AttributeScans.{scanned, lies_still}

@@ -1,6 +1,5 @@
 use Rattle.std.proofs.lemmas.Grind.{common_steps}
-use Rattle.std.proofs.Common.{arith, ap, ◌∙◌, length, rules}
-use Rattle.flash_device.specs.Regions.{bytes_in}
+use Rattle.std.proofs.Common.{arith, rules}
 use Rattle.cbfs_walk.proofs.Parts.{length-region}
 use Rattle.cbfs_walk.proofs.CellNames.{has_field, name_written, read_name}
 use Rattle.cbfs_walk.proofs.names.name.Goals as goal

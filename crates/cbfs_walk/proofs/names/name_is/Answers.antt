@@ -1,5 +1,5 @@
 use Rattle.std.proofs.lemmas.Grind.{common_steps}
-use Rattle.std.proofs.Common.{arith, inl, inr, ◌∙◌, rules}
+use Rattle.std.proofs.Common.{arith, ◌∙◌}
 use Rattle.flash_device.specs.Regions.{bytes_in}
 use Rattle.cbfs_walk.proofs.Parts.{length-region}
 use Rattle.cbfs_walk.proofs.CellNames.{has_field, name_compared, name_too_long}

@@ -1,6 +1,5 @@
 use Rattle.std.proofs.lemmas.Grind.{common_steps}
-use Rattle.std.proofs.Common.{arith, inr, le_refl, sym, drop}
-use Rattle.flash_device.specs.Regions.{bytes_in}
+use Rattle.std.proofs.Common.{arith, inr, le_refl, sym}
 use Rattle.cbfs_walk.proofs.Checks.{checks_give}
 use Rattle.cbfs_walk.proofs.ReadSequences.{Passes-none, Passes-within}
 use Rattle.cbfs_walk.proofs.StepResults.{answer_free, answer_damaged, answer_whole}

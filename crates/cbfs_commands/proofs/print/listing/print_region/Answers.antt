@@ -1,6 +1,5 @@
 use Rattle.std.proofs.lemmas.Grind.{common_steps}
 use Rattle.std.proofs.Common.{Ok, Err, arith, refl}
-use Rattle.flash_device.specs.Regions.{bytes_in}
 use Rattle.cbfs_commands.proofs.PrintSteps.{print_region-from, printed-done, printed-failed, printed-more, printed-stops}
 use Rattle.cbfs_commands.proofs.OutputParts.{so_far-none}
 use Rattle.cbfs_commands.proofs.print.listing.print_region.Goals as goal
