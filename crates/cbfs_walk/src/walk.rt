@@ -215,8 +215,7 @@ fn damage_in<F: Flash>(
     head: &Head,
 ) -> Result<Option<DamageKind>, FlashFault>
     requires reach { Reaches region (at + head.now.offset) paged.old.device }
-    requires room { 24 ≤ name_end head.now }
-    requires placed { name_end head.now ≤ head.now.offset }
+    requires name { (24 ≤ name_end head.now) × (name_end head.now ≤ head.now.offset) }
 
     ensures passes { HasPassed region at (at + head.now.offset) paged.old paged.new result }
     ensures damage { OnHonestIn paged.old.device region (λ x. IfOk result (λ damage.

@@ -26,11 +26,9 @@ const MAP_AREA: &[u8] = b"FMAP";
 pub fn create_size<S: Source>(source: &mut S) -> Result<u32, Refusal>
     ensures calls { Reads 1 (fault_count by_source result) (S.facts source.old)
         (S.facts source.new) }
-    ensures refusals { IfErr result (λ refusal.
-        (refusal ≡ Refusal.Source) ⊎ (refusal ≡ Refusal.TableBad)) }
-    ensures size { IsTrue (S.facts source.old).honest
-        → IsErrOf result Refusal.Source ⊎ (result ≡ ok_or
-        (option_map (λ head. head.size) (map_head (S.facts source.old).content)) Refusal.TableBad) }
+    ensures refusals { IfErr result (λ r. (r ≡ Refusal.Source) ⊎ (r ≡ Refusal.TableBad)) }
+    ensures size { IsTrue (S.facts source.old).honest → IsErrOf result Refusal.Source ⊎ (result ≡
+        ok_or (option_map (λ h. h.size) (map_head (S.facts source.old).content)) Refusal.TableBad) }
 {
     match map_in_source(source)? {
         Some(head) => Ok(head.size),

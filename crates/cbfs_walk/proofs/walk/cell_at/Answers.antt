@@ -8,11 +8,8 @@ use Rattle.cbfs_walk.proofs.walk.cell_at.Goals as goal
 pub damage_in-requires-clause-reach : goal.damage_in-requires-clause-reach
 damage_in-requires-clause-reach g c = let k = checks_give _ _ _ c.requires.cell in record { region = c.requires.region; inside = omega (arith, k.room, k.inside) }
 
-pub damage_in-requires-clause-room : goal.damage_in-requires-clause-room
-damage_in-requires-clause-room g c = (checks_give _ _ _ c.requires.cell).name_low (sym c.if-is_free.ensures)
-
-pub damage_in-requires-clause-placed : goal.damage_in-requires-clause-placed
-damage_in-requires-clause-placed g c = (checks_give _ _ _ c.requires.cell).name_high (sym c.if-is_free.ensures)
+pub damage_in-requires-clause-name : goal.damage_in-requires-clause-name
+damage_in-requires-clause-name g c = let k = checks_give _ _ _ c.requires.cell in let used = sym c.if-is_free.ensures in (k.name_low used, k.name_high used)
 
 pub returns-then-is_free-clause-passes : goal.returns-then-is_free-clause-passes
 returns-then-is_free-clause-passes g c = Passes-within (Passes-none c.args.region c.args.cell.now.at _) (le_refl _) (omega arith)
