@@ -16,7 +16,7 @@ use Rattle.flash_format.specs.declared.flashmap.Area.{Area}
 use Rattle.flash_format.specs.declared.flashmap.FmapHead.{FmapHead}
 use Rattle.flash_format.proofs.PrintedLaws.{decimal_field, hexadecimal_field, name_field, same_decimals, same_hexadecimals, same_names, split}
 use Rattle.flash_format.proofs.TypeLaws.{compression_back, compression_is_word, is_word, read_back, type_is_word, word_is_field}
-use Rattle.cbfs_commands.specs.Laws.{HasAreaNumbers, HasMapNumbers, HasNumbers, HaveNumbers, shown_area, shown_cell, shown_cells, shown_map}
+use Rattle.cbfs_commands.specs.Laws.{HasAreaNumbers, HasMapNumbers, HasNumbers, HaveNumbers, area_values, row_values, listing_values, map_values}
 use Rattle.cbfs_commands.specs.Rows.{area_line, map_line, cell_row, row_text, rows_from}
 
 -- ---- names or numbers
@@ -105,7 +105,7 @@ same_details x y false false same fx fy names packings =
 same_details x y _ _ same fx fy names packings = absurd cc
 
 pub rows_read_back : (at other : ℕ) (x y more rest : List ℕ) → at < 2 ^ 64 → other < 2 ^ 64 → HasNumbers x → HasNumbers y
-    → cell_row at x ++ more ≡ cell_row other y ++ rest → (shown_cell at x ≡ shown_cell other y) × (more ≡ rest)
+    → cell_row at x ++ more ≡ cell_row other y ++ rest → (row_values at x ≡ row_values other y) × (more ≡ rest)
 rows_read_back at other x y more rest sat sother fx fy e =
     let p = is_free (head_of x) in
     let q = is_free (head_of y) in
@@ -122,7 +122,7 @@ some_row : (at : ℕ) (x more : List ℕ) → [] ≢ cell_row at x ++ more
 some_row at x more e = begun _ _ (e ∙ row_shape (is_free (head_of x)) at x more)
 
 pub listings_read_back : (at other : ℕ) (cells others : List (List ℕ)) → HaveNumbers at cells → HaveNumbers other others
-    → rows_from false at cells ≡ rows_from false other others → shown_cells at cells ≡ shown_cells other others
+    → rows_from false at cells ≡ rows_from false other others → listing_values at cells ≡ listing_values other others
 unfolding rows_from
 listings_read_back at other [] [] fits fits2 e = refl
 listings_read_back at other [] (y ∷ others) fits fits2 e = absurd (some_row other y _ (simp append-nil at e))
@@ -144,7 +144,7 @@ area_shape a more = simp append_assoc
 are_area_fields : (a : Area) → HasAreaNumbers a → Fields (area_fields a)
 are_area_fields a f = (name_field _, (hexadecimal_field _ f.0, (decimal_field _ f.1, (hexadecimal_field _ f.2, tt))))
 
-pub areas_read_back : (a b : Area) (more rest : List ℕ) → HasAreaNumbers a → HasAreaNumbers b → area_line a ++ more ≡ area_line b ++ rest → (shown_area a ≡ shown_area b) × (more ≡ rest)
+pub areas_read_back : (a b : Area) (more rest : List ℕ) → HasAreaNumbers a → HasAreaNumbers b → area_line a ++ more ≡ area_line b ++ rest → (area_values a ≡ area_values b) × (more ≡ rest)
 areas_read_back a b more rest fa fb e =
     let s = split_line (area_fields a) (area_fields b) more rest (are_area_fields a fa) (are_area_fields b fb) refl (sym (area_shape a more) ∙ e ∙ area_shape b rest) in
     let name = same_names (text_of a.name) (text_of b.name) (cc) in
@@ -156,7 +156,7 @@ areas_read_back a b more rest fa fb e =
 some_line : (a : Area) (more : List ℕ) → [] ≢ area_line a ++ more
 some_line a more e = begun _ _ (e ∙ area_shape a more)
 
-pub all_areas_read_back : (areas others : List Area) → All HasAreaNumbers areas → All HasAreaNumbers others → flat_map area_line areas ≡ flat_map area_line others → map shown_area areas ≡ map shown_area others
+pub all_areas_read_back : (areas others : List Area) → All HasAreaNumbers areas → All HasAreaNumbers others → flat_map area_line areas ≡ flat_map area_line others → map area_values areas ≡ map area_values others
 all_areas_read_back [] [] fits fits2 e = refl
 all_areas_read_back [] (b ∷ others) fits fits2 e = absurd (some_line b (flat_map area_line others) e)
 all_areas_read_back (a ∷ areas) [] fits fits2 e = absurd (some_line a (flat_map area_line areas) (sym e))
@@ -175,7 +175,7 @@ map_shape q h more = simp append_assoc
 are_map_fields : (q : ℕ) (h : FmapHead) → HasMapNumbers q h → Fields (map_fields q h)
 are_map_fields q h f = (refl, (hexadecimal_field q f.0, (name_field _, (decimal_field _ f.1, (decimal_field _ f.2, tt)))))
 
-pub maps_read_back : (q p : ℕ) (h k : FmapHead) (more rest : List ℕ) → HasMapNumbers q h → HasMapNumbers p k → map_line q h ++ more ≡ map_line p k ++ rest → (shown_map q h ≡ shown_map p k) × (more ≡ rest)
+pub maps_read_back : (q p : ℕ) (h k : FmapHead) (more rest : List ℕ) → HasMapNumbers q h → HasMapNumbers p k → map_line q h ++ more ≡ map_line p k ++ rest → (map_values q h ≡ map_values p k) × (more ≡ rest)
 maps_read_back q p h k more rest fh fk e =
     let s = split_line (map_fields q h) (map_fields p k) more rest (are_map_fields q h fh) (are_map_fields p k fk) refl (sym (map_shape q h more) ∙ e ∙ map_shape p k rest) in
     let place = same_hexadecimals q p fh.0 fk.0 (cc) in

@@ -78,54 +78,49 @@ pub record HasNumbers (x : List ℕ) : Type 0 where
   pub compression : packing (cell_attributes x) < 2 ^ 64
 
 -- offset, type, content length, and a component's name and compression
-abbrev pub shown_cell : ℕ → List ℕ → ℕ × ℕ × ℕ × Option (List ℕ × ℕ)
-shown_cell at x = (
-  at,
-  (head_of x).kind,
-  (head_of x).len,
-  if is_free (head_of x) then None
-      else Some (cell_name x, packing (cell_attributes x)),
-)
+abbrev pub row_values : ℕ → List ℕ → ℕ × ℕ × ℕ × Option (List ℕ × ℕ)
+row_values at x = let h = head_of x in
+    (at, h.kind, h.len, if is_free h then None else Some (cell_name x, packing (cell_attributes x)))
 
 abbrev pub HaveNumbers : ℕ → List (List ℕ) → Type 0
 HaveNumbers at [] = ⊤
 HaveNumbers at (x ∷ cells) = (at < 2 ^ 64) × HasNumbers x × HaveNumbers (at + length x) cells
 
 -- consecutive cells
-abbrev pub shown_cells : ℕ → List (List ℕ) → List (ℕ × ℕ × ℕ × Option (List ℕ × ℕ))
-shown_cells at [] = []
-shown_cells at (x ∷ cells) = shown_cell at x ∷ shown_cells (at + length x) cells
+abbrev pub listing_values : ℕ → List (List ℕ) → List (ℕ × ℕ × ℕ × Option (List ℕ × ℕ))
+listing_values at [] = []
+listing_values at (x ∷ cells) = row_values at x ∷ listing_values (at + length x) cells
 
 -- Different cells have different rows, for any later text, and different listings.
 pub record RowsAreReadBack : Type 0 where
   pub rows : (at other : ℕ) (x y more rest : List ℕ) → at < 2 ^ 64 → other < 2 ^ 64
       → HasNumbers x → HasNumbers y → cell_row at x ++ more ≡ cell_row other y ++ rest
-      → (shown_cell at x ≡ shown_cell other y) × (more ≡ rest)
+      → (row_values at x ≡ row_values other y) × (more ≡ rest)
   pub listings : (at other : ℕ) (cells others : List (List ℕ))
       → HaveNumbers at cells → HaveNumbers other others
       → rows_from false at cells ≡ rows_from false other others
-      → shown_cells at cells ≡ shown_cells other others
+      → listing_values at cells ≡ listing_values other others
 
 abbrev pub HasAreaNumbers : Area → Type 0
 HasAreaNumbers a = (a.offset < 2 ^ 64) × (a.size < 2 ^ 64) × (a.flags < 2 ^ 64)
 
 -- names up to the NUL
-abbrev pub shown_area : Area → List ℕ × ℕ × ℕ × ℕ
-shown_area a = (text_of a.name, a.offset, a.size, a.flags)
+abbrev pub area_values : Area → List ℕ × ℕ × ℕ × ℕ
+area_values a = (text_of a.name, a.offset, a.size, a.flags)
 
 abbrev pub HasMapNumbers : ℕ → FmapHead → Type 0
 HasMapNumbers q h = (q < 2 ^ 64) × (h.size < 2 ^ 64) × (h.nareas < 2 ^ 64)
 
-abbrev pub shown_map : ℕ → FmapHead → ℕ × List ℕ × ℕ × ℕ
-shown_map q h = (q, text_of h.name, h.size, h.nareas)
+abbrev pub map_values : ℕ → FmapHead → ℕ × List ℕ × ℕ × ℕ
+map_values q h = (q, text_of h.name, h.size, h.nareas)
 
 -- Different maps and areas have different lines, for any later text, and different layouts.
 pub record LinesAreReadBack : Type 0 where
   pub maps : (q p : ℕ) (h k : FmapHead) (more rest : List ℕ) → HasMapNumbers q h → HasMapNumbers p k
       → map_line q h ++ more ≡ map_line p k ++ rest
-      → (shown_map q h ≡ shown_map p k) × (more ≡ rest)
+      → (map_values q h ≡ map_values p k) × (more ≡ rest)
   pub areas : (a b : Area) (more rest : List ℕ) → HasAreaNumbers a → HasAreaNumbers b
-      → area_line a ++ more ≡ area_line b ++ rest → (shown_area a ≡ shown_area b) × (more ≡ rest)
+      → area_line a ++ more ≡ area_line b ++ rest → (area_values a ≡ area_values b) × (more ≡ rest)
   pub all_areas : (areas others : List Area) → All HasAreaNumbers areas → All HasAreaNumbers others
       → flat_map area_line areas ≡ flat_map area_line others
-      → map shown_area areas ≡ map shown_area others
+      → map area_values areas ≡ map area_values others
