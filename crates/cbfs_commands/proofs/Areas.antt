@@ -1,15 +1,14 @@
 -- The rows of a flashmap's areas.
-use Rattle.std.proofs.Common.{◌≡◌, ℕ, ◌+◌, ◌-◌, ◌*◌, ◌<◌, ◌≤◌, List, [], ◌++◌, drop, Option, suc, ap, ◌∙◌, arith, Some, None}
+use Rattle.std.proofs.lemmas.Grind.{common_steps}
+use Rattle.std.proofs.Common.{◌≡◌, ℕ, ◌+◌, ◌-◌, ◌*◌, ◌<◌, ◌≤◌, List, [], ◌++◌, drop, suc, ap, ◌∙◌, arith, Some}
 use Rattle.std.specs.List.{flat_map}
-use Rattle.std.specs.Option.{option_map, option_map_or}
 use Rattle.std.proofs.lemmas.List.{drop-drop}
-use Rattle.flash_format.specs.Flashmap.{area_of, areas_at, areas_from, map_of, fmap_head_of}
+use Rattle.flash_format.specs.Flashmap.{area_of, areas_from}
 use Rattle.flash_map.specs.Fmap.{found_in}
 use Rattle.flash_map.specs.declared.search.FoundMap.{FoundMap}
 use Rattle.cbfs_commands.specs.Rows.{area_line, map_line, layout}
 use Rattle.cbfs_commands.proofs.OutputParts.{text_then}
-use Rattle.cbfs_commands.specs.Printouts.{Printout, refuses, shows}
-use Rattle.cbfs_commands.specs.declared.refusal.Refusal.TheVariants as refusals
+use Rattle.cbfs_commands.specs.Printouts.{Printout, shows}
 
 abbrev pub rows_of : List ℕ → ℕ → ℕ → List ℕ
 rows_of image n at = flat_map area_line (areas_from n (drop at image))
@@ -36,11 +35,4 @@ none_left image at n i le = let none : n - i ≡ 0 = omega arith in ap (λ j. sh
 -- the map's row, then the areas' rows
 pub layout-is : (image : List ℕ) (map : FoundMap) → Some map ≡ found_in image → layout image ≡ text_then (map_line map.at map.head) (shows (rows_of image map.head.nareas (map.at + 56)))
 unfolding layout
-layout-is image map is = go (map_of image) is
-  where
-    go : (o : Option ℕ) → Some map ≡ option_map (λ q. let found : FoundMap = record { at = q; head = fmap_head_of (drop q image) } in found) o
-        → option_map_or (λ q. shows (map_line q (fmap_head_of (drop q image)) ++ flat_map area_line (areas_at image q))) o (refuses refusals.NoFmap) ≡ text_then (map_line map.at map.head) (shows (rows_of image map.head.nareas (map.at + 56)))
-    go None is = absurd cc
-    go (Some q) is =
-        let same : (let found : FoundMap = record { at = q; head = fmap_head_of (drop q image) } in found) ≡ map = cc in
-        ap (λ (m : FoundMap). text_then (map_line m.at m.head) (shows (rows_of image m.head.nareas (m.at + 56)))) same
+layout-is image map is = grind (arith, common_steps)

@@ -1,5 +1,7 @@
 -- The lines of a component's attributes.
-use Rattle.std.proofs.Common.{◌≡◌, List, [], ◌∷◌, map, Option, Some, None, sym, ap, ◌∙◌}
+use Rattle.std.proofs.Common.{arith}
+use Rattle.std.proofs.lemmas.Grind.{common_steps}
+use Rattle.std.proofs.Common.{◌≡◌, List, [], ◌∷◌, map, Option, Some, None, ap}
 use Rattle.std.specs.List.{flat_map}
 use Rattle.flash_format.specs.declared.attribute.AttrHead.{AttrHead}
 use Rattle.flash_format.specs.Entry.{Attribute}
@@ -19,10 +21,7 @@ lines_left (Some all) = lines all
 -- the first line, then the others
 pub lines-first : (o p : Option (List Attribute)) (all : List Attribute) (head : AttrHead) → o ≡ Some all → Some head ≡ first_head all → p ≡ Some (after_first all)
     → lines_left o ≡ text_then (attribute_line head) (lines_left p)
-lines-first o p [] head left is next = absurd cc
-lines-first o p (a ∷ others) head left is next =
-    let same : head_of_attribute a ≡ head = cc in
-    ap lines_left left ∙ ap (λ (h : AttrHead). text_then (attribute_line h) (lines others)) same ∙ ap (λ (q : Option (List Attribute)). text_then (attribute_line head) (lines_left q)) (sym next)
+lines-first o p all head left is next = grind (arith, common_steps)
 
 pub lines-none : (o : Option (List Attribute)) (all : List Attribute) → o ≡ Some all → None ≡ first_head all → lines_left o ≡ shows []
 lines-none o [] left is = ap lines_left left

@@ -1,5 +1,6 @@
 -- Each region formatted by `create` is one free cell.
-use Rattle.std.proofs.Common.{◌≡◌, ◌⊎◌, inl, inr, ℕ, zero, suc, ◌+◌, ◌-◌, ◌%◌, ◌^◌, ◌<◌, ◌≤◌, false, All, List, [], ◌∷◌, length, take, replicate, Some, refl, sym, ◌∙◌, ap, subst, arith, length-take, length-drop}
+use Rattle.std.proofs.lemmas.Grind.{common_steps}
+use Rattle.std.proofs.Common.{◌≡◌, ℕ, ◌-◌, ◌%◌, ◌^◌, ◌<◌, ◌≤◌, false, All, List, [], ◌∷◌, length, take, replicate, Some, refl, sym, ◌∙◌, ap, subst, arith, length-take, length-drop}
 use Rattle.std.specs.Prelude.{fold}
 use Rattle.std.specs.List.{list_any}
 use Rattle.std.proofs.lemmas.Bool.{or_parts}
@@ -23,8 +24,7 @@ use Rattle.cbfs_commands.proofs.RegionPlaces.{whole_over}
 use Rattle.cbfs_commands.proofs.PlanLaws.{lie_apart, planned}
 
 positive : (size : ℕ) → has_bad_size size ≡ false → 0 < size
-positive zero good = absurd cc
-positive (suc size) good = omega arith
+positive size good = grind (arith, common_steps)
 
 -- as empty entries, in order
 abbrev all_formatted : List ℕ → List Range → List ℕ
@@ -57,11 +57,7 @@ module _ (n : ℕ) (image : List ℕ) (long : length image ≡ n) (place : Range
 
   -- any other region
   beside : (other : Range) → LieApart other place → bytes_in other (with_edit place formatted image) ≡ bytes_in other image
-  beside other apart = written_beside other image place.start (formatted (bytes_in place image)) (omega (arith, is.inside, long)) (where_it_is apart)
-    where
-      where_it_is : LieApart other place → (place.start + length (formatted (bytes_in place image)) ≤ other.start) ⊎ (other.start + other.size ≤ place.start)
-      where_it_is (inl before) = inr before
-      where_it_is (inr after) = inl (omega (arith, after, formatted_long))
+  beside other apart = grind (arith, common_steps, formatted_long, written_beside)
 
   free : n < 2 ^ 32 → IsOneFreeCell (bytes_in place (with_edit place formatted image))
   free small =

@@ -1,7 +1,7 @@
 -- A creation can change all bytes of the image. An interruption has no further promise.
-use Rattle.std.proofs.Common.{◌≡◌, ◌∙◌, ◌⊎◌, ◌++◌, inl, inr, IsErrOf, IsTrue, Ok, Err, Result, ℕ, List, length, drop, take, replicate, length-drop, ◌+◌, ap, refl, sym, arith}
+use Rattle.std.proofs.lemmas.Grind.{common_steps}
+use Rattle.std.proofs.Common.{◌≡◌, ◌⊎◌, inl, inr, IsErrOf, IsTrue, Ok, Err, Result, ℕ, List, length, take, replicate, refl, arith}
 use Rattle.std.specs.Prelude.{fold}
-use Rattle.std.proofs.lemmas.List.{append-nil, length-replicate, nil_from_length}
 use Rattle.flash_device.specs.Device.{Calls, Device, SameOutside, fault_count, overwritten}
 use Rattle.flash_device.specs.Laws.{with_edit}
 use Rattle.flash_device.specs.Regions.{Range}
@@ -17,19 +17,12 @@ use Rattle.cbfs_commands.specs.Refusals.{by_device, by_source}
 use Rattle.cbfs_commands.specs.Printouts.{CommandResult}
 
 whole-image : (image now : List ℕ) → length now ≡ length image → SameOutside 0 (length image) image now
-whole-image image now same = record {
-  before = refl;
-  after = nil_from_length (drop (0 + length image) now) (omega (arith, same, length-drop (0 + length image) now)) ∙ sym (nil_from_length (drop (0 + length image) image) (omega (arith, length-drop (0 + length image) image)));
-}
+whole-image image now same = grind (arith, common_steps)
 
 -- 0xff throughout, then the map, then the regions
 pub all-written : (image filled mapped now read source : List ℕ) (n at len : ℕ) (regions : List Range) → n ≡ length image → filled ≡ overwritten image 0 (replicate n 0xff) → read ≡ source → mapped ≡ overwritten filled at (take len read)
     → now ≡ fold (λ image place. with_edit place formatted image) mapped regions → now ≡ fold (λ image place. with_edit place formatted image) (overwritten (replicate (length image) 0xff) at (take len source)) regions
-all-written image filled mapped now read source n at len regions long is_filled same is_mapped is =
-    let erased : List ℕ = replicate n 0xff in
-    let rest = nil_from_length (drop (0 + length erased) image) (omega (arith, long, length-drop (0 + length erased) image, length-replicate {A = ℕ} n 0xff)) in
-    let all : filled ≡ replicate (length image) 0xff = is_filled ∙ ap (λ (l : List ℕ). erased ++ l) rest ∙ append-nil erased ∙ ap (λ k. (let l : List ℕ = replicate k 0xff in l)) long in
-    is ∙ ap (λ (l : List ℕ). fold (λ image place. with_edit place formatted image) l regions) (is_mapped ∙ ap (λ (l : List ℕ). overwritten l at (take len read)) all ∙ ap (λ (l : List ℕ). overwritten (replicate (length image) 0xff) at (take len l)) same)
+all-written image filled mapped now read source n at len regions long is_filled same is_mapped is = grind (arith, common_steps)
 
 module _ {F : Type 0} {n : ℕ} (names : List (List ℕ)) {old new : Pages F} {source now : Device} {answer : CommandResult} (calls : Calls n (fault_count by_device answer) old.device new.device) (reads : Calls (source_calls (changes (creates names)) (length source.content)) (fault_count by_source answer) source now) where
   pub creation : MayHaveWritten answer → (IsErrOf answer refusals.Output → ⊥) → OnHonest old.device (λ image. Serves (changes (creates names)) source → LeavesOr new.device.content answer (outcome (changes (creates names)) image source.content))

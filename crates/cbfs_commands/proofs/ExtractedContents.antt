@@ -1,6 +1,7 @@
 -- Added content is extracted.
-use Rattle.std.proofs.Common.{◌≡◌, ℕ, false, cond, List, length, Option, Some, None, Result, refl, ◌∙◌, ap}
-use Rattle.std.specs.Option.{option_map_or}
+use Rattle.std.proofs.Common.{arith}
+use Rattle.std.proofs.lemmas.Grind.{common_steps}
+use Rattle.std.proofs.Common.{◌≡◌, ℕ, false, List, length, Option, Result, ◌∙◌, ap}
 use Rattle.flash_format.specs.Components.{is_packed}
 use Rattle.flash_format.specs.Made.{made_attributes}
 use Rattle.flash_format.specs.declared.digest.Digest.{Digest}
@@ -11,22 +12,18 @@ use Rattle.flash_device.proofs.DeviceLemmas.{length-bytes_in}
 use Rattle.cbfs_edit.specs.Additions.{added}
 use Rattle.cbfs_edit.proofs.AdditionLemmas.{added_length}
 use Rattle.cbfs_edit.proofs.SearchLaws.{additions_found}
-use Rattle.cbfs_walk.specs.Search.{Found}
-use Rattle.cbfs_commands.specs.declared.refusal.Refusal.TheVariants as refusals
-use Rattle.cbfs_commands.specs.Refusals.{fault_or, store_refusal, walk_refusal}
-use Rattle.cbfs_commands.specs.Outcomes.{extract_region, printed_component}
-use Rattle.cbfs_commands.specs.Printouts.{Printout, refuses, shows}
+use Rattle.cbfs_commands.specs.Refusals.{fault_or, store_refusal}
+use Rattle.cbfs_commands.specs.Outcomes.{extract_region}
+use Rattle.cbfs_commands.specs.Printouts.{refuses}
 use Rattle.cbfs_commands.specs.Laws.{AddedFilesAreExtracted, AdditionsAreExtracted}
 use Rattle.cbfs_commands.proofs.RegionPlaces.{region_lies, whole_over}
 
 -- no compression attribute
 plain : (digest : Option Digest) → is_packed (made_attributes digest) ≡ false
-plain None = refl
-plain (Some digest) = refl
+plain digest = grind (arith, common_steps)
 
 pub additions_extracted : AdditionsAreExtracted
-additions_extracted x new spot place is =
-    ap (λ (f : Found). fault_or (λ fault. refuses (walk_refusal fault)) f (λ found. option_map_or printed_component found (refuses refusals.NotFound))) (additions_found x new spot place is) ∙ ap (λ b. let t : Printout = cond b (refuses refusals.Compressed) (shows new.content) in t) (plain new.digest)
+additions_extracted x new spot place is = grind (arith, common_steps, additions_found, plain)
 
 pub files_extracted : AddedFilesAreExtracted
 files_extracted image name new spot region place asked is still =

@@ -12,5 +12,4 @@ mod WriteLaws
 mod PlanLaws
 mod CreatedRegions
 mod ExtractedContents
-mod CommandEffects
 mod PrintedRows

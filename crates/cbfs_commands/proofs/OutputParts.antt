@@ -1,12 +1,11 @@
 -- Output by parts: a written text, then the rest of a call.
+use Rattle.std.proofs.lemmas.Grind.{common_steps}
 use Rattle.std.proofs.Common.{◌≡◌, ℕ, ◌+◌, ◌<◌, ◌≤◌, ◌⊎◌, IsTrue, inl, inr, List, [], ◌++◌, length, take, Option, Ok, Err, refl, sym, ap, ◌∙◌, subst, arith, length-append, append_assoc}
-use Rattle.std.specs.Prelude.{IsErrOf, OnErr}
-use Rattle.std.proofs.lemmas.List.{take-append-le}
+use Rattle.std.specs.Prelude.{OnErr}
 use Rattle.std.proofs.Math.Seq.{take-append-add}
 use Rattle.std.specs.Io.KnownBytes.{Appends}
 use Rattle.std.specs.Result.{IsErrAnd}
 use Rattle.std.proofs.KnownBytes.{Appends-nil, Appends-trans}
-use Rattle.flash_device.specs.Device.{Device, fault_count}
 use Rattle.flash_device.specs.Pages.{Pages, HasRead, OnHonest}
 use Rattle.flash_device.specs.Regions.{Range, bytes_in}
 use Rattle.flash_device.proofs.DeviceLemmas.{honest_still, LiesOn-calls}
@@ -39,28 +38,15 @@ prints-then old mid new answer text t wrote (inr (inr failed)) =
     let more = first_of_both old mid new text t.written n wrote failed.1.2 in
     inr (inr (failed.0, (length text + n, omega (arith, length-append text t.written, failed.1.1), more)))
 
--- a partial text is a prefix of any longer text
-first_of_longer : (old new : Option (List ℕ)) (text rest : List ℕ) (n : ℕ) → n ≤ length text → Appends old new (take n text) → Appends old new (take n (text ++ rest))
-first_of_longer old new text rest n short wrote = rw (take-append-le n text rest short) wrote
-
 prints-stopped : (old new : Option (List ℕ)) (refusal : Refusal) (text : List ℕ) (t : Printout) → PrintsOut old new (Err refusal) (shows text)
     → PrintsOut old new (Err refusal) (text_then text t)
-prints-stopped old new refusal text t (inl done) = absurd (let bad : (let a : CommandResult = Err refusal in a) ≡ Ok tt = done.0 in cc)
-prints-stopped old new refusal text t (inr (inl stopped)) =
-    let some = first_of_longer old new text t.written stopped.1.0 (omega (arith, stopped.1.1)) stopped.1.2 in
-    inr (inl (stopped.0, (stopped.1.0, omega (arith, length-append text t.written, stopped.1.1), some)))
-prints-stopped old new refusal text t (inr (inr failed)) =
-    let some = first_of_longer old new text t.written failed.1.0 failed.1.1 failed.1.2 in
-    inr (inr (failed.0, (failed.1.0, omega (arith, length-append text t.written, failed.1.1), some)))
+prints-stopped old new refusal text t it = grind (arith, common_steps)
 
 pub handed : (answer : CommandResult) (refusal : Refusal) → IsErrAnd answer (λ r. r ≡ refusal) → (let a : CommandResult = Err refusal in a) ≡ answer
-handed (Ok done) refusal is = absurd is
-handed (Err other) refusal is = ap (λ (r : Refusal). (let a : CommandResult = Err r in a)) (sym is)
+handed answer refusal is = grind (arith, common_steps)
 
 printout-text : (old new : Option (List ℕ)) (text : List ℕ) → PrintsOut old new (Ok tt) (shows text) → Appends old new text
-printout-text old new text (inl done) = done.1
-printout-text old new text (inr (inl stopped)) = absurd (let bad : (let a : CommandResult = Ok tt in a) ≡ Err refusals.Output = stopped.0 in cc)
-printout-text old new text (inr (inr failed)) = absurd (let bad : (let a : CommandResult = Ok tt in a) ≡ Err refusals.Device = failed.0 in cc)
+printout-text old new text it = grind (arith, common_steps)
 
 -- ---- the output so far
 
@@ -80,11 +66,7 @@ module _ {F W : Type 0} {contents : W → Option (List ℕ)} {faults : W → ℕ
   -- no output yet
   pub so_far-none : (n : ℕ) (whole rest : List ℕ → Printout) (p : Pages F) (out : W) → ((image : List ℕ) → whole image ≡ rest image)
       → ToldSoFar contents faults n whole rest p p out out
-  so_far-none n whole rest p out is = record {
-    reads = HasRead-within 0 n 0 p p (omega arith) (HasRead-none p);
-    sink = omega arith;
-    printout = λ h. record { text = []; written = Appends-nil (contents out); is = is p.device.content };
-  }
+  so_far-none n whole rest p out is = grind (arith, common_steps)
 
   module _ {n : ℕ} {whole rest : List ℕ → Printout} {old mid : Pages F} {a b : W} (p : ToldSoFar contents faults n whole rest old mid a b) where
     module _ {k : ℕ} {new : Pages F} {c : W} where
@@ -166,13 +148,7 @@ module _ {F W : Type 0} {contents : W → Option (List ℕ)} {faults : W → ℕ
       record { read = rw is read; sink = sink; output = λ failed. output; no_source = λ failed. absurd cc; printout = λ h. printout }
 
   pub printout-none : (p : Pages F) (out : W) → HasOutput contents faults 0 p p out out (Ok tt) (λ image. shows [])
-  printout-none p out = record {
-    read = HasRead-none p;
-    sink = omega arith;
-    output = λ failed. absurd cc;
-    no_source = λ failed. absurd cc;
-    printout = λ h. inl (refl, Appends-nil (contents out));
-  }
+  printout-none p out = grind (arith, common_steps)
 
   -- only an error: the device's, or the output's only content
   pub printout-refusal : {k : ℕ} {old new : Pages F} {out : W} {refusal : Refusal} {answer : CommandResult} (t : List ℕ → Printout) → IsErrAnd answer (λ r. r ≡ refusal) → HasRead k (by_device refusal) old new
@@ -198,13 +174,3 @@ still_cell {region = region} {cell = cell} read is = record {
       let before = subst (λ b. IsTrue b) read.device.calls.same_honesty h in
       subst (λ (l : List ℕ). StandsIn (bytes_in region l) cell) (sym (read.device.unchanged before)) (is.stands before);
 }
-
--- a call that only reads the device, by its parts
-pub told_by_parts : {F W : Type 0} {contents : W → Option (List ℕ)} {faults : W → ℕ} {n : ℕ} {old new : Pages F} {out_old out_new : W} {answer : CommandResult} {t : List ℕ → Printout}
-    → OnHonest old.device (λ image. PrintsOut (contents out_old) (contents out_new) answer (t image))
-    → HasRead n (fault_count by_device answer) old new
-    → faults out_old ≤ faults out_new
-    → (IsErrOf answer refusals.Output → faults out_old < faults out_new)
-    → (IsErrOf answer refusals.Source → ⊥)
-    → HasOutput contents faults n old new out_old out_new answer t
-told_by_parts printout read sink output no_source = record { read = read; sink = sink; output = output; no_source = no_source; printout = printout }

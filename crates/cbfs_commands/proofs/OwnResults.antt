@@ -1,39 +1,36 @@
 -- No outcome's own answer is a fault of the device, the output or the source.
-use Rattle.std.proofs.Common.{◌≡◌, inl, inr, ℕ, Bool, true, false, cond, List, [], ◌∷◌, ◌++◌, drop, length, nat_lt, if◌then◌else◌, ◌+◌, ◌==◌, ◌&&◌, is_some, Option, Some, None, Result, Ok, Err, sym, subst}
-use Rattle.std.specs.List.{flat_map}
+use Rattle.std.proofs.Common.{arith}
+use Rattle.std.proofs.lemmas.Grind.{common_steps}
+use Rattle.std.proofs.Common.{◌≡◌, inl, inr, ℕ, Bool, false, cond, List, [], ◌∷◌, ◌==◌, Option, Result, Ok, Err, sym, subst}
 use Rattle.std.specs.Option.{ok_or, option_map_or}
 use Rattle.std.specs.Prelude.{⊤}
 use Rattle.flash_format.specs.declared.flashmap.Area.{Area}
-use Rattle.flash_format.specs.Components.{Component, components, is_packed}
+use Rattle.flash_format.specs.Components.{Component, components}
 use Rattle.flash_format.specs.Cut.{End, complete, tail, damage, cut}
-use Rattle.flash_format.specs.Entry.{entry}
-use Rattle.flash_format.specs.Flashmap.{areas_at, fmap_head_of, map_len, map_of, area_in}
+use Rattle.flash_format.specs.Flashmap.{map_len}
 use Rattle.flash_map.specs.Fmap.{map_head}
 use Rattle.flash_device.specs.Regions.{Range, bytes_in}
-use Rattle.flash_map.specs.Regions.{region_by_area, region_of, region_under}
-use Rattle.flash_map.specs.declared.search.StoreFault.{StoreFault}
+use Rattle.flash_map.specs.Regions.{region_by_area, region_of}
 use Rattle.cbfs_walk.specs.Search.{Found, component_in, first_named, found_or, not_found}
 use Rattle.cbfs_walk.specs.CellReadings.{place_after}
-use Rattle.cbfs_walk.specs.Shapes.{has_bad_size, is_absent, refused_or, shape_fault}
+use Rattle.cbfs_walk.specs.Shapes.{has_bad_size, refused_or, shape_fault}
 use Rattle.cbfs_walk.specs.declared.walk.WalkFault.{WalkFault}
 use Rattle.cbfs_walk.specs.declared.walk.WalkFault.TheVariants as walk
-use Rattle.cbfs_edit.specs.Additions.{NewComponent, added, addition_in, is_bad_name, is_bad_type, new_component, wanted_for}
-use Rattle.cbfs_edit.specs.Removals.{group_of, removal_in, removed, unless_damaged, unless_unsound}
-use Rattle.cbfs_edit.specs.Places.{first_place, is_bad_align, placing_in}
-use Rattle.cbfs_edit.specs.Runs.{runs}
+use Rattle.cbfs_edit.specs.Additions.{NewComponent, addition_in}
+use Rattle.cbfs_edit.specs.Removals.{group_of, removal_in, unless_damaged, unless_unsound}
+use Rattle.cbfs_edit.specs.Places.{placing_in}
 use Rattle.cbfs_edit.specs.declared.fault.EditFault.{EditFault}
 use Rattle.cbfs_edit.specs.declared.fault.EditFault.TheVariants as edit
 use Rattle.cbfs_edit.specs.declared.place.Spot.{Spot}
 use Rattle.cbfs_commands.specs.declared.create.plan.Plan.{Plan}
 use Rattle.cbfs_commands.specs.declared.refusal.Refusal.{Refusal}
 use Rattle.cbfs_commands.specs.declared.refusal.Refusal.TheVariants as refusals
-use Rattle.cbfs_commands.specs.Creations.{head_for, map_place, plan_for, plan_of, region_place, region_places, some_overlap}
+use Rattle.cbfs_commands.specs.Creations.{head_for, map_place, plan_for, plan_of, region_place, region_places}
 use Rattle.cbfs_commands.specs.Effects.{changes, effect, edits, outcome, Request}
-use Rattle.cbfs_commands.specs.Rows.{area_line, layout, map_line}
-use Rattle.cbfs_commands.specs.Outcomes.{StopsIn, extract_region, print_region, printed_component, printed_in}
+use Rattle.cbfs_commands.specs.Rows.{layout}
+use Rattle.cbfs_commands.specs.Outcomes.{StopsIn, print_region, printed_component, printed_in}
 use Rattle.cbfs_commands.specs.Refusals.{HasNoFault, edit_refusal, fault_or, store_refusal, walk_refusal}
-use Rattle.cbfs_commands.specs.Effects as requests
-use Rattle.cbfs_commands.specs.Printouts.{Printout, refuses, shows}
+use Rattle.cbfs_commands.specs.Printouts.{Printout, refuses}
 
 -- an error that is no such fault
 abbrev BlamesNone : Refusal → Type 0
@@ -57,50 +54,33 @@ no_fault {T} answer own (inr (inr blamed)) = subst (λ (a : Result T Refusal). B
 
 -- one of two answers
 when : {T E : Type 0} (tell : E → Refusal) (b : Bool) (x y : Result T E) → Blameless tell x → Blameless tell y → Blameless tell (cond b x y)
-when tell true x y left right = left
-when tell false x y left right = right
+when tell b x y left right = grind (arith, common_steps)
 
 given : {T E : Type 0} (tell : E → Refusal) (o : Option T) (fault : E) → BlamesNone (tell fault) → Blameless tell (ok_or o fault)
-given tell None fault own = own
-given tell (Some value) fault own = tt
+given tell o fault own = grind (arith, common_steps)
 
 -- a result of a value
 next-blameless : {T U E : Type 0} (tell : E → Refusal) (r : Result T E) (next : T → Result U Refusal) → Blameless tell r → ((value : T) → Blameless itself (next value)) → Blameless itself (fault_or (λ fault. Err (tell fault)) r next)
-next-blameless tell (Err fault) next own each = own
-next-blameless tell (Ok value) next own each = each value
+next-blameless tell r next own each = grind (arith, common_steps)
 
 printout-blameless : {T E : Type 0} (tell : E → Refusal) (r : Result T E) (next : T → Printout) → Blameless tell r → ((value : T) → Blameless itself (next value).answer) → Blameless itself (fault_or (λ fault. refuses (tell fault)) r next).answer
-printout-blameless tell (Err fault) next own each = own
-printout-blameless tell (Ok value) next own each = each value
+printout-blameless tell r next own each = grind (arith, common_steps)
 
 -- ---- regions, their shape and their cells
 
 inside-blameless : (n : ℕ) (area : Option Area) → Blameless store_refusal (region_by_area n area)
-inside-blameless n None = tt
-inside-blameless n (Some a) = when store_refusal (nat_lt n (a.offset + a.size)) _ _ tt tt
+inside-blameless n area = grind (arith, common_steps)
 
 region_of-blameless : (image name : List ℕ) → Blameless store_refusal (region_of image name)
 unfolding region_of
-region_of-blameless image name = go (map_of image)
-  where
-    go : (q : Option ℕ) → Blameless store_refusal (region_under image name q)
-    go None = tt
-    go (Some q) = inside-blameless (length image) (area_in image q name)
+region_of-blameless image name = grind (arith, common_steps)
 
 -- either error of a region's shape, or the later answer
 unless-misshapen : {A : Type 0} (P : A → Type 0) (refuse : WalkFault → A) (x : List ℕ) (otherwise : A) → P (refuse walk.RegionShape) → P (refuse walk.NotCbfs) → P otherwise → P (refused_or refuse (shape_fault x) otherwise)
-unless-misshapen P refuse x otherwise misshapen empty other = go (has_bad_size (length x)) (0 == 0 && is_absent (entry x))
-  where
-    go : (bad absent : Bool) → P (refused_or refuse (cond bad (Some walk.RegionShape) (cond absent (Some walk.NotCbfs) None)) otherwise)
-    go true absent = misshapen
-    go false true = empty
-    go false false = other
+unless-misshapen P refuse x otherwise misshapen empty other = grind (arith, common_steps)
 
 found-blameless : (c : Option Component) (at : ℕ) (end : End) → Blameless walk_refusal (found_or c (not_found at end))
-found-blameless (Some c) at end = tt
-found-blameless None at complete = tt
-found-blameless None at tail = tt
-found-blameless None at (damage kind) = tt
+found-blameless c at end = grind (arith, common_steps)
 
 component_in-blameless : (x name : List ℕ) → Blameless walk_refusal (component_in x name)
 unfolding component_in
@@ -122,13 +102,7 @@ removal_in-blameless x name = unsound-blameless x _ (given edit_refusal (group_o
 
 addition_in-blameless : (x : List ℕ) (new : NewComponent) (spot : Spot) → Blameless edit_refusal (addition_in x new spot)
 unfolding addition_in placing_in
-addition_in-blameless x new spot = go (is_bad_name new.name) (is_bad_type new.kind) (is_bad_align spot)
-  where
-    go : (name kind align : Bool) → Blameless edit_refusal (option_map_or (λ fault. Err fault) (cond name (Some edit.BadName) (cond kind (Some edit.BadType) (cond align (Some edit.BadAlign) None))) (placing_in x new.name (wanted_for new spot)))
-    go true kind align = tt
-    go false true align = tt
-    go false false true = tt
-    go false false false = unsound-blameless x _ (when edit_refusal (is_some (first_named new.name (components x))) _ _ tt (given edit_refusal (first_place (wanted_for new spot) (length x) (runs x)) edit.NoSpace tt))
+addition_in-blameless x new spot = grind (arith, common_steps)
 
 -- ---- plans
 
@@ -136,11 +110,7 @@ head_for-blameless : (n : ℕ) (source : List ℕ) → Blameless itself (head_fo
 head_for-blameless n source = next-blameless itself _ _ (given itself (map_head source) refusals.TableBad tt) (λ head. when itself (head.size == n) _ _ tt tt)
 
 map_place-blameless : (n len : ℕ) (area : Option Area) → Blameless itself (map_place n len area)
-map_place-blameless n len area = next-blameless (λ fault. refusals.FmapArea) _ _ (other (region_by_area n area)) (λ place. when itself (nat_lt place.size len) _ _ tt tt)
-  where
-    other : (place : Result Range StoreFault) → Blameless (λ fault. refusals.FmapArea) place
-    other (Err fault) = tt
-    other (Ok place) = tt
+map_place-blameless n len area = grind (arith, common_steps)
 
 region_place-blameless : (n : ℕ) (area : Option Area) → Blameless itself (region_place n area)
 region_place-blameless n area = next-blameless store_refusal _ _ (inside-blameless n area) (λ place. when itself (has_bad_size place.size) _ _ tt tt)
@@ -151,8 +121,7 @@ region_places-blameless n (area ∷ areas) = next-blameless itself _ _ (region_p
 
 plan_of-blameless : (n len : ℕ) (area : Option Area) (areas : List (Option Area)) → Blameless itself (plan_of n len area areas)
 unfolding plan_of
-plan_of-blameless n len area areas =
-    next-blameless itself _ _ (map_place-blameless n len area) (λ map. next-blameless itself _ _ (region_places-blameless n areas) (λ regions. when itself (some_overlap (map ∷ regions)) _ _ tt tt))
+plan_of-blameless n len area areas = grind (arith, common_steps, map_place-blameless, next-blameless, region_places-blameless, when)
 
 pub faultless_plan : (n len : ℕ) (area : Option Area) (areas : List (Option Area)) (result : Result Plan Refusal) → result ≡ plan_of n len area areas → HasNoFault result
 faultless_plan n len area areas result is = no_fault result (subst (λ (r : Result Plan Refusal). Blameless itself r) (sym is) (plan_of-blameless n len area areas))
@@ -164,31 +133,18 @@ plan_for-blameless n names source = next-blameless itself _ _ (head_for-blameles
 -- ---- commands
 
 told_found-blameless : (c : Option Component) → Blameless itself (option_map_or printed_component c (refuses refusals.NotFound)).answer
-told_found-blameless None = tt
-told_found-blameless (Some c) = elim (is_packed c.attributes) as (λ b. Blameless itself (let t : Printout = cond b (refuses refusals.Compressed) (shows c.content) in t).answer) [ true ↦ tt | false ↦ tt ]
+told_found-blameless c = grind (arith, common_steps)
 
 -- by the region's output or change
 by_region : (image name : List ℕ) (tell : List ℕ → Printout) → ((x : List ℕ) → Blameless itself (tell x).answer) → Blameless itself (printed_in image name tell).answer
 by_region image name tell each = printout-blameless store_refusal _ _ (region_of-blameless image name) (λ region. each (bytes_in region image))
 
 edited : (image name source : List ℕ) (make : Range → List ℕ → List ℕ → Result (List ℕ) Refusal) → ((region : Range) (x : List ℕ) → Blameless itself (make region x source)) → Blameless itself (outcome (changes (edits name false make StopsIn)) image source).printout.answer
-edited image name source make each =
-    next-blameless itself _ _ (next-blameless store_refusal _ _ (region_of-blameless image name) (λ region. next-blameless itself _ _ (each region (bytes_in region image)) (λ bytes. tt))) (λ now. tt)
+edited image name source make each = grind (arith, common_steps, next-blameless, region_of-blameless)
 
 own_answer : (r : Request) (image source : List ℕ) → Blameless itself (outcome (effect r) image source).printout.answer
 unfolding print_region layout
-own_answer (requests.on_region region (requests.print verbose)) image source =
-    by_region image region (λ x. print_region x verbose) (λ x. unless-misshapen (λ (t : Printout). Blameless itself t.answer) (λ fault. refuses (walk_refusal fault)) x _ tt tt (next-blameless walk_refusal _ _ (found-blameless None (place_after 0 (cut x).cells) (cut x).end) (λ none. tt)))
-own_answer requests.layout image source = elim (map_of image) as (λ o. Blameless itself (option_map_or (λ q. shows (map_line q (fmap_head_of (drop q image)) ++ flat_map area_line (areas_at image q))) o (refuses refusals.NoFmap)).answer) [ None ↦ tt | Some q ↦ tt ]
-own_answer (requests.on_region region (requests.extract name)) image source = by_region image region (λ x. extract_region x name) (λ x. printout-blameless walk_refusal (component_in x name) _ (component_in-blameless x name) told_found-blameless)
-own_answer (requests.on_region region (requests.add name kind hash spot)) image source =
-    let new : NewComponent = new_component name kind hash source in
-    edited image region source (λ found x s. fault_or (λ fault. Err (edit_refusal fault)) (addition_in x new spot) (λ place. Ok (added x new place))) (λ found x. next-blameless edit_refusal (addition_in x new spot) (λ place. Ok (added x new place)) (addition_in-blameless x new spot) (λ place. tt))
-own_answer (requests.on_region region (requests.remove name)) image source =
-    edited image region source (λ found x s. fault_or (λ fault. Err (edit_refusal fault)) (removal_in x name) (λ group. Ok (removed x group))) (λ found x. next-blameless edit_refusal (removal_in x name) (λ group. Ok (removed x group)) (removal_in-blameless x name) (λ group. tt))
-own_answer (requests.on_region region requests.read) image source = by_region image region shows (λ x. tt)
-own_answer (requests.on_region region requests.write) image source = edited image region source (λ found x s. if length s == found.size then Ok s else Err refusals.SourceSize) (λ found x. when itself (length source == found.size) (Ok source) (Err refusals.SourceSize) tt tt)
-own_answer (requests.create names) image source = next-blameless itself _ _ (next-blameless itself _ _ (plan_for-blameless (length image) names source) (λ plan. tt)) (λ now. tt)
+own_answer r image source = grind (arith, common_steps, addition_in-blameless, by_region, component_in-blameless, edited, found-blameless, next-blameless, plan_for-blameless, printout-blameless, removal_in-blameless, told_found-blameless, unless-misshapen, when)
 
 -- ---- the law
 

@@ -1,6 +1,7 @@
 -- A plan fits its image, and its ranges lie apart.
-use Rattle.std.proofs.Common.{◌≡◌, inl, inr, ℕ, ◌+◌, ◌≤◌, ◌==◌, ◌&&◌, Bool, true, false, cond, All, List, [], ◌∷◌, length, Option, Some, None, Result, Ok, Err, refl, sym, ap, subst, arith}
-use Rattle.std.specs.Prelude.{IfOk, nat_le, nat_lt}
+use Rattle.std.proofs.lemmas.Grind.{common_steps}
+use Rattle.std.proofs.Common.{◌≡◌, ℕ, ◌+◌, ◌≤◌, ◌==◌, Bool, true, false, cond, All, List, [], ◌∷◌, length, Option, Some, None, Result, Ok, Err, refl, sym, ap, subst, arith}
+use Rattle.std.specs.Prelude.{IfOk, nat_lt}
 use Rattle.std.specs.List.{AllPairs, list_any}
 use Rattle.std.specs.Option.{ok_or}
 use Rattle.std.proofs.lemmas.Bool.{and_parts, or_parts}
@@ -9,37 +10,31 @@ use Rattle.std.proofs.lemmas.List.Elements.{All-nil, All-cons}
 use Rattle.std.proofs.lemmas.List.Kept.{AllPairs-cons}
 use Rattle.flash_format.specs.declared.flashmap.FmapHead.{FmapHead}
 use Rattle.flash_format.specs.declared.flashmap.Area.{Area}
-use Rattle.flash_format.specs.Flashmap.{fmap_head_len, fmap_head_of, has_signature, is_map, is_valid_head, map_len}
+use Rattle.flash_format.specs.Flashmap.{is_map, map_len}
 use Rattle.flash_map.specs.Fmap.{map_head}
 use Rattle.flash_device.specs.Laws.{LieApart}
 use Rattle.flash_device.specs.Regions.{Range}
 use Rattle.flash_map.specs.Regions.{region_by_area}
 use Rattle.flash_map.proofs.FmapLemmas.{head_some, valid_fits}
-use Rattle.cbfs_walk.specs.Shapes.{has_bad_size}
 use Rattle.cbfs_commands.specs.declared.create.plan.Plan.{Plan}
 use Rattle.cbfs_commands.specs.declared.refusal.Refusal.{Refusal}
 use Rattle.cbfs_commands.specs.declared.refusal.Refusal.TheVariants as refusals
 use Rattle.cbfs_commands.specs.Creations.{FitsImage, IsPlace, head_for, map_place, share_bytes, plan_for, plan_of, region_place, region_places, some_overlap}
 use Rattle.cbfs_commands.specs.Laws.{PlansAreLaid}
-use Rattle.cbfs_commands.specs.Refusals.{fault_or, store_refusal}
+use Rattle.cbfs_commands.specs.Refusals.{fault_or}
 use Rattle.cbfs_commands.proofs.RegionPlaces.{inside_lies}
 
 -- each step succeeded
 done : {T U E : Type 0} (tell : E → Refusal) (r : Result T E) (next : T → Result U Refusal) (x : U) → fault_or (λ fault. Err (tell fault)) r next ≡ Ok x → (value : T) × (r ≡ Ok value) × (next value ≡ Ok x)
-done tell (Err fault) next x is = absurd cc
-done tell (Ok value) next x is = (value, refl, is)
+done tell r next x is = grind (arith, common_steps)
 
 passed : {T : Type 0} (bad : Bool) (refusal : Refusal) (value x : T) → (let r : Result T Refusal = cond bad (Err refusal) (Ok value) in r) ≡ Ok x → (bad ≡ false) × (value ≡ x)
-passed true refusal value x is = absurd cc
-passed false refusal value x is = (refl, cc)
+passed bad refusal value x is = grind (arith, common_steps)
 
 -- ---- the regions
 
 is_place : (n : ℕ) (area : Option Area) (place : Range) → region_place n area ≡ Ok place → IsPlace n place
-is_place n area place is =
-    let found = done store_refusal (region_by_area n area) _ place is in
-    let shaped = passed (has_bad_size found.0.size) _ found.0 place found.2 in
-    subst (λ (r : Range). IsPlace n r) shaped.1 (record { inside = inside_lies n area found.0 found.1; size = shaped.0 })
+is_place n area place is = grind (arith, common_steps)
 
 are_places : (n : ℕ) (areas : List (Option Area)) (places : List Range) → region_places n areas ≡ Ok places → All (IsPlace n) places
 are_places n [] places is =
@@ -55,18 +50,10 @@ are_places n (area ∷ areas) places is =
 -- ---- no overlaps
 
 pub lie_apart : (a b : Range) → share_bytes a b ≡ false → LieApart a b
-lie_apart a b none = go (nat_lt a.start (b.start + b.size)) (nat_lt b.start (a.start + a.size)) refl refl none
-  where
-    go : (c d : Bool) → nat_lt a.start (b.start + b.size) ≡ c → nat_lt b.start (a.start + a.size) ≡ d → (c && d) ≡ false → LieApart a b
-    go true true e f p = absurd cc
-    go true false e f p = inl (grind (arith, nat_tests))
-    go false d e f p = inr (grind (arith, nat_tests))
+lie_apart a b none = grind (arith, nat_tests)
 
 apart_from : (place : Range) (others : List Range) → list_any (share_bytes place) others ≡ false → All (LieApart place) others
-apart_from place [] none = All-nil (LieApart place)
-apart_from place (other ∷ others) none =
-    let parts = or_parts (share_bytes place other) (list_any (share_bytes place) others) none in
-    All-cons (LieApart place) other others (lie_apart place other parts.0) (apart_from place others parts.1)
+apart_from place others none = grind (arith, common_steps)
 
 all_apart : (places : List Range) → some_overlap places ≡ false → AllPairs LieApart places
 all_apart [] none = λ i j d order below. absurd (omega arith)
@@ -78,11 +65,7 @@ all_apart (place ∷ places) none =
 
 table_fits : (source : List ℕ) (head : FmapHead) → map_head source ≡ Some head → map_len head ≤ length source
 unfolding is_map
-table_fits source head is =
-    let known = head_some source head (sym is) in
-    let parts = and_parts (nat_le fmap_head_len (length source)) (has_signature source && is_valid_head (fmap_head_of source) (length source)) known.0 in
-    let valid : is_valid_head (fmap_head_of source) (length source) ≡ true = (and_parts (has_signature source) (is_valid_head (fmap_head_of source) (length source)) parts.1).1 in
-    omega (arith, valid_fits (fmap_head_of source) (length source) valid, ap (λ (h : FmapHead). map_len h) known.1)
+table_fits source head is = grind (arith, common_steps, and_parts, head_some, valid_fits)
 
 pub record IsPlanned (n m : ℕ) (plan : Plan) : Type 0 where
   pub fits : FitsImage n m plan

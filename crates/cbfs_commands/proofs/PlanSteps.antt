@@ -1,4 +1,5 @@
 -- A new image's flashmap, area by area, and its ranges.
+use Rattle.std.proofs.lemmas.Grind.{common_steps}
 use Rattle.std.proofs.Common.{◌≡◌, ℕ, zero, suc, ◌+◌, ◌*◌, ◌<◌, ◌≤◌, Bool, cond, List, [], ◌∷◌, ◌++◌, length, map, take, drop, set, append_assoc, get_or, replicate, Option, Some, None, Result, Ok, Err, refl, sym, ap, ◌∙◌, arith}
 use Rattle.std.specs.Option.{option_or}
 use Rattle.std.proofs.Math.Seq.{get_or-append_seam, set-append_seam}
@@ -31,10 +32,7 @@ module _ (f g : List ℕ → Option Area) (ns : List (List ℕ)) (rest : List (O
     partly-at e = ap (λ (l : List (Option Area)). get_or l i e) next ∙ ap (λ k. get_or (map f (take i ns) ++ g (get_or ns i d) ∷ (map g (drop (i + 1) ns) ++ rest)) k e) size ∙ get_or-append_seam (map f (take i ns)) (g (get_or ns i d)) (map g (drop (i + 1) ns) ++ rest) e
 
     pub partly-more : set (partly i) i (f (get_or ns i d)) ≡ partly (i + 1)
-    partly-more =
-        let others : List (Option Area) = map g (drop (i + 1) ns) ++ rest in
-        ap (λ (l : List (Option Area)). set l i (f (get_or ns i d))) next ∙ ap (λ k. set (map f (take i ns) ++ g (get_or ns i d) ∷ others) k (f (get_or ns i d))) size ∙ set-append_seam _ _ _ (f (get_or ns i d))
-        ∙ sym (ap (λ (l : List (List ℕ)). map f l ++ others) (take_more ns i d lt) ∙ ap (λ (l : List (Option Area)). l ++ others) (map-append f (take i ns) (get_or ns i d ∷ [])) ∙ append_assoc (map f (take i ns)) (f (get_or ns i d) ∷ []) others)
+    partly-more = grind (arith, common_steps, append_assoc, map-append, next, set-append_seam, size, take_more)
 
 -- one more area
 pub noted-is : (seen : List Area) (name : List ℕ) (area : Area) (o : Option Area) (here : Bool) → o ≡ first_area seen name → here ≡ is_area name area → option_or o (cond here (Some area) None) ≡ first_area (seen ++ area ∷ []) name

@@ -1,8 +1,9 @@
 -- The output of `print` from a position on.
-use Rattle.std.proofs.Common.{◌≡◌, ℕ, ◌+◌, ◌/◌, ◌%◌, ◌-◌, ◌≤◌, ◌⊎◌, inl, inr, Bool, true, false, List, [], Option, None, Ok, Err, refl, sym, ap, ◌∙◌, arith, subst}
+use Rattle.std.proofs.lemmas.Grind.{common_steps}
+use Rattle.std.proofs.Common.{◌≡◌, ℕ, ◌+◌, ◌/◌, ◌%◌, ◌-◌, ◌≤◌, ◌⊎◌, inl, inr, Bool, List, [], Option, None, Ok, Err, refl, sym, ap, ◌∙◌, arith, subst}
 use Rattle.std.specs.Prelude.{IsErrOf, if◌then◌else◌}
 use Rattle.std.specs.Result.{IsErrAnd}
-use Rattle.flash_device.specs.Device.{Device, fault_count}
+use Rattle.flash_device.specs.Device.{fault_count}
 use Rattle.flash_device.specs.Pages.{Pages, HasRead, OnHonest, OnHonestIn}
 use Rattle.flash_device.specs.Regions.{Range, LiesIn, LiesOn, bytes_in}
 use Rattle.cbfs_walk.specs.Cells.{IsCellIn}
@@ -44,8 +45,7 @@ print_by verbose x a = by_answer (λ fault. refuses (walk_refusal fault)) (print
 
 refused_by : (verbose : Bool) (x : List ℕ) (fault : WalkFault) → print_by verbose x (Err fault) ≡ refuses (walk_refusal fault)
 unfolding rows_from
-refused_by verbose x faults.Device = refl
-refused_by verbose x _ = refl
+refused_by verbose x fault = grind (arith, common_steps)
 
 -- the maximum number of calls for n bytes of a region
 abbrev region_reads : Bool → ℕ → ℕ
@@ -54,21 +54,17 @@ region_reads verbose n = if verbose then n / 4 else n / 16
 -- up to a cell's end
 reads_with : (verbose : Bool) (at span end : ℕ) → at % 64 ≡ 0 → span % 64 ≡ 0 → 64 ≤ span → at + span ≤ end
     → region_reads verbose at + (1 + span / 3840 + (2 + span / 3840 + (if verbose then details_reads span else 0))) ≤ region_reads verbose end
-reads_with true at span end a s some inside = omega arith
-reads_with false at span end a s some inside = omega arith
+reads_with verbose at span end a s some inside = grind (arith, common_steps)
 
 -- after the last cell
 reads_left : (verbose : Bool) (at size : ℕ) → at ≤ size → region_reads verbose at + (1 + (size - at) / 3840) ≤ region_reads verbose size + 2
-reads_left true at size inside = omega arith
-reads_left false at size inside = omega arith
+reads_left verbose at size inside = grind (arith, common_steps)
 
 counted : (fault : WalkFault) → walks.by_device fault ≡ by_device (walk_refusal fault)
-counted faults.Device = refl
-counted _ = refl
+counted fault = grind (arith, common_steps)
 
 blames_no_other : (fault : WalkFault) → (walk_refusal fault ≡ refusals.Output → ⊥) × (walk_refusal fault ≡ refusals.Source → ⊥)
-blames_no_other faults.Device = (λ e. cc, λ e. cc)
-blames_no_other _ = (λ e. cc, λ e. cc)
+blames_no_other fault = grind (arith, common_steps)
 
 -- ---- the loop
 
@@ -104,10 +100,7 @@ module _ {F W : Type 0} {contents : W → Option (List ℕ)} {sinks : W → ℕ}
   ]
 
   rest-step : (s : Step) → a ≡ Ok s → OnHonest now.device (λ image. print_from verbose (bytes_in r image) w.at ≡ print_by verbose (bytes_in r image) (Ok s))
-  rest-step s is h = elim (rw is at (rest h)) [
-    | inl device ↦ absurd cc
-    | inr e ↦ e
-  ]
+  rest-step s is h = grind (arith, common_steps, rest)
 
   module _ (c : Cell) (is : a ≡ Ok (steps.Cell c)) (cell : GivesCell w.region.size w.at a) where
     abbrev few : ℕ
@@ -146,9 +139,7 @@ module _ {F W : Type 0} {contents : W → Option (List ℕ)} {sinks : W → ℕ}
 
   pub printed-done : (s : Step) → a ≡ Ok s → ((c : Cell) → s ≡ steps.Cell c → ⊥) → Printed next after (Ok tt)
   unfolding rows_from
-  printed-done (steps.Cell c) is not = absurd (not c refl)
-  printed-done steps.End is not = ends steps.End is (λ x. refl) (rw is at read)
-  printed-done (steps.Tail at) is not = ends (steps.Tail at) is (λ x. refl) (rw is at read)
+  printed-done s is not = grind (arith, common_steps, ends)
 
   pub printed-failed : (fault : WalkFault) → a ≡ Err fault → {result : CommandResult} → IsErrAnd result (λ x. x ≡ walk_refusal fault) → Printed next after result
   printed-failed fault is failed =

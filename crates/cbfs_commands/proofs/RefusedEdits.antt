@@ -1,5 +1,7 @@
 -- A region after a refused edit.
-use Rattle.std.proofs.Common.{◌≡◌, ◌≢◌, ◌⊎◌, [], inl, inr, ℕ, List, Result, Ok, Err, IsErrOf, refl, sym, ◌∙◌}
+use Rattle.std.proofs.Common.{arith}
+use Rattle.std.proofs.lemmas.Grind.{common_steps}
+use Rattle.std.proofs.Common.{◌≡◌, ◌≢◌, ◌⊎◌, [], inl, inr, ℕ, List, Result, Ok, Err, IsErrOf}
 use Rattle.std.specs.Result.{IsErrAnd, result_unwrap_or}
 use Rattle.flash_device.specs.Regions.{Range, bytes_in}
 use Rattle.flash_map.specs.Regions.{region_of}
@@ -10,9 +12,8 @@ use Rattle.cbfs_edit.specs.declared.addition.Placed.{Placed}
 use Rattle.cbfs_edit.specs.declared.fault.EditFault.{EditFault}
 use Rattle.cbfs_edit.specs.declared.fault.EditFault.TheVariants as edit
 use Rattle.cbfs_edit.specs.declared.group.CellRange.{CellRange}
-use Rattle.cbfs_edit.specs.declared.place.Place.{Place}
 use Rattle.cbfs_edit.specs.declared.place.Spot.{Spot}
-use Rattle.cbfs_edit.specs.Additions.{added, addition_in, new_component, placed_of}
+use Rattle.cbfs_edit.specs.Additions.{addition_in, new_component, placed_of}
 use Rattle.cbfs_edit.specs.Changes.{AddLeavesBefore, AddLeavesWhole, LeavesWhole}
 use Rattle.cbfs_edit.specs.Removals.{removal_in}
 use Rattle.cbfs_commands.specs.declared.refusal.Refusal.{Refusal}
@@ -21,46 +22,20 @@ use Rattle.cbfs_commands.specs.Effects.{adds, changes, outcome, removes}
 use Rattle.cbfs_commands.specs.Outcomes.{AddStopsIn, LeavesOr}
 use Rattle.cbfs_commands.specs.Refusals.{edit_refusal, fault_or, store_refusal}
 use Rattle.cbfs_commands.specs.Printouts.{CommandResult}
-use Rattle.cbfs_commands.proofs.OutputParts.{handed}
-
--- the error of the place is the error of the addition
-refused_place : (place : Result Place EditFault) (fault : EditFault) (next : Place → Result (List ℕ) Refusal) → (let r : Result Placed EditFault = Err fault in r ≡ placed_of place) → fault_or (λ f. Err (edit_refusal f)) place next ≡ Err (edit_refusal fault)
-refused_place (Err other) fault next is = let same : other ≡ fault = cc in rw same refl
-refused_place (Ok place) fault next is = absurd cc
 
 -- a found region: the answer is the edit's error, and only a fault leaves a change
 module _ (image between now source name : List ℕ) (region : Range) (fault : EditFault) (answer : CommandResult) (sought : (let r : Result Range StoreFault = Ok region in IsErrOf r store.Device ⊎ (r ≡ region_of image name))) (unread : between ≡ image) (printout : IsErrAnd answer (λ refusal. refusal ≡ edit_refusal fault)) (same : fault ≢ edit.Device → fault ≢ edit.Source → now ≡ between) where
   here : Ok region ≡ region_of image name
   here = elim sought [ inl failed ↦ absurd cc | inr is ↦ is ]
 
-  answer_is : answer ≡ Err (edit_refusal fault)
-  answer_is = sym (handed answer (edit_refusal fault) printout)
-
   left : (next : Range → Result (List ℕ) Refusal) → (fault ≢ edit.Device → fault ≢ edit.Source → next region ≡ Err (edit_refusal fault)) → let made : Result (List ℕ) Refusal = fault_or (λ f. Err (store_refusal f)) (region_of image name) next in LeavesOr now answer (record { printout = record { written = []; answer = fault_or Err made (λ now. Ok tt) }; image = result_unwrap_or made image })
-  left next refused = rw (← here) (go fault answer_is same refused)
-    where
-      go : (f : EditFault) → answer ≡ Err (edit_refusal f) → (f ≢ edit.Device → f ≢ edit.Source → now ≡ between) → (f ≢ edit.Device → f ≢ edit.Source → next region ≡ Err (edit_refusal f)) → LeavesOr now answer (record { printout = record { written = []; answer = fault_or Err (next region) (λ now. Ok tt) }; image = result_unwrap_or (next region) image })
-      go edit.Device is kept refused = inr (inl is)
-      go edit.Source is kept refused = inr (inr is)
-      go other is kept refused = rw (refused (λ e. absurd cc) (λ e. absurd cc)) (inl (is, kept (λ e. absurd cc) (λ e. absurd cc) ∙ unread))
-
-  -- the faults of the edit and of the answer agree
-  by_side : {T D S : Type 0} (f : EditFault) → answer ≡ Err (edit_refusal f) → (let r : Result T EditFault = Err f in (IsErrOf r edit.Device → D) × (IsErrOf r edit.Source → S)) → (answer ≡ Err refusals.Device → D) × (answer ≡ Err refusals.Source → S)
-  by_side edit.Device is of = (λ _. of.0 refl, λ blamed. absurd cc)
-  by_side edit.Source is of = (λ blamed. absurd cc, λ _. of.1 refl)
-  by_side other is of = (λ blamed. absurd cc, λ blamed. absurd cc)
+  left next refused = grind (arith, common_steps)
 
   pub addition_refused : (component : List ℕ) (kind : ℕ) (hash : HashChoice) (spot : Spot) → let new = new_component component kind hash source in let x = bytes_in region between in let r : Result Placed EditFault = Err fault in
       (IsErrOf r edit.Device ⊎ (IsErrOf r edit.Source ⊎ (r ≡ placed_of (addition_in x new spot)))) → (IsErrOf r edit.Device → AddLeavesWhole x new spot (bytes_in region now)) → (IsErrOf r edit.Source → AddLeavesBefore x new spot (bytes_in region now))
       → LeavesOr now answer (outcome (changes (adds name component kind hash spot)) image source) × ((found : Range) → region_of image name ≡ Ok found → AddStopsIn found image new spot answer now)
-  addition_refused component kind hash spot is whole before = (
-    left _ (λ device other. elim (rw unread at is) [ inl failed ↦ absurd (device cc) | inr (inl failed) ↦ absurd (other cc) | inr (inr refused) ↦ rw (refused_place _ _ (λ place. Ok (added (bytes_in region image) (new_component component kind hash source) place)) refused) refl ]),
-    λ found at. let found_here = here in let same : found ≡ region = cc in let blamed = by_side {T = Placed} fault answer_is (whole, before) in rw (same, ← unread) (record { by_device = blamed.0; by_source = blamed.1 }),
-  )
+  addition_refused component kind hash spot is whole before = grind (arith, common_steps)
 
   pub removal_refused : (component : List ℕ) → let x = bytes_in region between in let r : Result CellRange EditFault = Err fault in (IsErrOf r edit.Device ⊎ (r ≡ removal_in x component)) → (IsErrOf r edit.Device → LeavesWhole x component (bytes_in region now))
       → LeavesOr now answer (outcome (changes (removes name component)) image source) × ((found : Range) → region_of image name ≡ Ok found → IsErrOf answer refusals.Device → LeavesWhole (bytes_in found image) component (bytes_in found now))
-  removal_refused component is whole = (
-    left _ (λ device other. elim (rw unread at is) [ inl failed ↦ absurd (device cc) | inr refused ↦ rw (← refused) refl ]),
-    λ found at. let found_here = here in let same : found ≡ region = cc in rw (same, ← unread) (by_side {T = CellRange} {S = Unit {0}} fault answer_is (whole, λ _. tt)).0,
-  )
+  removal_refused component is whole = grind (arith, common_steps)

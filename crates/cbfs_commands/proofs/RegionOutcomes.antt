@@ -1,17 +1,14 @@
 -- The outcome of a command on a region depends only on the region's bytes.
-use Rattle.std.proofs.Common.{◌≡◌, ℕ, false, List, [], length, Result, Ok, Err, ◌==◌, refl}
-use Rattle.std.specs.Prelude.{if◌then◌else◌}
+use Rattle.std.proofs.Common.{arith}
+use Rattle.std.proofs.lemmas.Grind.{common_steps}
+use Rattle.std.proofs.Common.{◌≡◌, ℕ, false, List, [], Result, Ok, Err, refl}
 use Rattle.std.specs.Result.{result_unwrap_or}
 use Rattle.flash_device.specs.Device.{overwritten}
 use Rattle.flash_device.specs.Regions.{Range, bytes_in}
 use Rattle.flash_map.specs.Regions.{region_of}
-use Rattle.cbfs_edit.specs.Additions.{NewComponent, added, addition_in, new_component}
-use Rattle.cbfs_edit.specs.Removals.{removal_in, removed}
 use Rattle.cbfs_commands.specs.declared.refusal.Refusal.{Refusal}
-use Rattle.cbfs_commands.specs.declared.refusal.Refusal.TheVariants as refusals
 use Rattle.cbfs_commands.specs.Effects.{changes, effect, edits, outcome, Task, on_region}
-use Rattle.cbfs_commands.specs.Effects as tasks
-use Rattle.cbfs_commands.specs.Refusals.{edit_refusal, fault_or}
+use Rattle.cbfs_commands.specs.Refusals.{fault_or}
 use Rattle.cbfs_commands.specs.Outcomes.{Outcome, StopsIn}
 use Rattle.cbfs_commands.specs.Laws.{OutcomesAreOfTheRegion}
 use Rattle.cbfs_commands.proofs.RegionPlaces.{alike_over, region_lies}
@@ -35,12 +32,7 @@ module _ (name : List ℕ) (region : Range) (image other : List ℕ) (here : reg
       go (Ok bytes) = (refl, alike_over region image other bytes (region_lies image name region here) (region_lies other name region there) same)
 
   each : (task : Task) (source : List ℕ) → let d = effect (on_region name task) in Alike (outcome d image source) (outcome d other source)
-  each (tasks.add component kind hash spot) source =
-      let new : NewComponent = new_component component kind hash source in
-      made source (λ found x s. fault_or (λ fault. Err (edit_refusal fault)) (addition_in x new spot) (λ place. Ok (added x new place)))
-  each (tasks.remove component) source = made source (λ found x s. fault_or (λ fault. Err (edit_refusal fault)) (removal_in x component) (λ group. Ok (removed x group)))
-  each tasks.write source = made source (λ found x s. if length s == found.size then Ok s else Err refusals.SourceSize)
-  each _ source = rw (here, there, same) (refl, refl)
+  each task source = grind (arith, common_steps, made)
 
 pub outcomes_of_region : OutcomesAreOfTheRegion
 outcomes_of_region name task region image other source here there same = each name region image other here there same task source

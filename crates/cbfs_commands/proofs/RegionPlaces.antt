@@ -1,48 +1,27 @@
 -- A named region lies in its image, and writes over it depend only on its own bytes.
-use Rattle.std.proofs.Common.{◌≡◌, inl, inr, ℕ, ◌+◌, ◌≤◌, Bool, true, false, cond, List, length, take, drop, Option, Some, None, Result, Ok, Err, refl, sym, ◌∙◌, ap, arith}
-use Rattle.std.specs.Prelude.{nat_lt, slice_range}
+use Rattle.std.proofs.lemmas.Grind.{common_steps}
+use Rattle.std.proofs.Common.{◌≡◌, ℕ, ◌+◌, ◌≤◌, List, length, take, Option, Ok, sym, ◌∙◌, ap, arith}
+use Rattle.std.specs.Prelude.{slice_range}
 use Rattle.std.proofs.lemmas.Bool.{cases_lt}
-use Rattle.std.proofs.lemmas.Bool.Decides.{nat_tests}
-use Rattle.std.proofs.lemmas.List.{take-take}
 use Rattle.flash_format.specs.declared.flashmap.Area.{Area}
-use Rattle.flash_format.specs.Flashmap.{map_of, area_in}
 use Rattle.flash_device.specs.Device.{overwritten}
 use Rattle.flash_device.specs.Regions.{Range, LiesIn, bytes_in}
-use Rattle.flash_map.specs.Regions.{region_by_area, region_of, region_under}
-use Rattle.flash_map.specs.declared.search.StoreFault.{StoreFault}
-use Rattle.flash_map.specs.declared.search.StoreFault.TheVariants as faults
-use Rattle.flash_device.proofs.BytesLemmas.{overwritten-range, slice_range_is}
+use Rattle.flash_map.specs.Regions.{region_by_area, region_of}
+use Rattle.flash_device.proofs.BytesLemmas.{overwritten-range}
 use Rattle.flash_device.proofs.RegionLemmas.{written_in}
 
-range_size : (r : Range) (start size : ℕ) → (let p : Range = record { start = start; size = size } in p) ≡ r → r.start + r.size ≡ start + size
-range_size r start size is = ap (λ (p : Range). p.start + p.size) (sym is)
-
 pub inside_lies : (n : ℕ) (area : Option Area) (r : Range) → region_by_area n area ≡ Ok r → r.start + r.size ≤ n
-inside_lies n None r is = absurd cc
-inside_lies n (Some a) r is = go (nat_lt n (a.offset + a.size)) refl is
-  where
-    go : (b : Bool) → nat_lt n (a.offset + a.size) ≡ b → (let o : Result Range StoreFault = cond b (Err faults.RegionOutside) (Ok (record { start = a.offset; size = a.size })) in o) ≡ Ok r → r.start + r.size ≤ n
-    go true e f = absurd cc
-    go false e f =
-        let same : (let p : Range = record { start = a.offset; size = a.size } in p) ≡ r = cc in
-        let most : a.offset + a.size ≤ n = grind (arith, nat_tests) in
-        omega (arith, range_size r a.offset a.size same, most)
+inside_lies n area r is = grind (arith, common_steps)
 
 pub region_lies : (image name : List ℕ) (r : Range) → region_of image name ≡ Ok r → LiesIn r image
 unfolding region_of
-region_lies image name r is = go (map_of image) is
-  where
-    go : (q : Option ℕ) → region_under image name q ≡ Ok r → LiesIn r image
-    go None e = absurd cc
-    go (Some q) e = inside_lies (length image) (area_in image q name) r e
+region_lies image name r is = grind (arith, common_steps)
 
 -- ---- bytes over a region
 
 -- longer than the region
 longer : (r : Range) (image u : List ℕ) → LiesIn r image → r.size ≤ length u → bytes_in r (overwritten image r.start u) ≡ take r.size u
-longer r image u lies long =
-    slice_range_is (overwritten image r.start u) r.start r.size ∙ sym (take-take r.size (length u) (drop r.start (overwritten image r.start u)) long)
-    ∙ ap (λ (l : List ℕ). take r.size l) (sym (slice_range_is (overwritten image r.start u) r.start (length u)) ∙ overwritten-range image r.start u (omega (arith, lies)))
+longer r image u lies long = grind (arith, common_steps)
 
 shorter : (r : Range) (image u : List ℕ) → LiesIn r image → length u ≤ r.size → bytes_in r (overwritten image r.start u) ≡ overwritten (bytes_in r image) 0 u
 shorter r image u lies short =
@@ -50,10 +29,7 @@ shorter r image u lies short =
     ap (λ n. bytes_in r (overwritten image n u)) place ∙ written_in r image 0 u lies (omega (arith, short))
 
 pub alike_over : (r : Range) (image other u : List ℕ) → LiesIn r image → LiesIn r other → bytes_in r other ≡ bytes_in r image → bytes_in r (overwritten other r.start u) ≡ bytes_in r (overwritten image r.start u)
-alike_over r image other u lies lies_other same = elim (cases_lt r.size (length u)) [
-  | inl long ↦ longer r other u lies_other (omega (arith, long)) ∙ sym (longer r image u lies (omega (arith, long)))
-  | inr short ↦ shorter r other u lies_other short ∙ ap (λ (l : List ℕ). overwritten l 0 u) same ∙ sym (shorter r image u lies short)
-]
+alike_over r image other u lies lies_other same = grind (arith, common_steps, cases_lt, longer, shorter)
 
 pub whole_over : (r : Range) (image u : List ℕ) → LiesIn r image → length u ≡ r.size → bytes_in r (overwritten image r.start u) ≡ u
 whole_over r image u lies size = ap (λ n. slice_range (overwritten image r.start u) r.start (r.start + n)) (sym size) ∙ overwritten-range image r.start u (omega (arith, lies))

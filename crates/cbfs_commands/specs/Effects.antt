@@ -1,5 +1,5 @@
 -- The meaning of commands: outcome, allowed changes, used devices, and effect of an interruption.
-use Rattle.std.specs.Prelude.{ℕ, Bool, List, map, ◌≡◌, ◌+◌, ◌/◌, ◌<◌, ◌≤◌, ◌⊎◌, true, false, []}
+use Rattle.std.specs.Prelude.{ℕ, Bool, List, map, ◌≡◌, ◌+◌, ◌/◌, ◌⊎◌, true, false, []}
 use Rattle.std.specs.Prelude.{length, Option, Some, None, is_some, MatchOption, Result, Ok, Err}
 use Rattle.std.specs.Prelude.{IsErrOf, IsTrue, ◌==◌, if◌then◌else◌}
 use Rattle.cbfs_edit.specs.declared.addition.HashChoice.{HashChoice}
@@ -161,6 +161,9 @@ effect (on_region region write) = changes (replaces region)
 effect layout = prints rows.layout
 effect (create names) = changes (creates names)
 
+abbrev pub effect_of : Command → Effect
+effect_of command = effect (request_of command)
+
 -- an honest source, if the command reads it
 abbrev pub Serves : Effect → Device → Type 0
 Serves d source = IsTrue (reads_source d) → IsTrue source.honest
@@ -202,26 +205,3 @@ pub record HasApplied {F : Type 0} (n : ℕ) (change : Change)
       → LeavesOr new.device.content answer (outcome (changes change) image source.content))
   pub stopped : OnHonest old.device (λ image. Serves (changes change) source
       → change.Stopped image source.content answer new.device.content)
-
--- A command by at most n device calls. Unused devices remain, and a fault implies a failure of its
--- device. The other fields require an honest device.
-pub record HasRun {F S W : Type 0} (sources : S → Device)
-    (contents : W → Option (List ℕ)) (faults : W → ℕ) (n : ℕ) (d : Effect) (old new : Pages F)
-    (source_old source_new : S) (out_old out_new : W) (answer : CommandResult) : Type 0 where
-  pub calls : Calls n (fault_count by_device answer) old.device new.device
-  pub source_calls : Calls (source_calls d (length (sources source_old).content))
-      (fault_count by_source answer) (sources source_old) (sources source_new)
-  pub sink : faults out_old ≤ faults out_new
-  pub unread : reads_source d ≡ false → source_new ≡ source_old
-  pub unwritten : writes_output d ≡ false → out_new ≡ out_old
-  pub source : IsErrOf answer refusals.Source → IsTrue (reads_source d)
-  pub output : IsErrOf answer refusals.Output
-      → IsTrue (writes_output d) × (faults out_old < faults out_new)
-  pub spares : OnHonest old.device (λ image.
-      SparesOutside ((change_of d).target image) image new.device.content)
-  pub refused : OnHonest old.device (λ image. MayHaveWritten answer ⊎ (new.device.content ≡ image))
-  pub outcome : OnHonest old.device (λ image.
-      Serves d (sources source_old) → Meets d (contents out_old) (contents out_new) image
-      (sources source_old).content new.device.content answer)
-  pub stopped : OnHonest old.device (λ image. Serves d (sources source_old)
-      → (change_of d).Stopped image (sources source_old).content answer new.device.content)

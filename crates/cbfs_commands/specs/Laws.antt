@@ -1,5 +1,6 @@
 -- Laws of outcomes.
 use Rattle.std.specs.Prelude.{◌≡◌, ℕ, ◌+◌, ◌^◌, ◌<◌, ⊤, false, All, List, [], ◌∷◌, ◌++◌, length, Ok}
+use Rattle.std.specs.Prelude.{Option, Some, None, map, if◌then◌else◌}
 use Rattle.std.specs.List.{AllPairs, flat_map}
 use Rattle.flash_format.specs.Head.{head_of, is_free}
 use Rattle.flash_format.specs.Components.{cell_attributes, cell_name, packing}
@@ -77,72 +78,49 @@ pub record HasNumbers (x : List ℕ) : Type 0 where
   pub compression : packing (cell_attributes x) < 2 ^ 64
 
 -- offset, type, content length, and a component's name and compression
-pub record IsSameCell (at : ℕ) (x : List ℕ) (other : ℕ) (y : List ℕ) : Type 0 where
-  pub place : at ≡ other
-  pub kind : (head_of x).kind ≡ (head_of y).kind
-  pub len : (head_of x).len ≡ (head_of y).len
-  pub name : is_free (head_of x) ≡ false → cell_name x ≡ cell_name y
-  pub compression : is_free (head_of x) ≡ false
-      → packing (cell_attributes x) ≡ packing (cell_attributes y)
+abbrev pub row_values : ℕ → List ℕ → ℕ × ℕ × ℕ × Option (List ℕ × ℕ)
+row_values at x = let h = head_of x in
+    (at, h.kind, h.len, if is_free h then None else Some (cell_name x, packing (cell_attributes x)))
 
 abbrev pub HaveNumbers : ℕ → List (List ℕ) → Type 0
 HaveNumbers at [] = ⊤
 HaveNumbers at (x ∷ cells) = (at < 2 ^ 64) × HasNumbers x × HaveNumbers (at + length x) cells
 
--- pairwise
-abbrev pub AreSameCells : ℕ → List (List ℕ) → ℕ → List (List ℕ) → Type 0
-AreSameCells at [] other [] = ⊤
-AreSameCells at (x ∷ cells) other (y ∷ others) =
-    IsSameCell at x other y × AreSameCells (at + length x) cells (other + length y) others
-AreSameCells at cells other others = ⊥
+-- consecutive cells
+abbrev pub listing_values : ℕ → List (List ℕ) → List (ℕ × ℕ × ℕ × Option (List ℕ × ℕ))
+listing_values at [] = []
+listing_values at (x ∷ cells) = row_values at x ∷ listing_values (at + length x) cells
 
 -- Different cells have different rows, for any later text, and different listings.
 pub record RowsAreReadBack : Type 0 where
   pub rows : (at other : ℕ) (x y more rest : List ℕ) → at < 2 ^ 64 → other < 2 ^ 64
       → HasNumbers x → HasNumbers y → cell_row at x ++ more ≡ cell_row other y ++ rest
-      → IsSameCell at x other y × (more ≡ rest)
+      → (row_values at x ≡ row_values other y) × (more ≡ rest)
   pub listings : (at other : ℕ) (cells others : List (List ℕ))
       → HaveNumbers at cells → HaveNumbers other others
-      → rows_from false at cells ≡ rows_from false other others → AreSameCells at cells other others
+      → rows_from false at cells ≡ rows_from false other others
+      → listing_values at cells ≡ listing_values other others
 
-pub record HasAreaNumbers (a : Area) : Type 0 where
-  pub offset : a.offset < 2 ^ 64
-  pub size : a.size < 2 ^ 64
-  pub flags : a.flags < 2 ^ 64
+abbrev pub HasAreaNumbers : Area → Type 0
+HasAreaNumbers a = (a.offset < 2 ^ 64) × (a.size < 2 ^ 64) × (a.flags < 2 ^ 64)
 
 -- names up to the NUL
-pub record IsSameArea (a b : Area) : Type 0 where
-  pub name : text_of a.name ≡ text_of b.name
-  pub offset : a.offset ≡ b.offset
-  pub size : a.size ≡ b.size
-  pub flags : a.flags ≡ b.flags
+abbrev pub area_values : Area → List ℕ × ℕ × ℕ × ℕ
+area_values a = (text_of a.name, a.offset, a.size, a.flags)
 
-abbrev pub HaveAreaNumbers : List Area → Type 0
-HaveAreaNumbers [] = ⊤
-HaveAreaNumbers (a ∷ areas) = HasAreaNumbers a × HaveAreaNumbers areas
+abbrev pub HasMapNumbers : ℕ → FmapHead → Type 0
+HasMapNumbers q h = (q < 2 ^ 64) × (h.size < 2 ^ 64) × (h.nareas < 2 ^ 64)
 
--- pairwise
-abbrev pub AreSameAreas : List Area → List Area → Type 0
-AreSameAreas [] [] = ⊤
-AreSameAreas (a ∷ areas) (b ∷ others) = IsSameArea a b × AreSameAreas areas others
-AreSameAreas areas others = ⊥
-
-pub record HasMapNumbers (q : ℕ) (h : FmapHead) : Type 0 where
-  pub place : q < 2 ^ 64
-  pub size : h.size < 2 ^ 64
-  pub nareas : h.nareas < 2 ^ 64
-
-pub record IsSameMap (q : ℕ) (h : FmapHead) (p : ℕ) (k : FmapHead) : Type 0 where
-  pub place : q ≡ p
-  pub name : text_of h.name ≡ text_of k.name
-  pub size : h.size ≡ k.size
-  pub nareas : h.nareas ≡ k.nareas
+abbrev pub map_values : ℕ → FmapHead → ℕ × List ℕ × ℕ × ℕ
+map_values q h = (q, text_of h.name, h.size, h.nareas)
 
 -- Different maps and areas have different lines, for any later text, and different layouts.
 pub record LinesAreReadBack : Type 0 where
   pub maps : (q p : ℕ) (h k : FmapHead) (more rest : List ℕ) → HasMapNumbers q h → HasMapNumbers p k
-      → map_line q h ++ more ≡ map_line p k ++ rest → IsSameMap q h p k × (more ≡ rest)
+      → map_line q h ++ more ≡ map_line p k ++ rest
+      → (map_values q h ≡ map_values p k) × (more ≡ rest)
   pub areas : (a b : Area) (more rest : List ℕ) → HasAreaNumbers a → HasAreaNumbers b
-      → area_line a ++ more ≡ area_line b ++ rest → IsSameArea a b × (more ≡ rest)
-  pub all_areas : (areas others : List Area) → HaveAreaNumbers areas → HaveAreaNumbers others
-      → flat_map area_line areas ≡ flat_map area_line others → AreSameAreas areas others
+      → area_line a ++ more ≡ area_line b ++ rest → (area_values a ≡ area_values b) × (more ≡ rest)
+  pub all_areas : (areas others : List Area) → All HasAreaNumbers areas → All HasAreaNumbers others
+      → flat_map area_line areas ≡ flat_map area_line others
+      → map area_values areas ≡ map area_values others

@@ -17,9 +17,8 @@ pub fn add<F: Flash, S: Source>(
     spot: Spot,
     source: &mut S,
 ) -> Result<(), Refusal>
-    ensures { HasApplied (2 * length paged.old.device.content + 64)
-        (adds region.now name.now kind hash spot) paged.old paged.new (S.facts source.old)
-        (S.facts source.new) result }
+    ensures { HasApplied (2 * length paged.old.device.content + 64) (adds region.now name.now kind
+        hash spot) paged.old paged.new (S.facts source.old) (S.facts source.new) result }
 {
     let region = flash_map::region(paged, region)?;
     cbfs_edit::add(paged, region, name, kind, hash, spot, source)?;

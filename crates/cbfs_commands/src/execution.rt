@@ -3,8 +3,9 @@
 ghost use Rattle.std.specs.Prelude.{◌≡◌, ◌+◌, ◌*◌, ◌/◌, ◌<◌, ◌≤◌, ◌⊎◌, false, length, IsTrue};
 ghost use Rattle.std.specs.Prelude.{IsErrOf};
 ghost use Rattle.flash_device.specs.Device.{Calls, fault_count};
-ghost use Rattle.cbfs_commands.specs.Effects.{HasRun, Meets, MayHaveWritten, Serves, SparesOutside};
-ghost use Rattle.cbfs_commands.specs.Effects.{change_of, effect, reads_source, request_of};
+ghost use Rattle.flash_device.specs.Pages.{OnHonest};
+ghost use Rattle.cbfs_commands.specs.Effects.{Meets, MayHaveWritten, Serves, SparesOutside};
+ghost use Rattle.cbfs_commands.specs.Effects.{change_of, effect_of, reads_source};
 ghost use Rattle.cbfs_commands.specs.Effects.{source_calls, writes_output};
 ghost use Rattle.cbfs_commands.specs.Refusals.{by_device, by_source};
 
@@ -20,15 +21,45 @@ use crate::remove::remove;
 use crate::write::write;
 use flash_device::{Flash, Paged, Sink, Source};
 
-#[tactic(auto, using(crate::proofs::CommandEffects::runs))]
-fn dispatch<F: Flash, S: Source, W: Sink>(
+/// Runs a command on an image, without allocating memory.
+pub fn run<F: Flash, S: Source, W: Sink>(
     paged: &mut Paged<F>,
     command: &Command,
     source: &mut S,
     out: &mut W,
 ) -> Result<(), Refusal>
-    ensures { HasRun S.facts W.contents W.faults (2 * length paged.old.device.content + 64) (effect
-        (request_of command.now)) paged.old paged.new source.old source.new out.old out.new result }
+    // On any device, for any source and sink.
+    ensures calls { Calls (2 * length paged.old.device.content + 64)
+        (fault_count by_device result) paged.old.device paged.new.device }
+    ensures source_calls { Calls
+        (source_calls (effect_of command.now) (length (S.facts source.old).content))
+        (fault_count by_source result) (S.facts source.old) (S.facts source.new) }
+    ensures faults { W.faults out.old ≤ W.faults out.new }
+
+    ensures unread { reads_source (effect_of command.now) ≡ false → source.new ≡ source.old }
+    ensures unwritten { writes_output (effect_of command.now) ≡ false → out.new ≡ out.old }
+
+    // A fault implies a failure of its device, and a command that uses the device.
+    ensures device { IsErrOf result Refusal.Device →
+        paged.old.device.faults < paged.new.device.faults }
+    ensures source { IsErrOf result Refusal.Source → IsTrue (reads_source (effect_of command.now))
+        × ((S.facts source.old).faults < (S.facts source.new).faults) }
+    ensures output { IsErrOf result Refusal.Output
+        → IsTrue (writes_output (effect_of command.now)) × (W.faults out.old < W.faults out.new) }
+
+    // For any answer and source.
+    ensures spares { OnHonest paged.old.device (λ image. SparesOutside
+        ((change_of (effect_of command.now)).target image) image paged.new.device.content) }
+    ensures refused { OnHonest paged.old.device (λ image.
+        MayHaveWritten result ⊎ (paged.new.device.content ≡ image)) }
+
+    // For an honest source, if the command reads it.
+    ensures outcome { OnHonest paged.old.device (λ image. Serves (effect_of command.now)
+        (S.facts source.old) → Meets (effect_of command.now) (W.contents out.old)
+        (W.contents out.new) image (S.facts source.old).content paged.new.device.content result) }
+    ensures stopped { OnHonest paged.old.device (λ image. Serves (effect_of command.now)
+        (S.facts source.old) → (change_of (effect_of command.now)).Stopped image
+        (S.facts source.old).content result paged.new.device.content) }
 {
     match command {
         Command::Print { region, verbose } => print(paged, region, *verbose, out),
@@ -46,52 +77,4 @@ fn dispatch<F: Flash, S: Source, W: Sink>(
         Command::Write { region } => write(paged, region, source),
         Command::Create { regions } => create(paged, regions.as_slice(), source),
     }
-}
-
-/// Runs a command on an image, without allocating memory.
-pub fn run<F: Flash, S: Source, W: Sink>(
-    paged: &mut Paged<F>,
-    command: &Command,
-    source: &mut S,
-    out: &mut W,
-) -> Result<(), Refusal>
-    // On any device, for any source and sink.
-    ensures calls { Calls (2 * length paged.old.device.content + 64)
-        (fault_count by_device result) paged.old.device paged.new.device }
-    ensures source_calls { Calls
-        (source_calls (effect (request_of command.now)) (length (S.facts source.old).content))
-        (fault_count by_source result) (S.facts source.old) (S.facts source.new) }
-    ensures faults { W.faults out.old ≤ W.faults out.new }
-
-    ensures unread { reads_source (effect (request_of command.now)) ≡ false
-        → source.new ≡ source.old }
-    ensures unwritten { writes_output (effect (request_of command.now)) ≡ false
-        → out.new ≡ out.old }
-
-    // A fault implies a failure of its device, and a command that uses the device.
-    ensures device { IsErrOf result Refusal.Device →
-        paged.old.device.faults < paged.new.device.faults }
-    ensures source { IsErrOf result Refusal.Source
-        → IsTrue (reads_source (effect (request_of command.now)))
-        × ((S.facts source.old).faults < (S.facts source.new).faults) }
-    ensures output { IsErrOf result Refusal.Output → IsTrue
-        (writes_output (effect (request_of command.now))) × (W.faults out.old < W.faults out.new) }
-
-    // For any answer and source.
-    ensures spares { IsTrue paged.old.device.honest → SparesOutside
-        ((change_of (effect (request_of command.now))).target paged.old.device.content)
-        paged.old.device.content paged.new.device.content }
-    ensures refused { IsTrue paged.old.device.honest → MayHaveWritten result
-        ⊎ (paged.new.device.content ≡ paged.old.device.content) }
-
-    // For an honest source, if the command reads it.
-    ensures outcome { IsTrue paged.old.device.honest
-        → Serves (effect (request_of command.now)) (S.facts source.old)
-        → Meets (effect (request_of command.now)) (W.contents out.old) (W.contents out.new)
-        paged.old.device.content (S.facts source.old).content paged.new.device.content result }
-    ensures stopped { IsTrue paged.old.device.honest → Serves (effect (request_of command.now))
-        (S.facts source.old) → (change_of (effect (request_of command.now))).Stopped
-        paged.old.device.content (S.facts source.old).content result paged.new.device.content }
-{
-    dispatch(paged, command, source, out)
 }

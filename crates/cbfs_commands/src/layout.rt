@@ -85,9 +85,8 @@ fn list_areas<F: Flash, W: Sink>(
 /// Prints the offset and the areas of the image's map.
 #[tactic(auto, unfolding(crate::specs::Rows::layout))]
 pub fn layout<F: Flash, W: Sink>(paged: &mut Paged<F>, out: &mut W) -> Result<(), Refusal>
-    ensures { HasOutput W.contents W.faults (length paged.old.device.content / 2
-        + length paged.old.device.content / area_len + 8)
-        paged.old paged.new out.old out.new result layout }
+    ensures { HasOutput W.contents W.faults (length paged.old.device.content / 2 + length
+        paged.old.device.content / area_len + 8) paged.old paged.new out.old out.new result layout }
 {
     let Some(map) = find_fmap(paged)? else {
         return Err(Refusal::NoFmap);

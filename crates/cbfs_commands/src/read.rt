@@ -16,9 +16,8 @@ pub fn copy_out<F: Flash, W: Sink>(
 ) -> Result<(), Refusal>
     requires { start + size ≤ length paged.old.device.content }
 
-    ensures { HasOutput W.contents W.faults ((size + 4095) / 4096)
-        paged.old paged.new out.old out.new result (λ image.
-        shows (slice_range image start (start + size))) }
+    ensures { HasOutput W.contents W.faults ((size + 4095) / 4096) paged.old paged.new out.old
+        out.new result (λ image. shows (slice_range image start (start + size))) }
 {
     paged.copy_out(start, size, out)?;
     Ok(())

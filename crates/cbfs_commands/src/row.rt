@@ -30,15 +30,14 @@ pub fn push_decimal(row: &mut Row, n: u32)
 }
 
 /// Appends a name of at most 12 letters, or else a number.
-fn push_name_or(row: &mut Row, name: Option<&str>, number: u32)
+fn push_name_or(row: &mut Row, name: Option<&str>, value: u32)
     requires room { array_vec_len row.old + 18 ≤ ROW_LEN }
     requires short { ForSome name (λ n. length n.now ≤ 12) }
-    ensures { Pushes row.old
-        (unwrap_or (option_copied name.entry) (hexadecimal number)) 18 row.new }
+    ensures { Pushes row.old (unwrap_or (option_copied name.entry) (hexadecimal value)) 18 row.new }
 {
     match name {
         Some(name) => push_text(row, name.as_bytes()),
-        None => push_hexadecimal(row, u64::from(number)),
+        None => push_hexadecimal(row, u64::from(value)),
     }
 }
 

@@ -1,5 +1,6 @@
 -- The start and rest of an attribute list.
-use Rattle.std.proofs.Common.{◌≡◌, ℕ, ◌+◌, ◌-◌, ◌≤◌, min, Bool, true, false, cond, List, [], ◌∷◌, length, take, drop, Option, Some, None, refl, sym, ap, subst, ◌∙◌, arith, eqb, ltb}
+use Rattle.std.proofs.lemmas.Grind.{common_steps}
+use Rattle.std.proofs.Common.{◌≡◌, ℕ, ◌+◌, ◌-◌, ◌≤◌, min, Bool, true, false, cond, List, [], ◌∷◌, length, take, drop, Option, Some, None, refl, sym, ap, subst, ◌∙◌, arith}
 use Rattle.std.specs.Prelude.{slice_range, is_some, unwrap_or}
 use Rattle.std.specs.Option.{option_map}
 use Rattle.std.proofs.lemmas.Bool.{le-ltb}
@@ -25,35 +26,22 @@ use Rattle.cbfs_walk.proofs.CutLaws.{standing, standing_good, cell_head, cell_pa
 
 listed_by : (x : List ℕ) (at end : ℕ) (h : AttrHead) → at + 8 ≤ end → end ≤ length x → h ≡ attr_head_of (slice_range x at (at + 8))
     → cond (is_unused h.tag) End (cond (has_bad_len h (end - at)) Malformed (listed.Attribute h)) ≡ listed_in (slice_range x at end)
-listed_by x at end h room inside e =
-    let rest = slice_range x at end in
-    let len : length rest ≡ end - at = length-range x at end inside in
-    let same : h ≡ attr_head_of rest = e ∙ ap attr_head_of (sym (range-take x at end 8 room)) ∙ attr_head_of-take rest 8 (omega arith) in
-    let long : ltb (length rest) 8 ≡ false = le-ltb (length rest) 8 (omega (arith, len, room)) in
-    let f = λ (k : AttrHead) (left : ℕ). let v : declared.Listed = cond (is_unused k.tag) End (cond (has_bad_len k left) Malformed (listed.Attribute k)) in v in
-    ap (λ k. f k (end - at)) same ∙ ap (f (attr_head_of rest)) (sym len) ∙ rw long refl
+listed_by x at end h room inside e = grind (arith, common_steps, attr_head_of-take, le-ltb, length-range, range-take)
 
 pub listed_tested : (r : Range) (image : List ℕ) (at end : ℕ) (h : AttrHead) (unused bad : Bool) → LiesIn r image → end ≤ r.size → 8 ≤ end - at → h ≡ attr_head_of (slice_range (bytes_in r image) at (at + 8))
     → unused ≡ is_unused h.tag → bad ≡ has_bad_len h (end - at) → cond unused End (cond bad Malformed (listed.Attribute h)) ≡ listed_in (slice_range (bytes_in r image) at end)
-listed_tested r image at end h unused bad lies inside room head is_unused_is is_bad =
-    ap (λ b. cond b End (cond bad Malformed (listed.Attribute h))) is_unused_is
-    ∙ ap (λ b. cond (is_unused h.tag) End (cond b Malformed (listed.Attribute h))) is_bad
-    ∙ listed_by (bytes_in r image) at end h (omega (arith, room)) (omega (arith, length-region r image lies, inside)) head
+listed_tested r image at end h unused bad lies inside room head is_unused_is is_bad = grind (arith, common_steps, length-region, listed_by)
 
 -- ---- the rest
 
 inverted : (a b : Bool) (k h : AttrHead) → (let v : declared.Listed = cond a End (cond b Malformed (listed.Attribute k)) in listed.Attribute h ≡ v) → (a ≡ false) × (b ≡ false) × (h ≡ k)
-inverted false false k h e = (refl, refl, cc)
-inverted _ _ k h e = absurd cc
+inverted a b k h e = grind (arith, common_steps)
 
 inverted_end : (a b : Bool) (k : AttrHead) → (let v : declared.Listed = cond a End (cond b Malformed (listed.Attribute k)) in End ≡ v) → a ≡ true
-inverted_end true b k e = refl
-inverted_end false true k e = absurd cc
-inverted_end false false k e = absurd cc
+inverted_end a b k e = grind (arith, common_steps)
 
 inverted_malformed : (a b : Bool) (k : AttrHead) → (let v : declared.Listed = cond a End (cond b Malformed (listed.Attribute k)) in Malformed ≡ v) → (a ≡ false) × (b ≡ true)
-inverted_malformed false true k e = (refl, refl)
-inverted_malformed _ _ k e = absurd cc
+inverted_malformed a b k e = grind (arith, common_steps)
 
 -- the first attribute, and the others
 pub record Goes (y : List ℕ) (h : AttrHead) : Type 0 where
@@ -88,25 +76,10 @@ pub record GoesOn (y : List ℕ) (h : AttrHead) (all : List Attribute) : Type 0 
   pub rest : attributes (drop h.len y) ≡ Some (after_first all)
 
 pub goes_on : (y : List ℕ) (h : AttrHead) (all : List Attribute) → Goes y h → attributes y ≡ Some all → GoesOn y h all
-goes_on y h all g e = go (attributes (drop h.len y)) refl (sym g.all ∙ e)
-  where
-    go : (o : Option (List Attribute)) → attributes (drop h.len y) ≡ o → option_map (λ others. attribute y ∷ others) o ≡ Some all → GoesOn y h all
-    go None is p = absurd cc
-    go (Some others) is p =
-        let same : attribute y ∷ others ≡ all = cc in
-        record {
-          first = sym same ∙ ap (λ (l : List Attribute). attribute y ∷ after_first l) same;
-          rest = is ∙ ap (λ (l : List Attribute). Some (after_first l)) same;
-        }
+goes_on y h all g e = grind (arith, common_steps)
 
 pub goes_head : (y : List ℕ) (h : AttrHead) (all : List Attribute) → Goes y h → attributes y ≡ Some all → Some h ≡ first_head all
-goes_head y h all g e =
-    let on = goes_on y h all g e in
-    let len : h.len ≡ 8 + length (slice_range y 8 h.len) = omega (arith, g.least, g.inside, length-range y 8 h.len g.inside) in
-    let f = λ (n : ℕ) (k : AttrHead). let v : Option AttrHead = Some (record { tag = k.tag; len = n }) in v in
-    ap (λ n. f n h) len
-    ∙ ap (λ (k : AttrHead). f (8 + length (slice_range y 8 k.len)) k) g.head
-    ∙ ap first_head (sym on.first)
+goes_head y h all g e = grind (arith, common_steps)
 
 pub goes_none : (y : List ℕ) (all : List Attribute) → attributes y ≡ Some [] → attributes y ≡ Some all → all ≡ []
 goes_none y all e f = let same : (let o : Option (List Attribute) = Some [] in o) ≡ Some all = sym e ∙ f in cc
@@ -114,15 +87,10 @@ goes_none y all e f = let same : (let o : Option (List Attribute) = Some [] in o
 -- ---- a walk over attributes
 
 attribute_field_is : (h : Head) (x : List ℕ) → attribute_field h x ≡ slice_range x (name_end h) h.offset
-attribute_field_is h x = go (eqb h.attributes_offset 0)
-  where
-    go : (none : Bool) → cond none [] (slice_range x h.attributes_offset h.offset) ≡ slice_range x (cond none h.offset h.attributes_offset) h.offset
-    go true = ap (λ n. take n (drop h.offset x)) {x = 0} {y = h.offset - h.offset} (omega arith)
-    go false = refl
+attribute_field_is h x = grind (arith, common_steps)
 
 some_is : {A : Type 0} (o : Option A) (other : A) → is_some o ≡ true → o ≡ Some (unwrap_or o other)
-some_is None other e = absurd cc
-some_is (Some a) other e = refl
+some_is o other e = grind (arith, common_steps)
 
 -- the attributes are well formed, and lie between name and content
 pub listed_all : (x : List ℕ) (c : Cell) → StandsIn x c → is_free c.head ≡ false
@@ -190,6 +158,4 @@ walk_step r image k a p q w l lies room view from to is all left = go l is
 
 pub gives_none : (x : List ℕ) (k : Cell) (a : ℕ) (all : List Attribute) (l : declared.Listed) → ((h : AttrHead) → l ≡ listed.Attribute h → ⊥) → GivesListed x k a all l
     → (None ≡ first_head all) × (attributes_left x (record { cell = k; at = k.head.offset }) ≡ Some (after_first all))
-gives_none x k a all (listed.Attribute h) other gives = absurd (other h refl)
-gives_none x k a all End other gives = gives
-gives_none x k a all Malformed other gives = absurd gives
+gives_none x k a all l other gives = grind (arith, common_steps)

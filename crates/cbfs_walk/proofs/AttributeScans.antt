@@ -1,4 +1,5 @@
 -- A scan of attributes.
+use Rattle.std.proofs.lemmas.Grind.{common_steps}
 use Rattle.std.proofs.Common.{◌≡◌, ℕ, ◌+◌, ◌≤◌, Bool, true, false, cond, IsTrue, List, [], ◌∷◌, drop, Option, Some, None, refl, sym, subst, ap, ◌∙◌, arith, eqb, zero, suc, pred, ◌<◌, le_refl, length-drop, length}
 use Rattle.std.specs.Prelude.{slice_range, is_some, IfSome}
 use Rattle.std.specs.List.{find}
@@ -6,7 +7,7 @@ use Rattle.std.specs.Option.{option_map, option_map_or}
 use Rattle.byteorder.specs.Endian.{big_number}
 use Rattle.flash_format.specs.declared.attribute.AttrHead.{AttrHead}
 use Rattle.flash_format.specs.Head.{be32, is_free}
-use Rattle.flash_format.specs.Entry.{Attribute, attribute, attributes, attr_head_of, data_of, least_len, COMPRESSION, name_end}
+use Rattle.flash_format.specs.Entry.{Attribute, attribute, attributes, attr_head_of, data_of, least_len, COMPRESSION}
 use Rattle.flash_format.specs.Components.{packing, cell_attributes}
 use Rattle.flash_device.specs.Pages.{Pages}
 use Rattle.flash_device.specs.Regions.{Range, LiesIn, LiesOn, bytes_in}
@@ -109,18 +110,12 @@ first_after-drop (suc skip) tag at [] = refl
 first_after-drop (suc skip) tag at (b ∷ y) = first_after-drop skip tag (at + 1) y ∙ ap (λ k. first_in tag k (drop skip y)) {x = at + 1 + skip} {y = at + suc skip} (omega arith)
 
 first_later : (n tag at b : ℕ) (y : List ℕ) → 0 < n → first_after (pred n) tag (at + 1) y ≡ first_in tag (at + n) (drop n (b ∷ y))
-first_later zero tag at b y some = absurd (omega arith)
-first_later (suc n) tag at b y some = first_after-drop n tag (at + 1) y ∙ ap (λ k. first_in tag k (drop n y)) {x = at + 1 + n} {y = at + suc n} (omega arith)
+first_later n tag at b y some = grind (arith, common_steps, first_after-drop)
 
 pub first_by : (tag at : ℕ) (l : declared.Listed) (y : List ℕ) → l ≡ listed_in y → first_in tag at y ≡ by_tag tag at l (λ n. first_in tag (at + n) (drop n y))
 unfolding first_after
 first_by tag at l [] told = ap (λ (k : declared.Listed). by_tag tag at k (λ n. first_in tag (at + n) (drop n []))) (sym told)
-first_by tag at l (b ∷ y) told = ap (λ (k : declared.Listed). by_tag tag at k (λ n. first_after (pred n) tag (at + 1) y)) (sym told) ∙ go l told
-  where
-    go : (l : declared.Listed) → l ≡ listed_in (b ∷ y) → by_tag tag at l (λ n. first_after (pred n) tag (at + 1) y) ≡ by_tag tag at l (λ n. first_in tag (at + n) (drop n (b ∷ y)))
-    go (listed.Attribute h) told = ap (cond (eqb h.tag tag) (Some (at, h))) (first_later h.len tag at b y (omega (arith, (goes (b ∷ y) h told).least)))
-    go listed.End told = refl
-    go listed.Malformed told = refl
+first_by tag at l (b ∷ y) told = grind (arith, common_steps, first_later, goes)
 
 pub first_more : (tag at : ℕ) (h : AttrHead) (y : List ℕ) → eqb h.tag tag ≡ false → listed.Attribute h ≡ listed_in y → first_in tag at y ≡ first_in tag (at + h.len) (drop h.len y)
 first_more tag at h y other told = first_by tag at (listed.Attribute h) y told ∙ ap (λ b. cond b (Some (at, h)) (first_in tag (at + h.len) (drop h.len y))) other
@@ -178,8 +173,7 @@ first_data tag (suc n) x at end all inside few formed = ap (option_map (data_at 
         ∙ sym (ap (λ (l : List Attribute). data_of tag l) on.first)
 
 pub data_found : (tag : ℕ) (x : List ℕ) (c : Cell) → c.at + c.head.offset ≤ length x → StandsIn x c → is_free c.head ≡ false → option_map (data_at x) (first_attribute x c tag) ≡ data_of tag (cell_attributes (cell_in x c))
-data_found tag x c inside stands used =
-    first_data tag (suc (length (slice_range x (c.at + name_end c.head) (c.at + c.head.offset)))) x (c.at + name_end c.head) (c.at + c.head.offset) (cell_attributes (cell_in x c)) inside (omega arith) (listed_all x c stands used)
+data_found tag x c inside stands used = grind (arith, common_steps, first_data, listed_all)
 
 -- ---- the value of the first compression attribute
 
@@ -198,7 +192,4 @@ value_is x c (Some found) is =
 -- in a component of the region
 pub packing_found : (r : Range) (image : List ℕ) (c : Cell) (found : Option Placed) → LiesIn r image → IsComponentIn r.size c → StandsIn (bytes_in r image) c → IfSome found (IsAttrOf c COMPRESSION)
     → found ≡ first_attribute (bytes_in r image) c COMPRESSION → value_in (bytes_in r image) found ≡ packing (cell_attributes (cell_in (bytes_in r image) c))
-packing_found r image c found lies is stands attribute first =
-    let x = bytes_in r image in
-    let inside : c.at + c.head.offset ≤ length x = omega (arith, length-region r image lies, content_inside r.size c is.checks) in
-    value_is x c found attribute ∙ ap (λ f. option_map_or (be32 0) (option_map (data_at x) f) 0) first ∙ ap (λ f. option_map_or (be32 0) f 0) (data_found COMPRESSION x c inside stands is.used)
+packing_found r image c found lies is stands attribute first = grind (arith, common_steps, content_inside, data_found, length-region, value_is)

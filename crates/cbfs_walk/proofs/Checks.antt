@@ -1,4 +1,5 @@
 -- The checks of a head, and entries.
+use Rattle.std.proofs.lemmas.Grind.{common_steps}
 use Rattle.std.proofs.Common.{◌≡◌, ℕ, ◌+◌, ◌-◌, ◌%◌, ◌≤◌, false, List, length, Some, None, Result, Ok, refl, sym, ap, ◌∙◌, arith}
 use Rattle.flash_format.specs.declared.head.Head.{Head}
 use Rattle.flash_format.specs.declared.head.Extent.{Extent}
@@ -45,9 +46,7 @@ pub content_inside : (size : ℕ) (c : Cell) → PassesChecks size c → c.at + 
 content_inside size c ok = let k = checks_give (size - c.at) c.head c.span ok in omega (arith, k.room, k.inside)
 
 pub checked_extent : (h : Head) (left : ℕ) (e : Extent) → Ok e ≡ extent_of h left → cells.IsChecked left h e.span
-checked_extent h left e is =
-    let k = checked_ok h left e (sym is) in
-    sym is ∙ ap (λ n. Ok (record { content = n; span = e.span })) k.content
+checked_extent h left e is = grind (arith, common_steps, checked_ok)
 
 -- ---- entries
 

@@ -2,7 +2,6 @@
 use Rattle.std.proofs.Common.{◌≡◌, ℕ, ◌+◌, ◌<◌, ◌≤◌, Bool, true, false, cond, List, [], ◌∷◌, length, drop, Some, None, Result, Ok, Err, refl, sym, ap, subst, ◌∙◌, arith, eqb, length-take, length-drop, not, ◌&&◌}
 use Rattle.std.specs.Prelude.{slice_range, is_some}
 use Rattle.std.proofs.lemmas.List.{drop-drop}
-use Rattle.std.proofs.lemmas.Bool.{eqb-true, and_parts}
 use Rattle.std.proofs.lemmas.Grind.{common_steps}
 use Rattle.flash_format.specs.declared.head.Head.{Head}
 use Rattle.flash_format.specs.declared.head.Extent.{Extent}
@@ -17,7 +16,7 @@ use Rattle.flash_format.proofs.Fronts.{head_of-take, range-take}
 use Rattle.flash_device.specs.Regions.{bytes_in}
 use Rattle.cbfs_walk.specs.Cells.{IsCellIn, cell_in}
 use Rattle.cbfs_walk.specs.Shapes.{has_bad_size, is_absent, refused_or}
-use Rattle.cbfs_walk.specs.Walks.{StepResult, answer_at, answer_by, StandsIn}
+use Rattle.cbfs_walk.specs.Walks.{answer_at, answer_by, StandsIn}
 use Rattle.cbfs_walk.specs.Laws.{GoesOn, WalksFollowTheCut, CellsStandInTheirImage}
 use Rattle.cbfs_walk.specs.declared.cell.Cell.{Cell}
 use Rattle.cbfs_walk.specs.declared.walk.Step.TheVariants as steps
@@ -26,8 +25,7 @@ use Rattle.cbfs_walk.proofs.Checks.{IsGood, checks_give, checked_extent}
 use Rattle.cbfs_walk.proofs.Parts.{range_is, range-drop, part-in, length-region}
 
 none_first : (at : ℕ) (e : Entry) → (eqb at 0 && is_absent e) ≡ true → (at ≡ 0) × (e ≡ absent)
-none_first at absent z = (eqb-true at 0 (and_parts (eqb at 0) true z).0, refl)
-none_first at _ z = let never : false ≡ true = (and_parts (eqb at 0) false z).1 in absurd cc
+none_first at e z = grind (arith, common_steps)
 
 -- the cell, and the later cut
 pub cut_at : (x : List ℕ) (at span : ℕ) → 0 < length (drop at x) → entry (drop at x) ≡ cell span → cut (drop at x) ≡ after (slice_range x at (at + span) ∷ []) (cut (drop (at + span) x))
@@ -60,22 +58,7 @@ pub record Standing (x : List ℕ) (c : Cell) : Type 0 where
 
 pub standing : (x : List ℕ) (c : Cell) → StandsIn x c → Standing x c
 unfolding answer_at
-standing x c e = go (has_bad_size (length x)) (eqb c.at 0 && is_absent (entry x)) (eqb (length (drop c.at x)) 0) refl e
-  where
-    by_entry : (f : Entry) → entry (drop c.at x) ≡ f → 0 < length (drop c.at x) → answer_by (drop c.at x) c.at f ≡ Ok (steps.Cell c) → Standing x c
-    by_entry (cell span) is some p =
-        let same : (let d : Cell = record { at = c.at; head = head_of (drop c.at x); span = span } in d) ≡ c = cc in
-        record {
-          some = some;
-          entry = is ∙ ap (λ (d : Cell). cell d.span) same;
-          head = ap (λ (d : Cell). d.head) (sym same);
-        }
-    by_entry _ is some p = absurd cc
-
-    go : (b m n : Bool) → eqb (length (drop c.at x)) 0 ≡ n
-        → (let a : StepResult = refused_or (λ fault. Err fault) (cond b (Some walk.RegionShape) (cond m (Some walk.NotCbfs) None)) (cond n (Ok steps.End) (answer_by (drop c.at x) c.at (entry (drop c.at x)))) in a ≡ Ok (steps.Cell c)) → Standing x c
-    go false false false f p = by_entry (entry (drop c.at x)) refl (grind (arith, common_steps)) p
-    go _ _ _ f p = absurd cc
+standing x c e = grind (arith, common_steps)
 
 -- a cell's head equals the head in its bytes
 pub cell_head : (x : List ℕ) (c : Cell) → Standing x c → 64 ≤ c.span → head_of (cell_in x c) ≡ c.head

@@ -1,13 +1,12 @@
 -- The digest of a content, and the first hash attribute.
-use Rattle.std.proofs.Common.{◌≡◌, ℕ, ◌+◌, ◌-◌, ◌<◌, ◌≤◌, Bool, true, false, cond, IsTrue, List, ◌++◌, take, drop, length, Option, Some, None, Ok, refl, sym, subst, ap, ◌∙◌, arith, ltb, le_refl}
+use Rattle.std.proofs.lemmas.Grind.{common_steps}
+use Rattle.std.proofs.Common.{◌≡◌, ℕ, ◌+◌, ◌-◌, ◌<◌, ◌≤◌, true, false, cond, IsTrue, List, ◌++◌, take, drop, length, Option, Some, None, Ok, sym, ap, ◌∙◌, arith, ltb, le_refl}
 use Rattle.std.specs.Prelude.{slice_range, IfSome, option_and_then}
-use Rattle.std.specs.Str.{bytes_eq}
 use Rattle.std.proofs.lemmas.Bool.{lt-ltb, le-ltb}
 use Rattle.byteorder.specs.Endian.{big_number}
 use Rattle.sha2.proofs.Facts256.{length-sha256}
 use Rattle.sha2.proofs.Facts512.{length-sha512}
 use Rattle.flash_format.specs.declared.digest.Algorithm.{Algorithm}
-use Rattle.flash_format.specs.declared.digest.Algorithm.TheVariants as algorithms
 use Rattle.flash_format.specs.declared.digest.Digest.{Digest}
 use Rattle.flash_format.specs.declared.head.Head.{Head}
 use Rattle.flash_format.specs.Head.{be32}
@@ -22,7 +21,6 @@ use Rattle.cbfs_walk.specs.AttrWalks.{IsAttrOf, Placed, searched_to}
 use Rattle.cbfs_walk.specs.Hashes.{hashed_by, digest_by, stored_digest, comparison, state_by, hash_state, content_at, hash_state_in, IsUncompared}
 use Rattle.cbfs_walk.specs.declared.cell.Cell.{Cell}
 use Rattle.cbfs_walk.specs.declared.hashes.HashState.{HashState}
-use Rattle.cbfs_walk.specs.declared.hashes.HashState.TheVariants.{Valid, Invalid}
 use Rattle.flash_format.specs.Made.{algorithm, algorithm_row, algorithm_numbered, digest_with, digest_bytes, digest_len}
 use Rattle.cbfs_walk.proofs.Parts.{length-region, range-inner, range-take, range-after, length-range}
 use Rattle.cbfs_walk.proofs.ReadSequences.{Passes-then}
@@ -96,13 +94,11 @@ content_taken x c from at begins ends = ap (λ k. slice_range x k at) begins ∙
 -- the algorithm's row
 pub algorithm-hashed : (a : Algorithm) (bytes : List ℕ) → algorithm (hashed_by a bytes) ≡ a
 unfolding hashed_by
-algorithm-hashed algorithms.Sha256 bytes = refl
-algorithm-hashed algorithms.Sha512 bytes = refl
+algorithm-hashed a bytes = grind (arith, common_steps)
 
 pub length-hashed : (a : Algorithm) (bytes : List ℕ) → length (digest_bytes (hashed_by a bytes)) ≡ digest_len (hashed_by a bytes)
 unfolding hashed_by
-length-hashed algorithms.Sha256 bytes = length-sha256 bytes
-length-hashed algorithms.Sha512 bytes = length-sha512 bytes
+length-hashed a bytes = grind (arith, common_steps, length-sha256, length-sha512)
 
 -- ---- the first hash attribute
 
@@ -128,8 +124,4 @@ read_to_content c tag o found is attribute first second =
 
 -- a comparison never results in an uncompared state
 pub compared_is_told : (stored computed : Digest) (state : HashState) → state ≡ comparison stored computed → IsUncompared state → ⊥
-compared_is_told stored computed state is = go (bytes_eq (digest_bytes stored) (digest_bytes computed)) is
-  where
-    go : (b : Bool) → state ≡ cond b (Valid stored) (Invalid stored) → IsUncompared state → ⊥
-    go true e told = subst (λ (s : HashState). IsUncompared s) e told
-    go false e told = subst (λ (s : HashState). IsUncompared s) e told
+compared_is_told stored computed state is = grind (arith, common_steps)

@@ -1,15 +1,13 @@
 -- The first component with a name.
-use Rattle.std.proofs.Common.{◌≡◌, ℕ, Bool, true, false, cond, List, [], ◌∷◌, ◌++◌, Option, Some, None, Ok, Err, refl, sym, subst, ◌∙◌, ap, All}
+use Rattle.std.proofs.Common.{arith}
+use Rattle.std.proofs.lemmas.Grind.{common_steps}
+use Rattle.std.proofs.Common.{◌≡◌, ℕ, Bool, true, false, cond, List, [], ◌∷◌, ◌++◌, Option, Some, None, Ok, refl, sym, subst, ◌∙◌, ap, All}
 use Rattle.std.specs.Str.{bytes_eq}
 use Rattle.std.proofs.lemmas.List.Elements.{All-nil, All-cons, All-head, All-tail, All-contains}
 use Rattle.std.proofs.lemmas.Slice.Eq.{bytes_eq-Decides}
-use Rattle.flash_format.specs.Cut.{End, damage, cut}
 use Rattle.flash_format.specs.Components.{Component, components}
-use Rattle.cbfs_walk.specs.Shapes.{shape_fault, refused_or}
-use Rattle.cbfs_walk.specs.CellReadings.{place_after}
-use Rattle.cbfs_walk.specs.Search.{Found, IsFirstOf, first_named, not_found, found_or, component_in}
+use Rattle.cbfs_walk.specs.Search.{IsFirstOf, first_named, component_in}
 use Rattle.cbfs_walk.specs.Laws.{FoundIsFirst, FirstIsFound, ListedIsFound}
-use Rattle.cbfs_walk.specs.declared.walk.WalkFault.{WalkFault}
 
 abbrev IsOther : List ℕ → Component → Type 0
 IsOther name c = bytes_eq c.name name ≡ false
@@ -55,26 +53,11 @@ same_name name = (bytes_eq-Decides name name).1 refl
 
 pub first_found : FirstIsFound
 unfolding component_in
-first_found x name c good is =
-    ap (λ (o : Option WalkFault). refused_or (λ fault. Err fault) o (found_or (first_named name (components x)) (not_found (place_after 0 (cut x).cells) (cut x).end))) good
-    ∙ ap (λ (o : Option Component). found_or o (not_found (place_after 0 (cut x).cells) (cut x).end))
-    (ap (λ (l : List Component). first_named name l) is.whole ∙ first_is name is.before is.after c is.named is.none_before)
+first_found x name c good is = grind (arith, common_steps, first_is)
 
 pub found_first : FoundIsFirst
 unfolding component_in
-found_first x name c found = is_first name (components x) c (by_shape (shape_fault x) (first_named name (components x)) found)
-  where
-    none : (at : ℕ) (e : End) → not_found at e ≡ Ok (Some c) → ⊥
-    none at (damage kind) is = absurd cc
-    none at _ is = absurd cc
-
-    same : (d : Component) → (let f : Found = Ok (Some d) in f ≡ Ok (Some c)) → Some d ≡ Some c
-    same d is = cc
-
-    by_shape : (fault : Option WalkFault) (o : Option Component) → refused_or (λ f. Err f) fault (found_or o (not_found (place_after 0 (cut x).cells) (cut x).end)) ≡ Ok (Some c) → o ≡ Some c
-    by_shape (Some fault) o is = absurd cc
-    by_shape None None is = absurd (none _ (cut x).end is)
-    by_shape None (Some d) is = same d is
+found_first x name c found = grind (arith, common_steps, is_first)
 
 pub listed_found : ListedIsFound
 unfolding component_in

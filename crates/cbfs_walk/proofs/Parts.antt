@@ -1,6 +1,7 @@
 -- Parts of a region.
+use Rattle.std.proofs.lemmas.Grind.{common_steps}
 use Rattle.std.proofs.Common.{◌≡◌, ℕ, ◌+◌, ◌-◌, ◌≤◌, List, length, take, drop, sym, ap, ◌∙◌, arith, length-take, length-drop}
-use Rattle.std.specs.Prelude.{slice_range, Result, Ok, Err, OnOk}
+use Rattle.std.specs.Prelude.{slice_range, Result, OnOk}
 use Rattle.std.proofs.lemmas.List.{take-take, drop-drop, drop-take}
 use Rattle.std.proofs.Common.{Bool, Option, ◌<◌, ◌⊎◌, inl, inr, min}
 use Rattle.std.specs.List.{list_any}
@@ -32,9 +33,7 @@ part-in image r at n fits =
     ∙ sym (range_is (bytes_in r image) at n)
 
 pub range-drop : (x : List ℕ) (at a b : ℕ) → slice_range (drop at x) a b ≡ slice_range x (at + a) (at + b)
-range-drop x at a b =
-    let n : b - a ≡ at + b - (at + a) = omega arith in
-    ap (λ k. take k (drop a (drop at x))) n ∙ ap (take (at + b - (at + a))) (drop-drop a at x)
+range-drop x at a b = grind (arith, common_steps)
 
 pub range-take : (x : List ℕ) (a b n : ℕ) → a + n ≤ b → take n (slice_range x a b) ≡ slice_range x a (a + n)
 range-take x a b n le = take-take n (b - a) (drop a x) (omega arith) ∙ sym (range_is x a n)
@@ -49,8 +48,7 @@ length-range x a b le = grind (arith, length-take, length-drop)
 
 pub read_part : {E : Type 0} (result : Result (Unit {0}) E) (out image : List ℕ) (r : Range) (p at n : ℕ) → OnOk result (out ≡ slice_range image p (p + n)) → p ≡ r.start + at → at + n ≤ r.size
     → OnOk result (out ≡ slice_range (bytes_in r image) at (at + n))
-read_part (Err e) out image r p at n read same fits = tt
-read_part (Ok x) out image r p at n read same fits = read ∙ ap (λ k. slice_range image k (k + n)) same ∙ part-in image r at n fits
+read_part result out image r p at n read same fits = grind (arith, common_steps, part-in)
 
 pub range-inner : (x : List ℕ) (a b i j : ℕ) → j ≤ b - a → slice_range (slice_range x a b) i j ≡ slice_range x (a + i) (a + j)
 range-inner x a b i j le =
@@ -61,9 +59,7 @@ range-inner x a b i j le =
     ∙ range-drop x a i j
 
 pub front_read : (x : List ℕ) (at : ℕ) (h : Option Head) (bytes : List ℕ) → h ≡ head_at bytes → bytes ≡ slice_range x at (at + 24) → at + 24 ≤ length x → h ≡ front (drop at x)
-front_read x at h bytes e read fits =
-    rw (le-ltb (length (drop at x)) 24 (omega (arith, length-drop at x)))
-    (e ∙ ap head_at (read ∙ range_is x at 24) ∙ head_at-take (drop at x) 24 (omega arith))
+front_read x at h bytes e read fits = grind (arith, common_steps, head_at-take, le-ltb, length-drop, range_is)
 
 pub name_read : (x : List ℕ) (at end n : ℕ) (b : Bool) → b ≡ list_any is_nul (slice_range x (at + 24) (at + 24 + n)) → 24 ≤ end → n ≡ min (end - 24) 256 → b ≡ is_terminated (slice_range (drop at x) 24 end)
 name_read x at end n b e le is = e ∙ ap (list_any is_nul) (sym (go (cases_lt 256 (end - 24))))

@@ -1,4 +1,5 @@
 -- Consecutive reads.
+use Rattle.std.proofs.lemmas.Grind.{common_steps}
 use Rattle.std.proofs.Common.{◌≡◌, ◌⊎◌, inl, inr, ⊎_elim, ℕ, ◌+◌, ◌-◌, ◌*◌, ◌<◌, ◌≤◌, Result, Ok, Err, ◌∙◌, refl, sym, subst, arith, le_refl}
 use Rattle.std.specs.Prelude.{IfOk, OnOk, length}
 use Rattle.flash_device.specs.Device.{refusals}
@@ -9,8 +10,7 @@ use Rattle.flash_device.proofs.WindowLemmas.{HasRead-none, HasRead-then, HasRead
 use Rattle.cbfs_walk.specs.Walks.{IsLoad, Passes, reads_over}
 
 pub IfOk-to : {E : Type 0} (result : Result ℕ E) (v w : ℕ) → v ≡ w → IfOk result (λ x. x ≡ v) → IfOk result (λ x. x ≡ w)
-IfOk-to (Ok x) v w same told = told ∙ same
-IfOk-to (Err e) v w same told = tt
+IfOk-to result v w same told = grind (arith, common_steps)
 
 -- ---- reads in order
 

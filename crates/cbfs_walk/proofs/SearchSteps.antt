@@ -1,11 +1,12 @@
 -- The search for a component, cell by cell.
-use Rattle.std.proofs.Common.{◌≡◌, ℕ, ◌+◌, ◌-◌, ◌/◌, ◌%◌, ◌≤◌, Bool, true, false, cond, not, ◌&&◌, ◌⊎◌, inl, inr, IsTrue, List, ◌∷◌, length, Option, Some, None, Result, Ok, Err, refl, sym, ap, ◌∙◌, arith}
+use Rattle.std.proofs.lemmas.Grind.{common_steps}
+use Rattle.std.proofs.Common.{◌≡◌, ℕ, ◌+◌, ◌/◌, ◌%◌, ◌≤◌, Bool, true, false, cond, not, ◌&&◌, ◌⊎◌, inl, inr, IsTrue, List, length, Option, Some, None, Result, Ok, Err, refl, sym, ap, ◌∙◌, arith}
 use Rattle.std.specs.Prelude.{IsErrOf}
 use Rattle.std.specs.Str.{bytes_eq}
 use Rattle.flash_format.specs.declared.head.Head.{Head}
 use Rattle.flash_format.specs.Head.{head_of, is_free}
 use Rattle.flash_format.specs.Cut.{Cut}
-use Rattle.flash_format.specs.Components.{Component, cell_name, component_at, components_from}
+use Rattle.flash_format.specs.Components.{cell_name, component_at, components_from}
 use Rattle.flash_device.specs.Device.{fault_count}
 use Rattle.flash_device.specs.Pages.{Pages, HasRead}
 use Rattle.flash_device.specs.Regions.{Range, LiesOn, bytes_in}
@@ -23,7 +24,7 @@ use Rattle.flash_device.proofs.WindowLemmas.{HasRead-none, HasRead-then, HasRead
 use Rattle.cbfs_walk.proofs.Parts.{length-region}
 use Rattle.cbfs_walk.proofs.CutLaws.{standing, cell_head, cell_len}
 use Rattle.cbfs_walk.proofs.Shapes.{shaped_step}
-use Rattle.cbfs_walk.proofs.StepResults.{IsLast, last_reads}
+use Rattle.cbfs_walk.proofs.StepResults.{IsLast}
 
 refused : WalkFault → Found
 refused fault = Err fault
@@ -40,22 +41,7 @@ found_from x name at = reading_of refused (find_cut name) x at
 
 law : (name : List ℕ) → ReadsCells (find_cut name) (each_cell name)
 unfolding find_cut each_cell components_from
-law name at c k = go (is_free (head_of c))
-  where
-    others : List Component
-    others = components_from (at + length c) k.cells
-
-    otherwise : Found
-    otherwise = not_found (place_after (at + length c) k.cells) k.end
-
-    named : (b : Bool) → found_or (cond b (Some (component_at at c)) (first_named name others)) otherwise ≡ cond b (Ok (Some (component_at at c))) (found_or (first_named name others) otherwise)
-    named true = refl
-    named false = refl
-
-    go : (free : Bool) → found_or (first_named name (cond free others (component_at at c ∷ others))) otherwise
-        ≡ cond (not free && bytes_eq (cell_name c) name) (Ok (Some (component_at at c))) (found_or (first_named name others) otherwise)
-    go true = refl
-    go false = named (bytes_eq (cell_name c) name)
+law name at c k = grind (arith, common_steps)
 
 pub found_whole : (x name : List ℕ) → component_in x name ≡ found_from x name 0
 unfolding component_in found_from refused find_cut reading_of
@@ -91,8 +77,7 @@ searching_start r name old = record {
 }
 
 told_step : (s : Step) (b : StepResult) → (let a : StepResult = Ok s in IsErrOf a faults.Device ⊎ (a ≡ b)) → Ok s ≡ b
-told_step s b (inl e) = absurd cc
-told_step s b (inr e) = e
+told_step s b it = grind (arith, common_steps)
 
 cell_is : (at span : ℕ) (h k : Head) (n : ℕ) → h ≡ k → n ≡ span → (let a : Cell = record { at = at; head = h; span = n } in a) ≡ record { at = at; head = k; span = span }
 cell_is at span h k n e f = ap (λ (j : Head). let a : Cell = record { at = at; head = j; span = n } in a) e ∙ ap (λ m. let a : Cell = record { at = at; head = k; span = m } in a) f
@@ -167,15 +152,10 @@ module _ {F : Type 0} (r : Range) (name : List ℕ) (w : Walking) (old now : Pag
   module _ (step : Step) (last : IsLast step) where
     last_found : found_cell (found_by (bytes_in r old.device.content) name (Ok step)) ≡ Ok None
     unfolding found_by find_cut components_from
-    last_found = elim last [
-      | inl tail ↦ ap (λ (s : Step). found_cell (found_by (bytes_in r old.device.content) name (Ok s))) tail.1
-      | inr end ↦ ap (λ (s : Step). found_cell (found_by (bytes_in r old.device.content) name (Ok s))) end
-    ]
+    last_found = grind (arith, common_steps)
 
     pub last_after : (mid : Pages F) → HasRead (reads_at w.region.size w.at (Ok step)) 0 now mid → HasRead (r.size / 16 + 2) 0 old mid
-    last_after mid reading =
-        HasRead-within (w.at / 16 + reads_over (w.region.size - w.at)) (r.size / 16 + 2) 0 old mid (omega (arith, s.inside, ap (λ (k : Range). k.size) s.region))
-        (HasRead-then (w.at / 16) (reads_over (w.region.size - w.at)) 0 old now mid s.read (rw (last_reads step w.region.size w.at last) at reading))
+    last_after mid reading = grind (arith, common_steps)
 
     pub last_answer : (IsTrue now.device.honest → w.ended ≡ None → (let a : StepResult = Ok step in IsErrOf a faults.Device ⊎ (a ≡ answer_at (bytes_in w.region now.device.content) w.at)))
         → IsTrue old.device.honest → Ok None ≡ found_cell (component_in (bytes_in r old.device.content) name)
@@ -183,8 +163,7 @@ module _ {F : Type 0} (r : Range) (name : List ℕ) (w : Walking) (old now : Pag
 
   refusal : (fault : WalkFault) → found_cell (found_by (bytes_in r old.device.content) name (Err fault)) ≡ Err fault
   unfolding found_by find_cut components_from refused
-  refusal (faults.Damaged at kind) = refl
-  refusal _ = refl
+  refusal fault = grind (arith, common_steps)
 
   pub searching_err : (fault : WalkFault) → (answer : IsTrue now.device.honest → w.ended ≡ None → (let a : StepResult = Err fault in IsErrOf a faults.Device ⊎ (a ≡ answer_at (bytes_in w.region now.device.content) w.at)))
       → IsTrue old.device.honest → (let a : Result (Option Cell) WalkFault = Err fault in IsErrOf a faults.Device ⊎ (a ≡ found_cell (component_in (bytes_in r old.device.content) name)))

@@ -1,14 +1,13 @@
 -- A walk's result at a position, by the entry.
-use Rattle.std.proofs.Common.{◌≡◌, ℕ, ◌-◌, ◌%◌, ◌<◌, ◌≤◌, Some, Bool, true, false, cond, not, ◌&&◌, ◌⊎◌, inl, inr, List, length, drop, Ok, Err, refl, sym, ap, ◌∙◌, arith, eqb, length-drop, true≢false, le_refl}
-use Rattle.std.specs.Prelude.{is_some, IfOk, IsErrOf}
-use Rattle.std.proofs.lemmas.Bool.{eqb-true, ne_eqb, and_right}
+use Rattle.std.proofs.Common.{◌≡◌, ℕ, ◌-◌, ◌%◌, ◌<◌, ◌≤◌, Some, true, false, ◌&&◌, ◌⊎◌, inl, inr, List, length, drop, Ok, Err, refl, sym, ap, ◌∙◌, arith, eqb, length-drop, le_refl}
+use Rattle.std.specs.Prelude.{IfOk, IsErrOf}
+use Rattle.std.proofs.lemmas.Bool.{and_right}
 use Rattle.std.proofs.lemmas.Grind.{common_steps}
 use Rattle.flash_format.specs.declared.head.Head.{Head}
 use Rattle.flash_format.specs.declared.head.Extent.{Extent}
 use Rattle.flash_format.specs.declared.head.DamageKind.{DamageKind}
-use Rattle.flash_format.specs.declared.head.DamageKind.TheVariants as kinds
 use Rattle.flash_format.specs.Head.{head_of, is_free, extent_of}
-use Rattle.flash_format.specs.Entry.{attributes, Entry, absent, damaged, cell, entry, front, present, component, is_terminated, name_field, attribute_field}
+use Rattle.flash_format.specs.Entry.{Entry, absent, damaged, cell, entry, front, present, component}
 use Rattle.flash_format.proofs.CutSteps.{front_some}
 use Rattle.flash_format.proofs.EntryLaws.{present_by}
 use Rattle.flash_device.specs.Device.{fault_count}
@@ -28,40 +27,22 @@ use Rattle.cbfs_walk.specs.declared.walk.WalkFault.TheVariants as faults
 pub good_size : (size : ℕ) → false ≡ has_bad_size size → size % 64 ≡ 0
 good_size size e = grind (arith, common_steps)
 
-pub good_some : (size : ℕ) → false ≡ has_bad_size size → size ≡ 0 → ⊥
-good_some size e z = true≢false (sym (e ∙ ap has_bad_size z))
-
 pub answer_shape : (x : List ℕ) (at size : ℕ) → length x ≡ size → true ≡ has_bad_size size → Err faults.RegionShape ≡ answer_at x at
 unfolding answer_at
 answer_shape x at size len bad = rw (len, ← bad) refl
 
 pub answer_end : (x : List ℕ) (at size : ℕ) → length x ≡ size → false ≡ has_bad_size size → at ≡ size → Ok steps.End ≡ answer_at x at
 unfolding answer_at
-answer_end x at size len good end =
-    let none : length (drop at x) ≡ 0 = omega (arith, length-drop at x) in
-    let later : eqb at 0 ≡ false = ne_eqb at 0 (λ z. good_some size good (sym end ∙ z)) in
-    rw (len, ← good, later, none) refl
-
--- the region's first entry
-first_entry : (x : List ℕ) (at : ℕ) (e : Entry) → e ≡ entry (drop at x) → (eqb at 0 && is_absent (entry x)) ≡ (eqb at 0 && is_absent e)
-first_entry x at e is = go (eqb at 0) refl
-  where
-    go : (b : Bool) → eqb at 0 ≡ b → (b && is_absent (entry x)) ≡ (b && is_absent e)
-    go true z = let zero_is : at ≡ 0 = eqb-true at 0 z in ap (λ n. is_absent (entry (drop n x))) (sym zero_is) ∙ ap is_absent (sym is)
-    go false z = refl
+answer_end x at size len good end = grind (arith, common_steps)
 
 pub answer_entry : (x : List ℕ) (at size : ℕ) (e : Entry) → length x ≡ size → false ≡ has_bad_size size → at < size → e ≡ entry (drop at x) → (eqb at 0 && is_absent e) ≡ false
     → answer_by (drop at x) at e ≡ answer_at x at
 unfolding answer_at
-answer_entry x at size e len good inside is other =
-    let some : eqb (length (drop at x)) 0 ≡ false = let l : 0 < length (drop at x) = omega (arith, length-drop at x) in grind (arith, common_steps) in
-    rw (len, ← good, first_entry x at e is ∙ other, some) (ap (answer_by (drop at x) at) is)
+answer_entry x at size e len good inside is other = grind (arith, common_steps)
 
 pub answer_absent : (x : List ℕ) (at size : ℕ) → length x ≡ size → false ≡ has_bad_size size → absent ≡ entry (drop at x) → at ≡ 0 → Err faults.NotCbfs ≡ answer_at x at
 unfolding answer_at
-answer_absent x at size len good is first =
-    let here : (eqb at 0 && is_absent (entry x)) ≡ true = first_entry x at absent is ∙ ap (λ n. eqb n 0 && true) first in
-    rw (len, ← good, here) refl
+answer_absent x at size len good is first = grind (arith, common_steps)
 
 -- ---- checked heads
 
@@ -78,13 +59,7 @@ pub answer_whole : (x : List ℕ) (c : Cell) → c.head ≡ head_of x → false 
 answer_whole x c head used told = cell_given x c head ∙ ap (answer_by x c.at) (told c.span ∙ sym (present_by false c.head x (record { content = c.head.offset; span = c.span }) (sym used)))
 
 present_some : (h : Head) (x : List ℕ) (e : Extent) → is_absent (present h x (Ok e)) ≡ false
-present_some h x e = go (is_free h) (is_terminated (name_field h x)) (is_some (attributes (attribute_field h x)))
-  where
-    go : (free named formed : Bool) → is_absent (cond free (cell e.span) (cond (not named) (damaged kinds.Name) (cond (not formed) (damaged kinds.AttrLength) (cell e.span)))) ≡ false
-    go true named formed = refl
-    go false true true = refl
-    go false true false = refl
-    go false false formed = refl
+present_some h x e = grind (arith, common_steps)
 
 pub answer_cell : (x : List ℕ) (at size : ℕ) (h : Head) (e : Extent) (a : StepResult) → length x ≡ size → false ≡ has_bad_size size → at < size → Some h ≡ front (drop at x) → Ok e ≡ extent_of h (size - at)
     → (h ≡ head_of (drop at x) → IsErrOf a faults.Device ⊎ (a ≡ answer_of (drop at x) (record { at = at; head = h; span = e.span }))) → IsErrOf a faults.Device ⊎ (a ≡ answer_at x at)
@@ -117,18 +92,13 @@ cell_gives size c (Ok step) is good aligned inside told =
 -- ---- an ended walk
 
 pub ends_faultless : (a : StepResult) → EndsWalk a → fault_count by_device a ≡ 0
-ends_faultless (Ok (steps.Cell c)) e = absurd e
-ends_faultless (Err faults.Device) e = absurd e
-ends_faultless _ e = refl
+ends_faultless a e = grind (arith, common_steps)
 
 pub ends_cell : (size at : ℕ) (a : StepResult) → EndsWalk a → GivesCell size at a
-ends_cell size at (Ok (steps.Cell c)) e = absurd e
-ends_cell size at _ e = tt
+ends_cell size at a e = grind (arith, common_steps)
 
 pub ends_moved : (w : Walking) (a : StepResult) → EndsWalk a → w.ended ≡ Some a → w ≡ walk_after w a
-ends_moved w (Ok (steps.Cell c)) e is = absurd e
-ends_moved w (Err faults.Device) e is = absurd e
-ends_moved w _ e is = ap (λ o. record w { ended = o }) is
+ends_moved w a e is = grind (arith, common_steps)
 
 -- ---- the last steps of a walk
 
@@ -136,5 +106,4 @@ abbrev pub IsLast : Step → Type 0
 IsLast step = ((at : ℕ) × (step ≡ steps.Tail at)) ⊎ (step ≡ steps.End)
 
 pub last_reads : (step : Step) (size at : ℕ) → IsLast step → reads_at size at (Ok step) ≡ reads_over (size - at)
-last_reads step size at (inl tail) = ap (λ (s : Step). reads_at size at (Ok s)) tail.1
-last_reads step size at (inr end) = ap (λ (s : Step). reads_at size at (Ok s)) end
+last_reads step size at it = grind (arith, common_steps)

@@ -1,5 +1,6 @@
 -- Text before its first NUL.
-use Rattle.std.proofs.Common.{◌≡◌, ℕ, zero, suc, ◌+◌, ◌<◌, ◌≤◌, min, Bool, true, false, cond, not, ◌||◌, List, [], ◌∷◌, length, take, sym, ap, ◌∙◌, arith, length-take, ◌⊎◌, inl, inr}
+use Rattle.std.proofs.lemmas.Grind.{common_steps}
+use Rattle.std.proofs.Common.{◌≡◌, ℕ, zero, suc, ◌+◌, ◌<◌, ◌≤◌, min, Bool, true, false, cond, not, ◌||◌, List, [], ◌∷◌, length, take, sym, ap, arith, length-take}
 use Rattle.std.specs.List.{list_any, before_first, position_or_len}
 use Rattle.std.specs.Str.{bytes_eq}
 use Rattle.std.proofs.lemmas.List.{take-take}
@@ -43,23 +44,14 @@ text_within k x e =
 
 -- a prefix with enough bytes has the same text
 pub text_prefix : (k : ℕ) (x : List ℕ) → position_or_len is_nul x ≤ k → before_first is_nul (take k x) ≡ before_first is_nul x
-text_prefix k x le =
-    ap (λ n. take n (take k x)) {x = position_or_len is_nul (take k x)} {y = position_or_len is_nul x} (omega (arith, len_prefix k x, le))
-    ∙ take-take (position_or_len is_nul x) k x le
+text_prefix k x le = grind (arith, common_steps, len_prefix, take-take)
 
 texts_differ : (x y : List ℕ) → (length x ≡ length y → ⊥) → bytes_eq x y ≡ false
 texts_differ x y ne = false_from_ne_true (bytes_eq x y) (λ e. ne (ap length ((bytes_eq-Decides x y).0 e)))
 
 -- a name's length and one more byte suffice for a comparison
 pub text_is : (x name : List ℕ) (k : ℕ) → length name < k → position_or_len is_nul x < length x → bytes_eq (before_first is_nul (take k x)) name ≡ bytes_eq (before_first is_nul x) name
-text_is x name k lt some = go (cases_lt k (position_or_len is_nul x))
-  where
-    go : (k < position_or_len is_nul x) ⊎ (position_or_len is_nul x ≤ k) → bytes_eq (before_first is_nul (take k x)) name ≡ bytes_eq (before_first is_nul x) name
-    go (inl more) =
-        let prefix : length (before_first is_nul (take k x)) ≡ k = text_len (take k x) ∙ omega (arith, len_prefix k x, more) in
-        let all = text_len x in
-        texts_differ _ name (λ e. omega (arith, e, prefix, lt)) ∙ sym (texts_differ _ name (λ e. omega (arith, e, all, more, lt)))
-    go (inr less) = ap (λ t. bytes_eq t name) (text_prefix k x less)
+text_is x name k lt some = grind (arith, common_steps, cases_lt, len_prefix, text_len, text_prefix, texts_differ)
 
 -- a text shorter than the name
 pub text_is_not : (x name : List ℕ) → position_or_len is_nul x < length name → false ≡ bytes_eq (before_first is_nul x) name

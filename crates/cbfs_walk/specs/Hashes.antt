@@ -27,10 +27,6 @@ unfoldable pub hashed_by : Algorithm → List ℕ → Digest
 hashed_by algorithms.Sha256 bytes = Sha256 (sha256 bytes)
 hashed_by algorithms.Sha512 bytes = Sha512 (sha512 bytes)
 
--- the digest by the algorithm of another digest
-abbrev pub digest_like : Digest → List ℕ → Digest
-digest_like other bytes = hashed_by (algorithm other) bytes
-
 -- ---- states of a hash attribute
 
 -- the digest after the algorithm's number, if complete
@@ -51,7 +47,7 @@ comparison stored computed =
 abbrev pub state_by : Option (List ℕ) → List ℕ → HashState
 state_by None content = Absent
 state_by (Some contents) content = option_map_or
-    (λ stored. comparison stored (digest_like stored content)) (stored_digest contents) Unsupported
+    (λ stored. comparison stored (hashed_by (algorithm stored) content)) (stored_digest contents) Unsupported
 
 -- by the first hash attribute
 abbrev pub hash_state : List Attribute → List ℕ → HashState

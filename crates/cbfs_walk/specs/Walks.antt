@@ -1,5 +1,5 @@
 -- Walks over the cells of a region, and ordered reads.
-use Rattle.std.specs.Prelude.{◌≡◌, ◌⊎◌, ◌*◌, ◌≤◌, ℕ, ◌+◌, ◌-◌, ◌/◌, List, Result, IfOk, length, drop, Option, Some, None, Ok, Err, ◌==◌, if◌then◌else◌, ⊤}
+use Rattle.std.specs.Prelude.{◌≡◌, ◌⊎◌, ◌*◌, ◌≤◌, ℕ, ◌+◌, ◌-◌, ◌/◌, List, Result, IfOk, IfSome, length, drop, Option, Some, None, Ok, Err, ◌==◌, if◌then◌else◌, ⊤}
 use Rattle.flash_device.specs.Device.{refusals}
 use Rattle.flash_device.specs.Pages.{Pages, Covers, HasRead, OnHonestIn}
 use Rattle.flash_device.specs.Regions.{Range}
@@ -46,6 +46,9 @@ HasPassed region at end old new result = Passes region at end (refusals result) 
 abbrev pub ReadsAs : {F T E : Type 0} → Pages F → Range → Result T E → (List ℕ → T) → Type 0
 ReadsAs old region result answer =
     OnHonestIn old.device region (λ x. IfOk result (λ read. read ≡ answer x))
+
+abbrev pub IfFound : {T E : Type 0} → Result (Option T) E → (T → Type 0) → Type 0
+IfFound result P = IfOk result (λ found. IfSome found P)
 
 abbrev pub StepResult : Type 0
 StepResult = Result Step WalkFault

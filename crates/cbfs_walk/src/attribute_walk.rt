@@ -5,7 +5,7 @@ ghost use Rattle.flash_format.specs.Entry.{Attribute, attributes, COMPRESSION, n
 ghost use Rattle.flash_format.specs.Components.{cell_attributes, packing};
 ghost use Rattle.flash_device.specs.Pages.{HasAnswered, OnHonestIn};
 ghost use Rattle.flash_device.specs.Regions.{LiesOn, Reaches};
-ghost use Rattle.cbfs_walk.specs.Walks.{HasPassed, ReadsAs, reads_over, StandsIn, ReadsCellAs};
+ghost use Rattle.cbfs_walk.specs.Walks.{IfFound, HasPassed, ReadsAs, reads_over, StandsIn, ReadsCellAs};
 ghost use Rattle.cbfs_walk.specs.Cells.{IsCellOn, IsComponentIn, attributes_start, cell_in};
 ghost use Rattle.cbfs_walk.specs.AttrWalks.{place_in_region, attr_walk_of, attr_moved, attr_reads, IsAttrIn, attributes_left, first_head, after_first, IsListedAttribute, listed_in, IsAttrOf, first_attribute, searched_to, value_in};
 
@@ -60,18 +60,14 @@ impl AttrWalk {
         ensures after { HasAnswered (attr_reads self.old) paged.old paged.new result }
         ensures passes { HasPassed region (place_in_region self.old)
             (place_in_region self.old) paged.old paged.new result }
-        ensures attribute { IfOk result (λ found. IfSome found (λ head.
-            IsAttrIn self.old.at self.old.cell.head.offset head)) }
+        ensures attribute { IfFound result (IsAttrIn self.old.at self.old.cell.head.offset) }
         ensures moved { self.new ≡ attr_moved self.old result }
         ensures ended { self.old.at ≡ self.old.cell.head.offset → result ≡ Ok None }
         ensures no_call { self.old.at ≡ self.old.cell.head.offset → paged.new ≡ paged.old }
 
-        ensures head { OnHonestIn paged.old.device region (λ x. (all : List Attribute)
-            → attributes_left x self.old ≡ Some all
-            → IfOk result (λ found. found ≡ first_head all)) }
-        ensures rest { OnHonestIn paged.old.device region (λ x. (all : List Attribute)
-            → attributes_left x self.old ≡ Some all
-            → IfOk result (λ _. attributes_left x self.new ≡ Some (after_first all))) }
+        ensures list { OnHonestIn paged.old.device region (λ x. (all : List Attribute)
+            → attributes_left x self.old ≡ Some all → IfOk result (λ found.
+            (found ≡ first_head all) × (attributes_left x self.new ≡ Some (after_first all)))) }
     {
         let at = self.cell.at + u64::from(self.at);
         let end = self.cell.at + u64::from(self.cell.head.offset);
@@ -122,7 +118,7 @@ pub fn first_attribute<F: Flash>(
 
     ensures passes { HasPassed region (attributes_start cell.now)
         (searched_to cell.now result) paged.old paged.new result }
-    ensures attribute { IfOk result (λ found. IfSome found (IsAttrOf cell.now tag)) }
+    ensures attribute { IfFound result (IsAttrOf cell.now tag) }
     ensures first { ReadsAs paged.old region result (λ x. first_attribute x cell.now tag) }
 {
     content_fits(cell, region);
@@ -183,8 +179,7 @@ fn listed_at<F: Flash>(
 
     ensures after { HasAnswered (min 1 ((end - at) / 8)) paged.old paged.new result }
     ensures passes { HasPassed region at at paged.old paged.new result }
-    ensures no_call { at ≡ end → paged.new ≡ paged.old }
-    ensures none { at ≡ end → result ≡ Ok Listed.End }
+    ensures none { at ≡ end → (result ≡ Ok Listed.End) × (paged.new ≡ paged.old) }
     ensures attribute { IfOk result (λ listed. IsListedAttribute at end listed) }
     ensures listed { ReadsAs paged.old region result (λ x. listed_in (slice_range x at end)) }
 {

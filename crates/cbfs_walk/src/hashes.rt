@@ -2,11 +2,12 @@
 ghost use Rattle.std.specs.Prelude.{◌≡◌, ◌+◌, ◌≤◌, slice_range, IfOk};
 ghost use Rattle.flash_format.specs.declared.digest.Digest.TheVariants as digests;
 ghost use Rattle.flash_format.specs.Components.{cell_attributes, cell_content};
+ghost use Rattle.flash_format.specs.Made.{algorithm};
 ghost use Rattle.flash_device.specs.Pages.{HasAnswered, HasRead, OnHonestIn};
 ghost use Rattle.flash_device.specs.Regions.{LiesOn, Reaches};
 ghost use Rattle.cbfs_walk.specs.Walks.{HasPassed, ReadsAs, reads_over, ReadsCellAs};
 ghost use Rattle.cbfs_walk.specs.Cells.{IsCellOn, IsComponentIn, PassesChecks, content_start, content_end};
-ghost use Rattle.cbfs_walk.specs.Hashes.{digest_like, stored_digest, comparison, hash_state, content_at, hash_state_in, IsUncompared};
+ghost use Rattle.cbfs_walk.specs.Hashes.{hashed_by, stored_digest, comparison, hash_state, content_at, hash_state_in, IsUncompared};
 
 use crate::attribute_walk::{first_attribute, value_at};
 use crate::cell::{Cell, content_fits};
@@ -99,7 +100,7 @@ fn content_digest<F: Flash>(
     ensures passes { HasPassed region (content_start cell.now) (content_end cell.now)
         paged.old paged.new result }
     ensures digest { ReadsAs paged.old region result
-        (λ x. digest_like stored.now (content_at x cell.now)) }
+        (λ x. hashed_by (algorithm stored.now) (content_at x cell.now)) }
 {
     match stored {
         Digest::Sha256(_) => Ok(Digest::Sha256(hash_content::<F, Sha256>(paged, region, cell)?)),

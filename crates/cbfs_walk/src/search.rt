@@ -7,7 +7,7 @@ ghost use Rattle.flash_device.specs.Device.{fault_count};
 ghost use Rattle.flash_device.specs.Pages.{HasRead, HasAnswered, OnHonestIn};
 ghost use Rattle.flash_device.specs.Regions.{LiesOn};
 ghost use Rattle.cbfs_walk.specs.Cells.{IsCellOn, IsCellIn, PassesChecks, cell_in};
-ghost use Rattle.cbfs_walk.specs.Walks.{StandsIn, ReadsCellAs, by_device};
+ghost use Rattle.cbfs_walk.specs.Walks.{IfFound, StandsIn, ReadsCellAs, by_device};
 ghost use Rattle.cbfs_walk.specs.Search.{component_in, found_cell, find_reads};
 
 use crate::cell::Cell;
@@ -27,15 +27,14 @@ pub fn find<F: Flash>(
 
     ensures after { HasRead (find_reads region.size result) (fault_count by_device result)
         paged.old paged.new }
-    ensures cell { IfOk result (λ found. IfSome found (IsCellIn region.size)) }
-    ensures component { IfOk result (λ found. IfSome found (λ cell. is_free cell.head ≡ false)) }
+    ensures cell { IfFound result (IsCellIn region.size) }
+    ensures component { IfFound result (λ cell. is_free cell.head ≡ false) }
 
     ensures answer { OnHonestIn paged.old.device region (λ x.
         IsErrOf result WalkFault.Device ⊎ (result ≡ found_cell (component_in x name.now))) }
-    ensures stands { OnHonestIn paged.old.device region (λ x.
-        IfOk result (λ found. IfSome found (StandsIn x))) }
-    ensures first { OnHonestIn paged.old.device region (λ x. IfOk result (λ found. IfSome found
-        (λ cell. component_in x name.now ≡ Ok (Some (component_at cell.at (cell_in x cell)))))) }
+    ensures stands { OnHonestIn paged.old.device region (λ x. IfFound result (StandsIn x)) }
+    ensures first { OnHonestIn paged.old.device region (λ x. IfFound result (λ cell.
+        component_in x name.now ≡ Ok (Some (component_at cell.at (cell_in x cell))))) }
 {
     let mut walk = Walk::new(region);
     loop {

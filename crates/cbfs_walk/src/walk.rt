@@ -110,9 +110,8 @@ impl Walk {
         ensures ended { IfSome self.old.ended (λ answer. result ≡ answer) }
         ensures no_call { IsSome self.old.ended → paged.new ≡ paged.old }
 
-        ensures answer { OnHonestIn paged.old.device self.old.region
-            (λ x. self.old.ended ≡ None
-            → IsErrOf result WalkFault.Device ⊎ (result ≡ answer_at x self.old.at)) }
+        ensures answer { OnHonestIn paged.old.device self.old.region (λ x. self.old.ended ≡ None →
+            IsErrOf result WalkFault.Device ⊎ (result ≡ answer_at x self.old.at)) }
     {
         if let Some(answer) = self.ended {
             return answer;
@@ -216,8 +215,7 @@ fn damage_in<F: Flash>(
     head: &Head,
 ) -> Result<Option<DamageKind>, FlashFault>
     requires reach { Reaches region (at + head.now.offset) paged.old.device }
-    requires room { 24 ≤ name_end head.now }
-    requires placed { name_end head.now ≤ head.now.offset }
+    requires name { (24 ≤ name_end head.now) × (name_end head.now ≤ head.now.offset) }
 
     ensures passes { HasPassed region at (at + head.now.offset) paged.old paged.new result }
     ensures damage { OnHonestIn paged.old.device region (λ x. IfOk result (λ damage.

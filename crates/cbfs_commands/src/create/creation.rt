@@ -57,9 +57,8 @@ pub fn create<F: Flash, S: Source>(
     source: &mut S,
 ) -> Result<(), Refusal>
     requires { length names.now ≤ MOST_REGIONS }
-    ensures { HasApplied (2 * length paged.old.device.content + 64)
-        (creates (map (λ name. name.now) names.now)) paged.old paged.new (S.facts source.old)
-        (S.facts source.new) result }
+    ensures { HasApplied (2 * length paged.old.device.content + 64) (creates (map (λ name. name.now)
+        names.now)) paged.old paged.new (S.facts source.old) (S.facts source.new) result }
 {
     let image_len = paged.len();
     let plan = read_plan(names, source, image_len)?;

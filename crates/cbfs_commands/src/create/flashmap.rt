@@ -26,11 +26,9 @@ const MAP_AREA: &[u8] = b"FMAP";
 pub fn create_size<S: Source>(source: &mut S) -> Result<u32, Refusal>
     ensures calls { Reads 1 (fault_count by_source result) (S.facts source.old)
         (S.facts source.new) }
-    ensures refusals { IfErr result (λ refusal.
-        (refusal ≡ Refusal.Source) ⊎ (refusal ≡ Refusal.TableBad)) }
-    ensures size { IsTrue (S.facts source.old).honest
-        → IsErrOf result Refusal.Source ⊎ (result ≡ ok_or
-        (option_map (λ head. head.size) (map_head (S.facts source.old).content)) Refusal.TableBad) }
+    ensures refusals { IfErr result (λ r. (r ≡ Refusal.Source) ⊎ (r ≡ Refusal.TableBad)) }
+    ensures size { IsTrue (S.facts source.old).honest → IsErrOf result Refusal.Source ⊎ (result ≡
+        ok_or (option_map (λ h. h.size) (map_head (S.facts source.old).content)) Refusal.TableBad) }
 {
     match map_in_source(source)? {
         Some(head) => Ok(head.size),
@@ -42,8 +40,7 @@ pub fn create_size<S: Source>(source: &mut S) -> Result<u32, Refusal>
 pub fn head_for<S: Source>(source: &mut S, image_len: u64) -> Result<FmapHead, Refusal>
     ensures calls { Reads 1 (fault_count by_source result) (S.facts source.old)
         (S.facts source.new) }
-    ensures no_device { IsErrOf result Refusal.Device → ⊥ }
-    ensures no_output { IsErrOf result Refusal.Output → ⊥ }
+    ensures by_source { IsErrOf result Refusal.Device ⊎ IsErrOf result Refusal.Output → ⊥ }
     ensures fits { IfOk result (λ head. map_len head ≤ length (S.facts source.old).content) }
     ensures head { IsTrue (S.facts source.old).honest →
         IsErrOf result Refusal.Source ⊎ (result ≡ head_for image_len (S.facts source.old).content) }
@@ -97,12 +94,10 @@ pub fn first_areas<S: Source>(
     ensures calls { Reads head.now.nareas (refusals result) (S.facts source.old)
         (S.facts source.new) }
 
-    ensures map { IsTrue (S.facts source.old).honest
-        → IfOk result (λ found. found.map ≡ first_area (areas_from head.now.nareas
-        (drop fmap_head_len (S.facts source.old).content)) (codes "FMAP")) }
-    ensures regions { IsTrue (S.facts source.old).honest → IfOk result (λ found.
-        take (length names.now) found.regions ≡ map (first_area (areas_from head.now.nareas
-        (drop fmap_head_len (S.facts source.old).content))) (map (λ n. n.now) names.now)) }
+    ensures areas { IsTrue (S.facts source.old).honest → IfOk result (λ found.
+        let areas = areas_from head.now.nareas (drop fmap_head_len (S.facts source.old).content) in
+        (found.map ≡ first_area areas (codes "FMAP")) × (take (length names.now) found.regions
+        ≡ map (first_area areas) (map (λ n. n.now) names.now))) }
 {
     let mut found = FoundAreas {
         map: None,

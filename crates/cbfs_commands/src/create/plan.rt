@@ -128,10 +128,8 @@ pub fn read_plan<S: Source>(
 
     ensures calls { Reads (length (S.facts source.old).content / area_len + 1)
         (fault_count by_source result) (S.facts source.old) (S.facts source.new) }
-    ensures no_device { IsErrOf result Refusal.Device → ⊥ }
-    ensures no_output { IsErrOf result Refusal.Output → ⊥ }
-    ensures fits { IfOk result (λ plan.
-        FitsImage image_len (length (S.facts source.old).content) plan) }
+    ensures by_source { IsErrOf result Refusal.Device ⊎ IsErrOf result Refusal.Output → ⊥ }
+    ensures fits { IfOk result (FitsImage image_len (length (S.facts source.old).content)) }
     ensures plan { IsTrue (S.facts source.old).honest → IsErrOf result Refusal.Source
         ⊎ (result ≡ plan_for image_len (map (λ n. n.now) names.now) (S.facts source.old).content) }
 {

@@ -1,3 +1,4 @@
+use Rattle.std.proofs.lemmas.Grind.{common_steps}
 use Rattle.std.proofs.Common.{◌+◌, List, ℕ, arith}
 use Rattle.cbfs_commands.proofs.Areas.{every, none_left, one_less, rows_left}
 use Rattle.cbfs_commands.proofs.OutputParts.{so_far-ends, so_far-more, so_far-none, printout-none, printout-stopped}
@@ -19,6 +20,4 @@ returns-in_err-list_area g c =
     so_far-ends c.loop-i.invariant _ stopped (λ h. one_less _ (map.at + 56) map.head.nareas c.loop-i.i c.loop-i-test.true) (omega (arith, c.loop-i-test.true))
 
 pub returns : goal.returns
-returns g c =
-    let map = c.args.map.now in
-    so_far-ends c.loop-i.invariant _ (printout-none _ _) (λ h. none_left _ (map.at + 56) map.head.nareas c.loop-i.i c.loop-i-test.false) (omega arith)
+returns g c = grind (arith, common_steps, none_left, printout-none, so_far-ends)

@@ -1,11 +1,9 @@
-use Rattle.std.proofs.Common.{◌≡◌, ℕ, ◌+◌, inl, inr, List, Option, Err, refl, subst, arith}
+use Rattle.std.proofs.lemmas.Grind.{common_steps}
+use Rattle.std.proofs.Common.{◌≡◌, ℕ, ◌+◌, List, Option, Err, arith}
 use Rattle.std.specs.Prelude.{slice_range}
 use Rattle.std.specs.Result.{IsErrAnd}
 use Rattle.flash_device.specs.Pages.{HasCopiedOut, Pages}
-use Rattle.flash_device.specs.Device.{Device}
 use Rattle.flash_device.specs.declared.paged.CopyFault.{CopyFault}
-use Rattle.flash_device.specs.declared.paged.CopyFault.TheVariants as copy
-use Rattle.cbfs_commands.specs.declared.refusal.Refusal.TheVariants as refusals
 use Rattle.cbfs_commands.specs.Refusals.{copy_refusal}
 use Rattle.cbfs_commands.specs.Printouts.{CommandResult, HasOutput, shows}
 use Rattle.cbfs_commands.proofs.OutputParts.{handed}
@@ -15,26 +13,10 @@ module _ {F W : Type 0} {contents : W → Option (List ℕ)} {faults : W → ℕ
   -- an interrupted copy writes a prefix
   stopped : (fault : CopyFault) → HasCopiedOut {T = Unit {0}} contents faults k at n old new a b (Err fault) → IsErrAnd answer (λ r. r ≡ copy_refusal fault)
       → HasOutput contents faults k old new a b answer (λ image. shows (slice_range image at (at + n)))
-  stopped copy.Device copied is = subst (λ (r : CommandResult). HasOutput contents faults k old new a b r (λ image. shows (slice_range image at (at + n)))) (handed answer refusals.Device is) (record {
-    read = copied.read;
-    sink = copied.faults;
-    output = λ failed. absurd cc;
-    no_source = λ failed. absurd cc;
-    printout = λ h. let part = copied.part h in inr (inr (refl, (part.0, omega (arith, part.1), part.2)));
-  })
-  stopped copy.Output copied is = subst (λ (r : CommandResult). HasOutput contents faults k old new a b r (λ image. shows (slice_range image at (at + n)))) (handed answer refusals.Output is) (record {
-    read = copied.read;
-    sink = copied.faults;
-    output = λ failed. copied.output refl;
-    no_source = λ failed. absurd cc;
-    printout = λ h. inr (inl (refl, copied.part h));
-  })
-  stopped copy.Source copied is = absurd (copied.no_source refl)
+  stopped fault copied is = grind (arith, common_steps, handed)
 
 pub returns-in_err-copy_out : goal.returns-in_err-copy_out
 returns-in_err-copy_out g c = stopped c.in_err-copy_out.field-0.0 c.in_err-copy_out.ensures.after c.from_residual.ensures.1
 
 pub returns : goal.returns
-returns g c =
-    let done = c.in_ok-copy_out.ensures.after in
-    record { read = done.read; sink = done.faults; output = λ failed. absurd cc; no_source = λ failed. absurd cc; printout = λ h. inl (refl, done.copied h) }
+returns g c = grind (arith, common_steps)

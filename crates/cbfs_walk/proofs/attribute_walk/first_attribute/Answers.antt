@@ -1,4 +1,5 @@
-use Rattle.std.proofs.Common.{ap, ◌∙◌, ◌+◌, arith, refl, le_refl, rules}
+use Rattle.std.proofs.lemmas.Grind.{common_steps}
+use Rattle.std.proofs.Common.{ap, ◌∙◌, ◌+◌, arith, le_refl, rules}
 use Rattle.std.proofs.lemmas.Bool.{eq-eqb, ne_eqb}
 use Rattle.std.proofs.lemmas.Result.{err_from_is_err_and}
 use Rattle.cbfs_walk.specs.AttrWalks.{first_in}
@@ -8,8 +9,7 @@ use Rattle.cbfs_walk.proofs.AttributeScans.{scanning_start, lies_still, asked_mo
 use Rattle.cbfs_walk.proofs.attribute_walk.first_attribute.Goals as goal
 
 pub loop-head-init : goal.loop-head-init
-loop-head-init g c =
-    scanning_start c.args.region _ _ _ _ (omega (arith, (has_field c.args.region.size c.args.cell.now c.requires.cell).high)) (λ h. refl)
+loop-head-init g c = grind (arith, common_steps, has_field, scanning_start)
 
 pub listed_at-requires-clause-reach : goal.listed_at-requires-clause-reach
 listed_at-requires-clause-reach g c = record { region = lies_still c.loop-head.invariant c.requires.region; inside = search rules }

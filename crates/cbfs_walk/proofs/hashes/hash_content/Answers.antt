@@ -1,5 +1,5 @@
-use Rattle.std.proofs.Common.{arith, ◌+◌, rules}
-use Rattle.flash_device.specs.Regions.{bytes_in}
+use Rattle.std.proofs.lemmas.Grind.{common_steps}
+use Rattle.std.proofs.Common.{arith, rules}
 use Rattle.std.proofs.lemmas.Result.{err_from_is_err_and}
 use Rattle.cbfs_walk.proofs.ReadSequences.{Passes-within}
 use Rattle.cbfs_walk.proofs.AttributeScans.{scanned, lies_still}
@@ -22,7 +22,4 @@ pub returns-clause-passes : goal.returns-clause-passes
 returns-clause-passes g c = Passes-within c.loop-at.invariant.passed (omega arith) (omega (arith, c.loop-at.invariant.high))
 
 pub returns-clause-digest : goal.returns-clause-digest
-returns-clause-digest g c = λ h.
-    let x = bytes_in c.args.region c.args.paged.now.device.content in
-    let all = content_taken x c.args.cell.now (c.args.cell.now.at + c.from.result) c.loop-at.at (omega arith) (omega (arith, c.loop-at.invariant.high)) in
-    c.finalize.ensures _ (rw all at (c.loop-at.invariant.asked h))
+returns-clause-digest g c = grind (arith, common_steps, content_taken)

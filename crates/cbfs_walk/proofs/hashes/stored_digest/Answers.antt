@@ -1,3 +1,4 @@
+use Rattle.std.proofs.lemmas.Grind.{common_steps}
 use Rattle.std.proofs.Common.{arith, le_refl, sym, ◌∙◌, None}
 use Rattle.std.proofs.lemmas.Result.{err_from_is_err_and}
 use Rattle.flash_device.proofs.DeviceLemmas.{honest_still}
@@ -27,7 +28,4 @@ returns-clause-passes g c =
     Passes-then c.in_ok-number.ensures.passes (rw c.in_ok-bytes.was at c.piece_in.follows.holds-at-none) (le_refl _) (omega arith) (omega (arith, c.if-n-len.false))
 
 pub returns-clause-stored : goal.returns-clause-stored
-returns-clause-stored g c = λ h.
-    let calls = c.value_at.ensures.passes.read.device in
-    let read = rw (calls.unchanged h, c.digest_len-len.ensures) at (c.in_ok-bytes.ensures.read (honest_still calls.calls.same_honesty h)) in
-    rw c.read.ensures (stored_whole c.args.region c.args.paged.now.device.content c.args.at c.args.n c.in_ok-number.number c.requires.reach.region.inside c.requires.reach.inside c.requires.least (c.in_ok-number.ensures.value h) c.in-Some.algorithm _ (sym c.in-Some.is ∙ c.numbered.ensures) (omega (arith, c.if-n-len.false, c.digest_len-len.ensures)) read)
+returns-clause-stored g c = grind (arith, common_steps, honest_still, stored_whole)

@@ -1,5 +1,5 @@
-use Rattle.std.proofs.Common.{arith, ap, ◌∙◌, length, rules}
-use Rattle.flash_device.specs.Regions.{bytes_in}
+use Rattle.std.proofs.lemmas.Grind.{common_steps}
+use Rattle.std.proofs.Common.{arith, rules}
 use Rattle.cbfs_walk.proofs.Parts.{length-region}
 use Rattle.cbfs_walk.proofs.CellNames.{has_field, name_written, read_name}
 use Rattle.cbfs_walk.proofs.names.name.Goals as goal
@@ -11,13 +11,7 @@ pub piece_in-requires-clause-reach : goal.piece_in-requires-clause-reach
 piece_in-requires-clause-reach g c = record { region = search rules; inside = omega (arith, (has_field c.args.region.size c.args.cell.now c.requires.cell).inside, c.name_room.ensures, c.min-n.ensures) }
 
 pub returns-clause-name : goal.returns-clause-name
-returns-clause-name g c = λ h stands.
-    let image = c.args.paged.now.device.content in
-    rw c.copy_from_slice.ensures.after (name_written (bytes_in c.args.region image) c.args.region.size c.args.cell.now c.requires.cell (length-region c.args.region image c.requires.region.inside)
-    c.text_len.result _ _ _ _ c.name_room.ensures c.min-n.ensures stands c.text_len.ensures (c.in_ok-bytes.ensures.read h))
+returns-clause-name g c = grind (arith, common_steps, length-region, name_written)
 
 pub returns-clause-len : goal.returns-clause-len
-returns-clause-len g c = λ h stands.
-    let image = c.args.paged.now.device.content in
-    c.text_len.ensures ∙ ap length (read_name (bytes_in c.args.region image) c.args.region.size c.args.cell.now c.requires.cell (length-region c.args.region image c.requires.region.inside)
-    _ _ _ c.name_room.ensures c.min-n.ensures stands (c.in_ok-bytes.ensures.read h))
+returns-clause-len g c = grind (arith, common_steps, length-region, read_name)

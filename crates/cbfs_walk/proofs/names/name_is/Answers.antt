@@ -1,4 +1,5 @@
-use Rattle.std.proofs.Common.{arith, inl, inr, ◌∙◌, rules}
+use Rattle.std.proofs.lemmas.Grind.{common_steps}
+use Rattle.std.proofs.Common.{arith, ◌∙◌}
 use Rattle.flash_device.specs.Regions.{bytes_in}
 use Rattle.cbfs_walk.proofs.Parts.{length-region}
 use Rattle.cbfs_walk.proofs.CellNames.{has_field, name_compared, name_too_long}
@@ -9,19 +10,10 @@ pub name_room-requires : goal.name_room-requires
 name_room-requires g c = (has_field c.args.region.size c.args.cell.now c.requires.cell).low
 
 pub returns-then-name-gt-LONGEST-clause-named : goal.returns-then-name-gt-LONGEST-clause-named
-returns-then-name-gt-LONGEST-clause-named g c = λ h stands.
-    let image = c.args.paged.now.device.content in
-    let len = length-region c.args.region image c.requires.region.inside in
-    name_too_long (bytes_in c.args.region image) c.args.region.size c.args.cell.now c.requires.cell len c.args.name.now
-    (elim c.then-name-gt-LONGEST.branch [
-      | then-name-gt-LONGEST-via-then-name-gt-LONGEST w ↦ inl (omega (arith, w.if-name-gt-LONGEST.true))
-      | then-name-gt-LONGEST-via-else-name-gt-LONGEST+then-name-name_room w ↦ inr (omega (arith, w.if-name-name_room.true, w.name_room.ensures))
-    ]) stands
+returns-then-name-gt-LONGEST-clause-named g c = grind (arith, common_steps, length-region, name_too_long, then-name-gt-LONGEST-via-then-name-gt-LONGEST)
 
 pub piece_in-requires-clause-reach : goal.piece_in-requires-clause-reach
-piece_in-requires-clause-reach g c =
-    let f = has_field c.args.region.size c.args.cell.now c.requires.cell in
-    record { region = search rules; inside = omega (arith, f.inside, c.name_room.ensures) }
+piece_in-requires-clause-reach g c = grind (arith, common_steps, has_field)
 
 pub returns-clause-named : goal.returns-clause-named
 returns-clause-named g c = λ h stands.

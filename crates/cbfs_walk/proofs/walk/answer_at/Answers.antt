@@ -11,19 +11,13 @@ use Rattle.cbfs_walk.proofs.StepResults.{answer_shape, answer_end, answer_absent
 use Rattle.cbfs_walk.proofs.walk.answer_at.Goals as goal
 
 pub returns-then-has_bad_size-clause-answer : goal.returns-then-has_bad_size-clause-answer
-returns-then-has_bad_size-clause-answer g c = λ h.
-    let len = length-region c.args.region c.args.paged.now.device.content c.requires.reach.region.inside in
-    inr (answer_shape _ c.args.at _ len (c.if-has_bad_size.ensures ∙ ap has_bad_size c.size.ensures))
+returns-then-has_bad_size-clause-answer g c = grind (arith, common_steps, answer_shape, length-region)
 
 pub returns-then-at-size-clause-answer : goal.returns-then-at-size-clause-answer
-returns-then-at-size-clause-answer g c = λ h.
-    let len = length-region c.args.region c.args.paged.now.device.content c.requires.reach.region.inside in
-    inr (answer_end _ c.args.at _ len (c.if-has_bad_size.ensures ∙ ap has_bad_size c.size.ensures) (c.if-at-size.true ∙ c.size-2.ensures))
+returns-then-at-size-clause-answer g c = grind (arith, common_steps, answer_end, length-region)
 
 pub returns-in-None-clause-answer : goal.returns-in-None-clause-answer
-returns-in-None-clause-answer g c = λ h.
-    let len = length-region c.args.region c.args.paged.now.device.content c.requires.reach.region.inside in
-    inr (answer_absent _ c.args.at _ len (c.if-has_bad_size.ensures ∙ ap has_bad_size c.size.ensures) (entry_absent _ (rw c.in-None.is at (c.in_ok-front_at.ensures.head h))) c.if-at-eq0.true)
+returns-in-None-clause-answer g c = grind (arith, common_steps, answer_absent, entry_absent, length-region)
 
 pub returns-in-None-2-clause-answer : goal.returns-in-None-2-clause-answer
 returns-in-None-2-clause-answer g c = λ h.

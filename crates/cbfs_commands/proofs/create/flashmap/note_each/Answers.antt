@@ -1,3 +1,4 @@
+use Rattle.std.proofs.lemmas.Grind.{common_steps}
 use Rattle.std.proofs.Common.{◌++◌, ◌∷◌, [], ◌<◌, ℕ, List, Option, None, length, map, set, get_or, sym, ap, ◌∙◌, arith}
 use Rattle.std.specs.Borrow.{Bor}
 use Rattle.std.proofs.lemmas.List.{length-map, get_or-map}
@@ -25,6 +26,4 @@ loop-i-preserved c = λ seen rest is.
     ∙ partly-more f g names rest i [] short
 
 pub returns : goal.returns
-returns c = λ seen rest is.
-    let bytes : Bor (List ℕ) → List ℕ = λ n. n.now in
-    c.loop-i.invariant seen rest is ∙ partly-all _ (first_area seen) _ rest _ (omega (arith, c.loop-i-test.false, length-map c.args.names.now bytes))
+returns c = grind (arith, common_steps, length-map, partly-all)

@@ -4,11 +4,8 @@ use Rattle.cbfs_commands.proofs.OwnResults.{faultless_plan}
 use Rattle.cbfs_commands.proofs.PlanLaws.{fitting_plan}
 use Rattle.cbfs_commands.proofs.create.plan.read_plan.Goals as goal
 
-pub returns-clause-no_device : goal.returns-clause-no_device
-returns-clause-no_device g c = λ blamed. faultless_plan _ _ _ _ _ c.plan_of.ensures (inl blamed)
-
-pub returns-clause-no_output : goal.returns-clause-no_output
-returns-clause-no_output g c = λ blamed. faultless_plan _ _ _ _ _ c.plan_of.ensures (inr (inl blamed))
+pub returns-clause-by_source : goal.returns-clause-by_source
+returns-clause-by_source g c = λ blamed. faultless_plan _ _ _ _ _ c.plan_of.ensures (elim blamed [ inl device ↦ inl device | inr output ↦ inr (inl output) ])
 
 pub returns-clause-fits : goal.returns-clause-fits
 returns-clause-fits g c = fitting_plan _ _ _ _ _ _ c.in_ok-head.ensures.fits c.plan_of.ensures

@@ -24,9 +24,9 @@ loop-head-preserved g c =
           let before = subst (λ b. IsTrue b) printout.after.read.device.calls.same_honesty h in
           let left = had.left before in (
             after_first left.0,
-            ap (λ (l : List ℕ). attributes_left (bytes_in c.args.region l) c.next.new.self) (printout.after.read.device.unchanged before) ∙ printout.rest before left.0 left.1,
+            ap (λ (l : List ℕ). attributes_left (bytes_in c.args.region l) c.next.new.self) (printout.after.read.device.unchanged before) ∙ (printout.list before left.0 left.1).1,
           );
-      printout = so_far-more had.printout _ _ row (λ h. let left = had.left h in lines-first _ _ left.0 head left.1 (sym is ∙ printout.head h left.0 left.1) (printout.rest h left.0 left.1)) (omega (arith, given.head, at));
+      printout = so_far-more had.printout _ _ row (λ h. let left = had.left h in lines-first _ _ left.0 head left.1 (sym is ∙ (printout.list h left.0 left.1).0) ((printout.list h left.0 left.1).1)) (omega (arith, given.head, at));
     }
 
 pub returns-in_err-put_row : goal.returns-in_err-put_row
@@ -39,13 +39,13 @@ returns-in_err-put_row g c =
     let put = c.in_err-put_row.ensures in
     let row = printout-row printout.after.read put.faults put.output put.only (rw c.set_attribute_row.ensures at put.printout) in
     let stopped = printout-stopped (λ image. lines_left (attributes_left (bytes_in c.args.region image) c.next.new.self)) row c.from_residual-in_err-put_row.ensures.1 in
-    so_far-ends had.printout _ stopped (λ h. let left = had.left h in lines-first _ _ left.0 head left.1 (sym is ∙ printout.head h left.0 left.1) (printout.rest h left.0 left.1)) (omega (arith, given.head, given.inside, had.same_offset))
+    so_far-ends had.printout _ stopped (λ h. let left = had.left h in lines-first _ _ left.0 head left.1 (sym is ∙ (printout.list h left.0 left.1).0) ((printout.list h left.0 left.1).1)) (omega (arith, given.head, given.inside, had.same_offset))
 
 pub returns : goal.returns
 returns g c =
     let had = c.loop-head.invariant in
     let printout = c.in_ok-head.ensures in
-    so_far-ends had.printout _ (printout-after (printout-none _ _) (attr_reads c.loop-head.walk) printout.after.read (omega arith)) (λ h. let left = had.left h in lines-none _ left.0 left.1 (sym c.in_default.is ∙ printout.head h left.0 left.1)) (omega (arith, had.same_offset, had.inside))
+    so_far-ends had.printout _ (printout-after (printout-none _ _) (attr_reads c.loop-head.walk) printout.after.read (omega arith)) (λ h. let left = had.left h in lines-none _ left.0 left.1 (sym c.in_default.is ∙ (printout.list h left.0 left.1).0)) (omega (arith, had.same_offset, had.inside))
 
 pub returns-in_err-head : goal.returns-in_err-head
 returns-in_err-head g c =

@@ -1,17 +1,11 @@
+use Rattle.std.proofs.lemmas.Grind.{common_steps}
 use Rattle.std.proofs.Common.{Ok, Err, arith, refl}
-use Rattle.flash_device.specs.Regions.{bytes_in}
 use Rattle.cbfs_commands.proofs.PrintSteps.{print_region-from, printed-done, printed-failed, printed-more, printed-stops}
 use Rattle.cbfs_commands.proofs.OutputParts.{so_far-none}
 use Rattle.cbfs_commands.proofs.print.listing.print_region.Goals as goal
 
 pub loop-cell-init : goal.loop-cell-init
-loop-cell-init g c = rw c.new-walk.ensures (record {
-  region = refl;
-  going = refl;
-  inside = omega arith;
-  aligned = refl;
-  printout = so_far-none _ _ _ _ _ (λ image. print_region-from c.args.verbose (bytes_in c.args.region image));
-})
+loop-cell-init g c = grind (arith, common_steps, print_region-from, so_far-none)
 
 pub loop-cell-preserved : goal.loop-cell-preserved
 loop-cell-preserved g c =
