@@ -1,13 +1,11 @@
 //! The search for a removal's cells.
 ghost use Rattle.std.specs.Prelude.{◌≡◌, ◌⊎◌, ℕ, ◌+◌, ◌/◌, ◌<◌, ◌≤◌, List, [], ◌∷◌, IfOk, IfErr};
-ghost use Rattle.std.specs.Prelude.{⊤};
 ghost use Rattle.flash_device.specs.Device.{fault_count};
 ghost use Rattle.flash_device.specs.Pages.{HasRead, HasAnswered, OnHonestIn};
 ghost use Rattle.flash_device.specs.Regions.{LiesOn};
 ghost use Rattle.cbfs_walk.specs.Cells.{IsCellOn, IsCellIn, cell_in};
 ghost use Rattle.cbfs_walk.specs.Walks.{StandsIn};
 ghost use Rattle.cbfs_edit.specs.Removals.{IsCellRange, removal_in};
-ghost use Rattle.cbfs_edit.specs.Changes.{by_fault};
 ghost use Rattle.cbfs_edit.specs.Searches.{group_by, HasSearched, IsBefore};
 
 use crate::fault::EditFault;
@@ -103,7 +101,7 @@ fn pass<F: Flash>(
 fn group_in(search: Search) -> Result<CellRange, EditFault>
     ensures is { (name : List ℕ) (at : ℕ) → result ≡ group_by name search at [] }
     ensures group { (at : ℕ) → IsBefore at search → IfOk result (λ group. IsCellRange group at) }
-    ensures fault { IfErr result (λ fault. by_fault fault ⊥ ⊥ ⊤) }
+    ensures fault { IfErr result (λ fault. fault ≡ EditFault.NotFound) }
 {
     match search {
         Search::Looking { .. } => Err(EditFault::NotFound),

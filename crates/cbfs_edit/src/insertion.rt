@@ -64,6 +64,7 @@ fn write_bound<F: Flash>(
 
 /// Returns the component's start, or the header of the empty entry before the component.
 fn shown_by(place: Place, metadata: &[u8]) -> [u8; HEADER_LENGTH]
+    // In a region of any size below 2^32.
     requires { (end size : ℕ) × HasRoom place end (length metadata.now) size × (size < 2 ^ 32) }
     ensures { result ≡ shown_by place metadata.now }
 {

@@ -1,5 +1,5 @@
 use Rattle.std.proofs.Common.{refl, arith, rules}
-use Rattle.std.proofs.lemmas.Result.{IfOk-weaker, err_from_is_err_and}
+use Rattle.std.proofs.lemmas.Result.{IfErr-weaker, IfOk-weaker, err_from_is_err_and}
 use Rattle.cbfs_edit.specs.Removals.{removal_in}
 use Rattle.cbfs_edit.specs.Searches.{IsBefore, group_by}
 use Rattle.cbfs_edit.proofs.Searches.{surveying_start, surveying_more, searched, surveying_err, group_searched}
@@ -15,7 +15,7 @@ loop-cell-preserved g c =
 
 pub returns-in-Tail : goal.returns-in-Tail
 returns-in-Tail g c =
-    searched c.args.region (group_by c.args.name.now) _ _ c.loop-cell.walk c.loop-cell.search _ _ c.requires c.loop-cell.invariant _ c.in-Tail.is _ _ c.group_in.result c.group_in.ensures.fault
+    searched c.args.region (group_by c.args.name.now) _ _ c.loop-cell.walk c.loop-cell.search _ _ c.requires c.loop-cell.invariant _ c.in-Tail.is _ _ c.group_in.result (IfErr-weaker c.group_in.result _ _ (λ fault is. rw is tt) c.group_in.ensures.fault)
     (IfOk-weaker c.group_in.result _ _ (λ group within. search rules) (c.group_in.ensures.group c.loop-cell.walk.at c.loop-cell.invariant.before))
     (c.group_in.ensures.is c.args.name.now _) c.in_ok-cell.ensures.after c.in_ok-cell.ensures.answer
 
