@@ -2,7 +2,7 @@
 //!
 //! The first commit covers the run with the header of an empty entry, and the last commit shows the
 //! component. Bytes written between the commits are free space.
-ghost use Rattle.std.specs.Prelude.{◌≡◌, ◌⊎◌, ℕ, ◌-◌, ◌^◌, ◌<◌, ◌≤◌, length};
+ghost use Rattle.std.specs.Prelude.{◌≡◌, ◌⊎◌, ◌-◌, ◌%◌, ◌^◌, ◌<◌, ◌≤◌, length};
 ghost use Rattle.flash_format.specs.Made.{header_length, metadata_of, described_len};
 ghost use Rattle.flash_device.specs.Regions.{LiesOn};
 ghost use Rattle.cbfs_edit.specs.Changes.{HasWrittenIn, HoldsOn};
@@ -64,8 +64,11 @@ fn write_bound<F: Flash>(
 
 /// Returns the component's start, or the header of the empty entry before the component.
 fn shown_by(place: Place, metadata: &[u8]) -> [u8; HEADER_LENGTH]
-    // In a region of any size below 2^32.
-    requires { (end size : ℕ) × HasRoom place end (length metadata.now) size × (size < 2 ^ 32) }
+    requires metadata { header_length ≤ length metadata.now }
+    requires start_aligned { place.run.start % 64 ≡ 0 }
+    requires header_aligned { place.header % 64 ≡ 0 }
+    requires order { place.run.start ≤ place.header }
+    requires small { place.header < 2 ^ 32 }
     ensures { result ≡ shown_by place metadata.now }
 {
     if place.header == place.run.start {
