@@ -47,7 +47,8 @@ comparison stored computed =
 abbrev pub state_by : Option (List ℕ) → List ℕ → HashState
 state_by None content = Absent
 state_by (Some contents) content = option_map_or
-    (λ stored. comparison stored (hashed_by (algorithm stored) content)) (stored_digest contents) Unsupported
+    (λ stored. comparison stored (hashed_by (algorithm stored) content))
+    (stored_digest contents) Unsupported
 
 -- by the first hash attribute
 abbrev pub hash_state : List Attribute → List ℕ → HashState
