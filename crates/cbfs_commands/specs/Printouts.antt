@@ -4,7 +4,7 @@ use Rattle.std.specs.Prelude.{Err, length, take}
 use Rattle.std.specs.Io.KnownBytes.{Appends}
 use Rattle.flash_format.specs.Head.{is_free}
 use Rattle.flash_device.specs.Device.{Device, fault_count}
-use Rattle.flash_device.specs.Pages.{Pages, HasRead, OnHonest, OnHonestIn}
+use Rattle.flash_device.specs.Pages.{Pages, HasReadBy, OnHonest, OnHonestIn, SinkOf}
 use Rattle.flash_device.specs.Output.{AppendsPart}
 use Rattle.flash_device.specs.Regions.{Range, LiesOn, bytes_in}
 use Rattle.cbfs_walk.specs.Cells.{IsCellIn, cell_in}
@@ -57,12 +57,11 @@ cell_bytes region cell image = cell_in (bytes_in region image) cell
 
 -- A call that reads the device at most n times and writes to a sink. A fault implies a failure of
 -- its device. `printout` requires an honest device.
-pub record HasOutput {F W : Type 0} (contents : W → Option (List ℕ))
-    (faults : W → ℕ) (n : ℕ) (old new : Pages F) (out_old out_new : W) (answer : CommandResult)
-    (t : List ℕ → Printout) : Type 0 where
-  pub read : HasRead n (fault_count by_device answer) old new
-  pub sink : faults out_old ≤ faults out_new
-  pub output : IsErrOf answer refusals.Output → faults out_old < faults out_new
+pub record HasOutput {F W : Type 0} (sink : SinkOf W) (n : ℕ) (old new : Pages F)
+    (out_old out_new : W) (answer : CommandResult) (t : List ℕ → Printout) : Type 0 where
+  pub read : HasReadBy by_device n old new answer
+  pub faults : sink.faults out_old ≤ sink.faults out_new
+  pub output : IsErrOf answer refusals.Output → sink.faults out_old < sink.faults out_new
   pub no_source : IsErrOf answer refusals.Source → ⊥
   pub printout : OnHonest old.device (λ image.
-      PrintsOut (contents out_old) (contents out_new) answer (t image))
+      PrintsOut (sink.contents out_old) (sink.contents out_new) answer (t image))

@@ -1,7 +1,7 @@
 //! The command `add`.
 
-ghost use Rattle.std.specs.Prelude.{◌+◌, ◌*◌, length};
 ghost use Rattle.cbfs_commands.specs.Effects.{HasApplied, adds};
+ghost use Rattle.flash_device.specs.Device.{call_limit};
 
 use crate::refusal::Refusal;
 use cbfs_edit::{HashChoice, Spot};
@@ -17,8 +17,8 @@ pub fn add<F: Flash, S: Source>(
     spot: Spot,
     source: &mut S,
 ) -> Result<(), Refusal>
-    ensures { HasApplied (2 * length paged.old.device.content + 64) (adds region.now name.now kind
-        hash spot) paged.old paged.new (S.facts source.old) (S.facts source.new) result }
+    ensures { HasApplied (call_limit paged.old.device) (adds region.now name.now kind hash spot)
+        paged.old paged.new (S.facts source.old) (S.facts source.new) result }
 {
     let region = flash_map::region(paged, region)?;
     cbfs_edit::add(paged, region, name, kind, hash, spot, source)?;

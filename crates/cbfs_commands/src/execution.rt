@@ -1,8 +1,8 @@
 //! Runs a command.
 
-ghost use Rattle.std.specs.Prelude.{◌≡◌, ◌+◌, ◌*◌, ◌/◌, ◌<◌, ◌≤◌, ◌⊎◌, false, length, IsTrue};
+ghost use Rattle.std.specs.Prelude.{◌≡◌, ◌*◌, ◌<◌, ◌≤◌, ◌⊎◌, false, length, IsTrue};
 ghost use Rattle.std.specs.Prelude.{IsErrOf};
-ghost use Rattle.flash_device.specs.Device.{Calls, fault_count};
+ghost use Rattle.flash_device.specs.Device.{Calls, fault_count, call_limit};
 ghost use Rattle.flash_device.specs.Pages.{OnHonest};
 ghost use Rattle.cbfs_commands.specs.Effects.{Meets, MayHaveWritten, Serves, SparesOutside};
 ghost use Rattle.cbfs_commands.specs.Effects.{change_of, effect_of, reads_source};
@@ -29,7 +29,7 @@ pub fn run<F: Flash, S: Source, W: Sink>(
     out: &mut W,
 ) -> Result<(), Refusal>
     // On any device, for any source and sink.
-    ensures calls { Calls (2 * length paged.old.device.content + 64)
+    ensures calls { Calls (call_limit paged.old.device)
         (fault_count by_device result) paged.old.device paged.new.device }
     ensures source_calls { Calls
         (source_calls (effect_of command.now) (length (S.facts source.old).content))

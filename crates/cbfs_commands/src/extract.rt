@@ -1,9 +1,10 @@
 //! The command `extract`.
 
-ghost use Rattle.std.specs.Prelude.{◌≡◌, ◌+◌, ◌*◌, ◌/◌, ◌<◌, ◌≤◌, length};
+ghost use Rattle.std.specs.Prelude.{◌+◌, ◌/◌, ◌<◌};
 ghost use Rattle.flash_format.specs.Components.{component_at};
 ghost use Rattle.cbfs_commands.specs.Outcomes.{extract_region, printed_component, printed_in};
 ghost use Rattle.cbfs_commands.specs.Printouts.{HasOutput, IsComponentOf, cell_bytes};
+ghost use Rattle.flash_device.specs.Device.{call_limit};
 
 use crate::read::copy_out;
 use crate::refusal::Refusal;
@@ -19,9 +20,8 @@ fn extract_component<F: Flash, W: Sink>(
 ) -> Result<(), Refusal>
     requires { IsComponentOf region cell.now paged.old.device }
 
-    ensures { HasOutput W.contents W.faults (cell.now.span / 3840 + 2)
-        paged.old paged.new out.old out.new result (λ image.
-        printed_component (component_at cell.now.at (cell_bytes region cell.now image))) }
+    ensures { HasOutput W.Sink (cell.now.span / 3840 + 2) paged.old paged.new out.old out.new result
+        (λ image. printed_component (component_at cell.now.at (cell_bytes region cell.now image))) }
 {
     cells_stand_in_their_image();
     if packing(paged, region, cell)? != 0 {
@@ -38,9 +38,8 @@ pub fn extract<F: Flash, W: Sink>(
     name: &[u8],
     out: &mut W,
 ) -> Result<(), Refusal>
-    ensures { HasOutput W.contents W.faults
-        (2 * length paged.old.device.content + 64) paged.old paged.new out.old out.new result
-        (λ image. printed_in image region.now (λ x. extract_region x name.now)) }
+    ensures { HasOutput W.Sink (call_limit paged.old.device) paged.old paged.new out.old out.new
+        result (λ image. printed_in image region.now (λ x. extract_region x name.now)) }
 {
     let region = flash_map::region(paged, region)?;
     match find(paged, region, name)? {

@@ -56,7 +56,7 @@ fn list_area<F: Flash, W: Sink>(
     requires inside { map.now.at + map_len map.now.head ≤ length paged.old.device.content }
     requires number { i < map.now.head.nareas }
 
-    ensures { HasOutput W.contents W.faults 1 paged.old paged.new out.old out.new result (λ image.
+    ensures { HasOutput W.Sink 1 paged.old paged.new out.old out.new result (λ image.
         shows (area_line (area_of (drop (map.now.at + fmap_head_len + area_len * i) image)))) }
 {
     let listed = area(paged, map, i)?;
@@ -72,8 +72,8 @@ fn list_areas<F: Flash, W: Sink>(
 ) -> Result<(), Refusal>
     requires { map.now.at + map_len map.now.head ≤ length paged.old.device.content }
 
-    ensures { HasOutput W.contents W.faults map.now.head.nareas
-        paged.old paged.new out.old out.new result (λ image. shows (flat_map area_line
+    ensures { HasOutput W.Sink map.now.head.nareas paged.old paged.new out.old out.new result
+        (λ image. shows (flat_map area_line
         (areas_from map.now.head.nareas (drop (map.now.at + fmap_head_len) image)))) }
 {
     for i in 0..map.head.nareas {
@@ -85,7 +85,7 @@ fn list_areas<F: Flash, W: Sink>(
 /// Prints the offset and the areas of the image's map.
 #[tactic(auto, unfolding(crate::specs::Rows::layout))]
 pub fn layout<F: Flash, W: Sink>(paged: &mut Paged<F>, out: &mut W) -> Result<(), Refusal>
-    ensures { HasOutput W.contents W.faults (length paged.old.device.content / 2 + length
+    ensures { HasOutput W.Sink (length paged.old.device.content / 2 + length
         paged.old.device.content / area_len + 8) paged.old paged.new out.old out.new result layout }
 {
     let Some(map) = find_fmap(paged)? else {

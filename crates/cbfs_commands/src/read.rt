@@ -1,8 +1,9 @@
 //! The command `read`.
 
-ghost use Rattle.std.specs.Prelude.{◌≡◌, ◌+◌, ◌*◌, ◌/◌, ◌<◌, ◌≤◌, length, slice_range};
+ghost use Rattle.std.specs.Prelude.{◌+◌, ◌/◌, ◌<◌, ◌≤◌, length, slice_range};
 ghost use Rattle.cbfs_commands.specs.Outcomes.{printed_in};
 ghost use Rattle.cbfs_commands.specs.Printouts.{HasOutput, shows};
+ghost use Rattle.flash_device.specs.Device.{call_limit};
 
 use crate::refusal::Refusal;
 use flash_device::{Flash, Paged, Sink};
@@ -16,8 +17,8 @@ pub fn copy_out<F: Flash, W: Sink>(
 ) -> Result<(), Refusal>
     requires { start + size ≤ length paged.old.device.content }
 
-    ensures { HasOutput W.contents W.faults ((size + 4095) / 4096) paged.old paged.new out.old
-        out.new result (λ image. shows (slice_range image start (start + size))) }
+    ensures { HasOutput W.Sink ((size + 4095) / 4096) paged.old paged.new out.old out.new result
+        (λ image. shows (slice_range image start (start + size))) }
 {
     paged.copy_out(start, size, out)?;
     Ok(())
@@ -29,8 +30,8 @@ pub fn read<F: Flash, W: Sink>(
     name: &[u8],
     out: &mut W,
 ) -> Result<(), Refusal>
-    ensures { HasOutput W.contents W.faults (2 * length paged.old.device.content + 64)
-        paged.old paged.new out.old out.new result (λ image. printed_in image name.now shows) }
+    ensures { HasOutput W.Sink (call_limit paged.old.device) paged.old paged.new out.old out.new
+        result (λ image. printed_in image name.now shows) }
 {
     let region = flash_map::region(paged, name)?;
     copy_out(paged, region.start(), region.size(), out)

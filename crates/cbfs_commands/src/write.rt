@@ -1,7 +1,7 @@
 //! The command `write`.
 
-ghost use Rattle.std.specs.Prelude.{◌+◌, ◌*◌, length};
 ghost use Rattle.cbfs_commands.specs.Effects.{HasApplied, replaces};
+ghost use Rattle.flash_device.specs.Device.{call_limit};
 
 use crate::refusal::Refusal;
 use flash_device::{Flash, Paged, Source};
@@ -12,8 +12,8 @@ pub fn write<F: Flash, S: Source>(
     name: &[u8],
     source: &mut S,
 ) -> Result<(), Refusal>
-    ensures { HasApplied (2 * length paged.old.device.content + 64)
-        (replaces name.now) paged.old paged.new (S.facts source.old) (S.facts source.new) result }
+    ensures { HasApplied (call_limit paged.old.device) (replaces name.now) paged.old paged.new
+        (S.facts source.old) (S.facts source.new) result }
 {
     let region = flash_map::region(paged, name)?;
     if source.len() != region.size() {

@@ -1,12 +1,12 @@
 //! The addition of a component.
-ghost use Rattle.std.specs.Prelude.{ℕ, List, ◌≡◌, ◌≢◌, ◌⊎◌, ◌+◌, ◌/◌, ◌%◌, ◌<◌, ◌≤◌, length, Err};
+ghost use Rattle.std.specs.Prelude.{ℕ, List, ◌≡◌, ◌≢◌, ◌⊎◌, ◌+◌, ◌/◌, ◌<◌, ◌≤◌, length, Err};
 ghost use Rattle.std.specs.Prelude.{IsTrue, IfOk, IfErr, IfSome, IsErrOf, OnOk, OnErr};
 ghost use Rattle.std.specs.Prelude.{option_copied};
 ghost use Rattle.std.specs.List.{list_any};
 ghost use Rattle.flash_format.specs.Entry.{is_nul};
 ghost use Rattle.flash_format.specs.Made.{hash_len};
 ghost use Rattle.flash_device.specs.Device.{overwritten, Reads, fault_count};
-ghost use Rattle.flash_device.specs.Pages.{HasChanged, OnHonestIn};
+ghost use Rattle.flash_device.specs.Pages.{HasChanged, OnHonestIn, Returns};
 ghost use Rattle.flash_device.specs.Regions.{LiesOn, Reaches};
 ghost use Rattle.cbfs_edit.specs.Changes.{OnHonestChange, HasCopied, HoldsOn, AddLeavesBefore};
 ghost use Rattle.cbfs_edit.specs.Changes.{AddLeavesWhole, IsInsertStop, written_to, by_device};
@@ -93,8 +93,8 @@ fn copy_content<F: Flash, S: Source>(
         (content : List ℕ) → hash_len digest ≡ hash_len (digest_of hash content)) }
 
     // For an honest source.
-    ensures digest { IsTrue (S.facts source.old).honest →
-        IfOk result (λ digest. digest ≡ digest_of hash (S.facts source.old).content) }
+    ensures digest { IsTrue (S.facts source.old).honest
+        → Returns result (digest_of hash (S.facts source.old).content) }
 {
     match hash.algorithm() {
         None => {

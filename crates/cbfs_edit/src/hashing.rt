@@ -1,5 +1,5 @@
 //! Hashers as watchers of a copy.
-ghost use Rattle.std.specs.Prelude.{◌≡◌, ℕ, List, []};
+ghost use Rattle.std.specs.Prelude.{ℕ, List, []};
 
 use flash_device::Watch;
 use sha2::Digest;

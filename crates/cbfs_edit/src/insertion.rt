@@ -4,7 +4,6 @@
 //! component. Bytes written between the commits are free space.
 ghost use Rattle.std.specs.Prelude.{◌≡◌, ◌⊎◌, ◌-◌, ◌%◌, ◌^◌, ◌<◌, ◌≤◌, length};
 ghost use Rattle.flash_format.specs.Made.{header_length, metadata_of, described_len};
-ghost use Rattle.flash_device.specs.Regions.{LiesOn};
 ghost use Rattle.cbfs_edit.specs.Changes.{HasWrittenIn, HoldsOn};
 ghost use Rattle.cbfs_edit.specs.Additions.{HasRoom, IsUnfinished, with_bound, with_component};
 ghost use Rattle.cbfs_edit.specs.Additions.{with_metadata, held_back, shown_by};

@@ -1,9 +1,9 @@
 //! Writes into a region. A failed write leaves arbitrary bytes in its piece.
 ghost use Rattle.std.specs.Prelude.{◌≡◌, ◌⊎◌, ℕ, List, ◌++◌, ◌+◌, ◌/◌, ◌<◌, ◌≤◌, length, IsTrue};
-ghost use Rattle.std.specs.Prelude.{OnOk, OnErr, replicate};
+ghost use Rattle.std.specs.Prelude.{OnOk, replicate};
 ghost use Rattle.flash_format.specs.Made.{header_length};
 ghost use Rattle.flash_device.specs.Device.{overwritten, SameOutside};
-ghost use Rattle.flash_device.specs.Regions.{LiesOn, Reaches};
+ghost use Rattle.flash_device.specs.Regions.{Reaches};
 ghost use Rattle.cbfs_edit.specs.Changes.{HasCopied, HasWrittenIn, HoldsOn, IsOldOrEmptied};
 ghost use Rattle.cbfs_edit.specs.Removals.{IsCellRange, removed, space_end};
 

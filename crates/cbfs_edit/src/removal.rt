@@ -1,7 +1,7 @@
 //! The removal of a component.
-ghost use Rattle.std.specs.Prelude.{◌≡◌, ◌≢◌, ◌⊎◌, ◌+◌, ◌/◌, ◌<◌, IsTrue, IfOk, IfErr, IsErrOf};
+ghost use Rattle.std.specs.Prelude.{◌≡◌, ◌≢◌, ◌+◌, ◌/◌, ◌<◌, IsTrue, IfOk, IfErr, IsErrOf};
 ghost use Rattle.flash_device.specs.Device.{overwritten, fault_count};
-ghost use Rattle.flash_device.specs.Pages.{HasChanged, OnHonestIn};
+ghost use Rattle.flash_device.specs.Pages.{HasChanged, OnHonestIn, AnswersAs};
 ghost use Rattle.flash_device.specs.Regions.{LiesOn};
 ghost use Rattle.cbfs_edit.specs.Changes.{OnHonestChange, LeavesWhole, by_device};
 ghost use Rattle.cbfs_edit.specs.Removals.{removed, removal_in};
@@ -30,8 +30,8 @@ pub fn remove<F: Flash>(
         (fault_count by_device result) paged.old paged.new }
     ensures no_source { IsErrOf result EditFault.Source → ⊥ }
 
-    ensures answer { OnHonestIn paged.old.device region (λ x.
-        IsErrOf result EditFault.Device ⊎ (result ≡ removal_in x name.now)) }
+    ensures answer { AnswersAs paged.old region EditFault.Device result
+        (λ x. removal_in x name.now) }
     ensures removed { OnHonestChange region paged.old paged.new (λ x y.
         IfOk result (λ group. y ≡ removed x group)) }
     ensures image { OnHonestIn paged.old.device region (λ x. IfOk result (λ group.

@@ -1,7 +1,7 @@
 //! The command line: IMAGE, a subcommand, and its options.
 
 ghost use Rattle.std.specs.Prelude.{◌≡◌, ◌≢◌, ◌<◌, ◌⊎◌, [], ◌∷◌, length, Some, IfSome, IfOk, IfErr};
-ghost use Rattle.std.specs.Prelude.{codes, drop, map, option_map, option_and_then, true};
+ghost use Rattle.std.specs.Prelude.{drop, map, option_map, option_and_then, true};
 ghost use Rattle.flash_format.specs.TypeNames.{type_of_text};
 ghost use Rattle.clap.specs.Words.{fault_of, first_of, has_subcommand, kind_of, subcommand_rows_of};
 ghost use Rattle.cbfs_line.specs.Subcommands.{command_line};

@@ -1,7 +1,7 @@
 -- Walks over the cells of a region, and ordered reads.
-use Rattle.std.specs.Prelude.{◌≡◌, ◌⊎◌, ◌*◌, ◌≤◌, ℕ, ◌+◌, ◌-◌, ◌/◌, List, Result, IfOk, IfSome, length, drop, Option, Some, None, Ok, Err, ◌==◌, if◌then◌else◌, ⊤}
+use Rattle.std.specs.Prelude.{◌≡◌, ◌⊎◌, ◌*◌, ◌≤◌, ℕ, ◌+◌, ◌-◌, ◌/◌, List, Result, length, drop, Option, Some, None, Ok, Err, ◌==◌, if◌then◌else◌, ⊤}
 use Rattle.flash_device.specs.Device.{refusals}
-use Rattle.flash_device.specs.Pages.{Pages, Covers, HasRead, OnHonestIn}
+use Rattle.flash_device.specs.Pages.{Pages, Covers, HasRead, OnHonestIn, Returns}
 use Rattle.flash_device.specs.Regions.{Range}
 use Rattle.flash_format.specs.Head.{head_of}
 use Rattle.flash_format.specs.Entry.{Entry, absent, damaged, cell, entry, present}
@@ -41,14 +41,6 @@ pub record Passes {F : Type 0} (region : Range) (at end refused : ℕ)
 -- such reads by a call that fails if a read fails
 abbrev pub HasPassed : {F T E : Type 0} → Range → ℕ → ℕ → Pages F → Pages F → Result T E → Type 0
 HasPassed region at end old new result = Passes region at end (refusals result) old new
-
--- on an honest device, success returns a function of the region's bytes
-abbrev pub ReadsAs : {F T E : Type 0} → Pages F → Range → Result T E → (List ℕ → T) → Type 0
-ReadsAs old region result answer =
-    OnHonestIn old.device region (λ x. IfOk result (λ read. read ≡ answer x))
-
-abbrev pub IfFound : {T E : Type 0} → Result (Option T) E → (T → Type 0) → Type 0
-IfFound result P = IfOk result (λ found. IfSome found P)
 
 abbrev pub StepResult : Type 0
 StepResult = Result Step WalkFault
@@ -90,7 +82,7 @@ StandsIn x c = answer_at x c.at ≡ Ok (steps.Cell c)
 abbrev pub ReadsCellAs : {F T E : Type 0} → Pages F → Range → Cell → Result T E
     → (List ℕ → T) → Type 0
 ReadsCellAs old region c result answer = OnHonestIn old.device region
-    (λ x. StandsIn x c → IfOk result (λ read. read ≡ answer (cell_in x c)))
+    (λ x. StandsIn x c → Returns result (answer (cell_in x c)))
 
 abbrev pub by_device : WalkFault → ℕ
 by_device faults.Device = 1

@@ -1,11 +1,11 @@
 //! Attributes of components.
-ghost use Rattle.std.specs.Prelude.{◌≡◌, ℕ, ◌+◌, ◌-◌, ◌/◌, ◌≤◌, min, false, List, slice_range, IfOk, IfSome, Some, None, is_some};
+ghost use Rattle.std.specs.Prelude.{◌≡◌, ℕ, ◌+◌, ◌-◌, ◌/◌, ◌≤◌, min, false, List, slice_range, IfOk, Some, None, is_some};
 ghost use Rattle.flash_format.specs.Head.{is_free, be32};
 ghost use Rattle.flash_format.specs.Entry.{Attribute, attributes, COMPRESSION, name_end};
 ghost use Rattle.flash_format.specs.Components.{cell_attributes, packing};
-ghost use Rattle.flash_device.specs.Pages.{HasAnswered, OnHonestIn};
-ghost use Rattle.flash_device.specs.Regions.{LiesOn, Reaches};
-ghost use Rattle.cbfs_walk.specs.Walks.{IfFound, HasPassed, ReadsAs, reads_over, StandsIn, ReadsCellAs};
+ghost use Rattle.flash_device.specs.Pages.{HasAnswered, OnHonestIn, ReadsAs, IfFound};
+ghost use Rattle.flash_device.specs.Regions.{Reaches};
+ghost use Rattle.cbfs_walk.specs.Walks.{HasPassed, reads_over, StandsIn, ReadsCellAs};
 ghost use Rattle.cbfs_walk.specs.Cells.{IsCellOn, IsComponentIn, attributes_start, cell_in};
 ghost use Rattle.cbfs_walk.specs.AttrWalks.{place_in_region, attr_walk_of, attr_moved, attr_reads, IsAttrIn, attributes_left, first_head, after_first, IsListedAttribute, listed_in, IsAttrOf, first_attribute, searched_to, value_in};
 

@@ -3,9 +3,9 @@ ghost use Rattle.std.specs.Prelude.{◌≡◌, ◌+◌, ◌≤◌, slice_range, 
 ghost use Rattle.flash_format.specs.declared.digest.Digest.TheVariants as digests;
 ghost use Rattle.flash_format.specs.Components.{cell_attributes, cell_content};
 ghost use Rattle.flash_format.specs.Made.{algorithm};
-ghost use Rattle.flash_device.specs.Pages.{HasAnswered, HasRead, OnHonestIn};
-ghost use Rattle.flash_device.specs.Regions.{LiesOn, Reaches};
-ghost use Rattle.cbfs_walk.specs.Walks.{HasPassed, ReadsAs, reads_over, ReadsCellAs};
+ghost use Rattle.flash_device.specs.Pages.{HasAnswered, HasRead, OnHonestIn, ReadsAs};
+ghost use Rattle.flash_device.specs.Regions.{Reaches};
+ghost use Rattle.cbfs_walk.specs.Walks.{HasPassed, reads_over, ReadsCellAs};
 ghost use Rattle.cbfs_walk.specs.Cells.{IsCellOn, IsComponentIn, PassesChecks, content_start, content_end};
 ghost use Rattle.cbfs_walk.specs.Hashes.{hashed_by, stored_digest, comparison, hash_state, content_at, hash_state_in, IsUncompared};
 

@@ -4,9 +4,9 @@ ghost use Rattle.std.specs.List.{before_first, list_any};
 ghost use Rattle.std.specs.Str.{bytes_eq};
 ghost use Rattle.flash_format.specs.Entry.{name_field, name_end, is_terminated, is_nul};
 ghost use Rattle.flash_format.specs.Components.{cell_name};
-ghost use Rattle.flash_device.specs.Pages.{HasAnswered, OnHonestIn};
-ghost use Rattle.flash_device.specs.Regions.{LiesOn, Reaches};
-ghost use Rattle.cbfs_walk.specs.Walks.{HasPassed, ReadsAs, StandsIn, ReadsCellAs};
+ghost use Rattle.flash_device.specs.Pages.{HasAnswered, OnHonestIn, ReadsAs};
+ghost use Rattle.flash_device.specs.Regions.{Reaches};
+ghost use Rattle.cbfs_walk.specs.Walks.{HasPassed, StandsIn, ReadsCellAs};
 ghost use Rattle.cbfs_walk.specs.Cells.{IsCellOn, IsComponentIn, cell_in};
 
 use crate::cell::{Cell, content_fits};

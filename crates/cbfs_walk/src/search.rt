@@ -1,13 +1,12 @@
 //! The search by name.
-ghost use Rattle.std.specs.Prelude.{◌≡◌, ◌⊎◌, ◌<◌, ◌&&◌, not, false, IsTrue, IfOk, IfSome, IsErrOf, Ok, Some};
+ghost use Rattle.std.specs.Prelude.{◌≡◌, ◌<◌, ◌&&◌, not, false, IsTrue, IfOk, Ok, Some};
 ghost use Rattle.std.specs.Str.{bytes_eq};
 ghost use Rattle.flash_format.specs.Head.{is_free};
 ghost use Rattle.flash_format.specs.Components.{cell_name, component_at};
-ghost use Rattle.flash_device.specs.Device.{fault_count};
-ghost use Rattle.flash_device.specs.Pages.{HasRead, HasAnswered, OnHonestIn};
+ghost use Rattle.flash_device.specs.Pages.{HasAnswered, OnHonestIn, HasReadBy, AnswersAs, IfFound};
 ghost use Rattle.flash_device.specs.Regions.{LiesOn};
 ghost use Rattle.cbfs_walk.specs.Cells.{IsCellOn, IsCellIn, PassesChecks, cell_in};
-ghost use Rattle.cbfs_walk.specs.Walks.{IfFound, StandsIn, ReadsCellAs, by_device};
+ghost use Rattle.cbfs_walk.specs.Walks.{StandsIn, ReadsCellAs, by_device};
 ghost use Rattle.cbfs_walk.specs.Search.{component_in, found_cell, find_reads};
 
 use crate::cell::Cell;
@@ -25,13 +24,12 @@ pub fn find<F: Flash>(
 ) -> Result<Option<Cell>, WalkFault>
     requires { LiesOn region paged.old.device }
 
-    ensures after { HasRead (find_reads region.size result) (fault_count by_device result)
-        paged.old paged.new }
+    ensures after { HasReadBy by_device (find_reads region.size result) paged.old paged.new result }
     ensures cell { IfFound result (IsCellIn region.size) }
     ensures component { IfFound result (λ cell. is_free cell.head ≡ false) }
 
-    ensures answer { OnHonestIn paged.old.device region (λ x.
-        IsErrOf result WalkFault.Device ⊎ (result ≡ found_cell (component_in x name.now))) }
+    ensures answer { AnswersAs paged.old region WalkFault.Device result
+        (λ x. found_cell (component_in x name.now)) }
     ensures stands { OnHonestIn paged.old.device region (λ x. IfFound result (StandsIn x)) }
     ensures first { OnHonestIn paged.old.device region (λ x. IfFound result (λ cell.
         component_in x name.now ≡ Ok (Some (component_at cell.at (cell_in x cell))))) }

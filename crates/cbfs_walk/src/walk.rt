@@ -3,10 +3,10 @@ ghost use Rattle.std.specs.Prelude.{◌≡◌, ◌⊎◌, ℕ, ◌+◌, ◌-◌,
 ghost use Rattle.flash_format.specs.Entry.{front, component, name_end};
 ghost use Rattle.flash_format.specs.Head.{head_of};
 ghost use Rattle.flash_device.specs.Device.{fault_count};
-ghost use Rattle.flash_device.specs.Pages.{HasRead, OnHonestIn};
+ghost use Rattle.flash_device.specs.Pages.{OnHonestIn, Returns, HasReadBy, ReadsAs, AnswersAs};
 ghost use Rattle.flash_device.specs.Regions.{LiesOn, Reaches};
 ghost use Rattle.cbfs_walk.specs.Cells.{IsCellOn, PassesChecks, content_start};
-ghost use Rattle.cbfs_walk.specs.Walks.{entry_or, by_device, walk_of, walk_after, answer_at, answer_of, GivesCell, reads_at, HasPassed, Passes, ReadsAs};
+ghost use Rattle.cbfs_walk.specs.Walks.{entry_or, by_device, walk_of, walk_after, answer_at, answer_of, GivesCell, reads_at, HasPassed, Passes};
 ghost use Rattle.cbfs_walk.specs.Shapes.{has_bad_size};
 
 use crate::attribute_walk::are_well_formed;
@@ -103,8 +103,8 @@ impl Walk {
     pub fn next<F: Flash>(&mut self, paged: &mut Paged<F>) -> Result<Step, WalkFault>
         requires { LiesOn self.old.region paged.old.device }
 
-        ensures after { HasRead (reads_at self.old.region.size self.old.at result)
-            (fault_count by_device result) paged.old paged.new }
+        ensures after { HasReadBy by_device
+            (reads_at self.old.region.size self.old.at result) paged.old paged.new result }
         ensures cell { GivesCell self.old.region.size self.old.at result }
         ensures moved { self.new ≡ walk_after self.old result }
         ensures ended { IfSome self.old.ended (λ answer. result ≡ answer) }
@@ -139,11 +139,10 @@ fn answer_at<F: Flash>(paged: &mut Paged<F>, region: Region, at: u64) -> Result<
     requires reach { Reaches region at paged.old.device }
     requires aligned { at % 64 ≡ 0 }
 
-    ensures after { HasRead (reads_at region.size at result)
-        (fault_count by_device result) paged.old paged.new }
+    ensures after
+        { HasReadBy by_device (reads_at region.size at result) paged.old paged.new result }
     ensures cell { GivesCell region.size at result }
-    ensures answer { OnHonestIn paged.old.device region (λ x.
-        IsErrOf result WalkFault.Device ⊎ (result ≡ answer_at x at)) }
+    ensures answer { AnswersAs paged.old region WalkFault.Device result (λ x. answer_at x at) }
 {
     if has_bad_size(region.size()) {
         return Err(WalkFault::RegionShape);
@@ -175,7 +174,7 @@ fn cell_at<F: Flash>(paged: &mut Paged<F>, region: Region, cell: &Cell) -> Resul
 
     ensures passes { Passes region cell.now.at (content_start cell.now)
         (fault_count by_device result) paged.old paged.new }
-    ensures cell { IfOk result (λ step. step ≡ Step.Cell cell.now) }
+    ensures cell { Returns result (Step.Cell cell.now) }
     ensures answer { OnHonestIn paged.old.device region
         (λ x. cell.now.head ≡ head_of (drop cell.now.at x)
         → IsErrOf result WalkFault.Device ⊎ (result ≡ answer_of (drop cell.now.at x) cell.now)) }

@@ -30,8 +30,8 @@ cell_listed bytes c = only_if (not (is_free c.head)) (record { name = cell_name 
 
 -- The components lie in the region, their sizes add up to at most the region's size, and on an
 -- honest device they equal the definition.
-abbrev pub Lists : {F : Type 0} → Range → Pages F → Vec Listed Global → Type 0
-Lists r pages all = All (IsListedIn r.size) all.items × (spans all.items ≤ r.size)
+abbrev pub IsListing : {F : Type 0} → Range → Pages F → Vec Listed Global → Type 0
+IsListing r pages all = All (IsListedIn r.size) all.items × (spans all.items ≤ r.size)
     × OnHonestIn pages.device r (λ x. all.items ≡ listed_in x)
 
 -- the map has exactly the first component of each name

@@ -1,8 +1,9 @@
 //! The two images.
-ghost use Rattle.std.specs.Prelude.{◌≡◌, ◌+◌, ◌*◌, ◌^◌, ◌<◌, ◌≤◌, Some, IfOk, IfSome};
+ghost use Rattle.std.specs.Prelude.{◌≡◌, ◌+◌, ◌*◌, ◌^◌, ◌<◌, ◌≤◌, Some, IfSome};
 ghost use Rattle.check_changes.specs.Areas.{compared, left_after};
 ghost use Rattle.check_changes.specs.Blocks.{differs};
 ghost use Rattle.check_changes.specs.Images.{HasCompared, LieOn, OnBothIn, lengths};
+ghost use Rattle.flash_device.specs.Pages.{Returns};
 
 use crate::fault::ChangeFault;
 use flash_device::{Flash, PIECE, Paged};
@@ -77,8 +78,7 @@ impl<F: Flash, G: Flash> Images<F, G> {
         requires new_begins { 4096 * number ≤ regions.new.size }
 
         ensures after { HasCompared 1 self.old self.new result }
-        ensures different { OnBothIn self.old regions (λ x y.
-            IfOk result (λ different. different ≡ differs x y number)) }
+        ensures different { OnBothIn self.old regions (λ x y. Returns result (differs x y number)) }
     {
         let start = number * PIECE as u64;
         let (old, new) = (regions.old, regions.new);

@@ -1,9 +1,8 @@
 //! The check of a new image.
 ghost use Rattle.std.specs.Prelude.{◌≡◌, ◌+◌, ◌*◌, ◌/◌, ◌≤◌, length, IfOk};
 ghost use Rattle.flash_format.specs.Flashmap.{area_len};
-ghost use Rattle.flash_device.specs.Device.{fault_count};
 ghost use Rattle.flash_map.specs.Fmap.{found_in};
-ghost use Rattle.flash_device.specs.Pages.{HasRead, OnHonest};
+ghost use Rattle.flash_device.specs.Pages.{OnHonest, HasReadBy};
 ghost use Rattle.flash_map.specs.Faults.{by_device};
 ghost use Rattle.check_findings.specs.ImageFindings.{region_areas, sum_sizes};
 ghost use Rattle.check_changes.specs.Images.{HasReadFor, OnBoth, lengths};
@@ -20,8 +19,8 @@ use std::alloc::Global;
 use std::hash::RandomState;
 
 fn old_image<F: Flash>(alloc: Global, old: &mut Paged<F>) -> Result<OldImage, CheckFault>
-    ensures after { HasRead (length old.old.device.content * 4 / 7 + 8)
-        (fault_count by_device result) old.old old.new }
+    ensures after
+        { HasReadBy by_device (length old.old.device.content * 4 / 7 + 8) old.old old.new result }
     ensures image { OnHonest old.old.device (λ x. IfOk result (λ image. IsOldImage x image)) }
 {
     let map = image_map(alloc, old)?;

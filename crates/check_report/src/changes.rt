@@ -20,8 +20,7 @@ pub fn add_image_changes<W: Sink + Drop>(
     new_len: u64,
     blocks: u32,
 ) -> Result<(), WriteFault>
-    ensures { Adds W.contents W.faults result rows.old rows.new
-        (of.image_rows old_len new_len blocks) }
+    ensures { Adds W.Sink result rows.old rows.new (of.image_rows old_len new_len blocks) }
 {
     let resized = Verdict::Change.row("image-size", "image size changed from");
     rows.add_if(old_len != new_len, resized.number(old_len))?;
@@ -34,8 +33,7 @@ pub fn add_map_changes<W: Sink + Drop>(
     rows: &mut RowWriter<W>,
     changes: &[MapChange],
 ) -> Result<(), WriteFault>
-    ensures { Adds W.contents W.faults result rows.old rows.new
-        (map of.map_change_row changes.now) }
+    ensures { Adds W.Sink result rows.old rows.new (map of.map_change_row changes.now) }
 {
     for change in changes {
         rows.add(map_change_row(change))?;
@@ -49,7 +47,7 @@ pub fn add_area_changes<W: Sink + Drop>(
     vital: &[&[u8]],
     changes: &[AreaChange],
 ) -> Result<(), WriteFault>
-    ensures { Adds W.contents W.faults result rows.old rows.new
+    ensures { Adds W.Sink result rows.old rows.new
         (flat_map (of.area_change_rows (names_in kept.now) (names_in vital.now)) changes.now) }
 {
     for change in changes {
@@ -84,7 +82,7 @@ fn add_component_changes<W: Sink + Drop>(
     area: &[u8],
     changes: &[ComponentChange],
 ) -> Result<(), WriteFault>
-    ensures { Adds W.contents W.faults result rows.old rows.new
+    ensures { Adds W.Sink result rows.old rows.new
         (map (of.component_change_row is_kept area.now) changes.now) }
 {
     for change in changes {
@@ -99,7 +97,7 @@ pub fn add_region_changes<W: Sink + Drop>(
     kept: &[&[u8]],
     changes: &[RegionChange],
 ) -> Result<(), WriteFault>
-    ensures { Adds W.contents W.faults result rows.old rows.new
+    ensures { Adds W.Sink result rows.old rows.new
         (flat_map (of.region_change_rows (names_in kept.now)) changes.now) }
 {
     for change in changes {

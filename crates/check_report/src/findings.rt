@@ -93,7 +93,7 @@ pub fn add_findings<W: Sink + Drop>(
     findings: &[ImageFinding],
     names: &[&[u8]],
 ) -> Result<(), WriteFault>
-    ensures { Adds W.contents W.faults result rows.old rows.new
+    ensures { Adds W.Sink result rows.old rows.new
         (of.finding_rows asked (names_in names.now) findings.now) }
 {
     for finding in findings {
@@ -131,7 +131,7 @@ pub fn add_needs<W: Sink + Drop>(
     findings: &[ImageFinding],
     needs: &[Need<'_>],
 ) -> Result<(), WriteFault>
-    ensures { Adds W.contents W.faults result rows.old rows.new
+    ensures { Adds W.Sink result rows.old rows.new
         (flat_map (of.need_rows findings.now) (map wish_of needs.now)) }
 {
     for need in needs {

@@ -1,7 +1,7 @@
 //! The check of one image.
-ghost use Rattle.std.specs.Prelude.{◌≡◌, ◌+◌, ◌*◌, length, None, IfOk};
-ghost use Rattle.flash_device.specs.Device.{fault_count};
-ghost use Rattle.flash_device.specs.Pages.{HasRead, OnHonest};
+ghost use Rattle.std.specs.Prelude.{◌≡◌, None, IfOk};
+ghost use Rattle.flash_device.specs.Device.{fault_count, call_limit};
+ghost use Rattle.flash_device.specs.Pages.{OnHonest, HasReadBy};
 ghost use Rattle.check_changes.specs.Images.{by_new, by_old};
 ghost use Rattle.check_report.specs.Changes.{IsInspected};
 
@@ -23,8 +23,7 @@ pub fn inspect_image<F: Flash>(
     request: Request<'_>,
 ) -> Result<Inspection, ChangeFault>
     // On any device.
-    ensures after { HasRead (2 * length paged.old.device.content + 64)
-        (fault_count by_new result) paged.old paged.new }
+    ensures after { HasReadBy by_new (call_limit paged.old.device) paged.old paged.new result }
     ensures side { fault_count by_old result ≡ 0 }
 
     // On an honest device.

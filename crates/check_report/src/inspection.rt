@@ -77,8 +77,7 @@ fn add_changes<W: Sink + Drop>(
     request: Request<'_>,
     changes: &Changes,
 ) -> Result<(), WriteFault>
-    ensures { Adds W.contents W.faults result rows.old rows.new
-        (change_rows request.entry changes.now) }
+    ensures { Adds W.Sink result rows.old rows.new (change_rows request.entry changes.now) }
 {
     let new_areas = changes.new_areas.as_slice();
     let old_areas = changes.old.areas_or(new_areas);
@@ -108,8 +107,7 @@ impl Inspection {
         request: Request<'_>,
         rows: &mut RowWriter<W>,
     ) -> Result<(), WriteFault>
-        ensures { Adds W.contents W.faults result rows.old rows.new
-            (inspection_rows request.entry self.now) }
+        ensures { Adds W.Sink result rows.old rows.new (inspection_rows request.entry self.now) }
     {
         add_findings(rows, request.asked, &self.findings, request.areas)?;
         add_needs(rows, &self.findings, request.needs)?;
@@ -124,7 +122,7 @@ impl Inspection {
         request: Request<'_>,
         printer: &mut Printer<W>,
     ) -> Result<(), WriteFault>
-        ensures { Prints W.contents W.faults result printer.old printer.new
+        ensures { Prints W.Sink result printer.old printer.new
             (heading printer.old.form request.entry.files
             (then_some request.entry.asked.lists (listed self.now.findings.items))) false }
     {
@@ -144,8 +142,7 @@ impl Inspection {
         request: Request<'_>,
         rows: &mut RowWriter<W>,
     ) -> Result<bool, WriteFault>
-        ensures { Ends W.contents W.faults result rows.old rows.new
-            (inspection_rows request.entry self.now) }
+        ensures { Ends W.Sink result rows.old rows.new (inspection_rows request.entry self.now) }
     {
         self.add_rows(alloc, request, rows)?;
         rows.finish()

@@ -45,7 +45,7 @@ pub fn add_missing<W: Sink + Drop>(
     old_areas: &[NumberedArea],
     new_areas: &[NumberedArea],
 ) -> Result<(), WriteFault>
-    ensures { Adds W.contents W.faults result rows.old rows.new
+    ensures { Adds W.Sink result rows.old rows.new
         (flat_map (of.missing_if (old_areas.now ++ new_areas.now)) (names_in kept.now)) }
 {
     for name in kept {

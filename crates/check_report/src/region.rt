@@ -43,8 +43,8 @@ fn add_component<W: Sink + Drop>(
     region: &[u8],
     finding: &RegionFinding,
 ) -> Result<(), WriteFault>
-    ensures { Adds W.contents W.faults result rows.old rows.new
-        (of.component_rows asked region.now finding.now) }
+    ensures
+        { Adds W.Sink result rows.old rows.new (of.component_rows asked region.now finding.now) }
 {
     let RegionFinding::Component {
         at,
@@ -124,7 +124,7 @@ pub fn add_region<W: Sink + Drop>(
     region: &[u8],
     findings: &[RegionFinding],
 ) -> Result<(), WriteFault>
-    ensures { Adds W.contents W.faults result rows.old rows.new
+    ensures { Adds W.Sink result rows.old rows.new
         (flat_map (of.region_rows asked region.now) findings.now) }
 {
     for finding in findings {

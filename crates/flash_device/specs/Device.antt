@@ -1,5 +1,5 @@
 -- Devices and sources, and the effects of calls.
-use Rattle.std.specs.Prelude.{◌≡◌, ℕ, ◌+◌, ◌<◌, ◌≤◌, List, ◌++◌, length, take, drop, ◌⊎◌, Bool, slice_range, IsTrue, OnOk, Result, Ok, Err}
+use Rattle.std.specs.Prelude.{◌≡◌, ℕ, ◌+◌, ◌*◌, ◌<◌, ◌≤◌, List, ◌++◌, length, take, drop, ◌⊎◌, Bool, slice_range, IsTrue, OnOk, Result, Ok, Err}
 
 abbrev pub overwritten : List ℕ → ℕ → List ℕ → List ℕ
 overwritten old at bytes = take at old ++ (bytes ++ drop (at + length bytes) old)
@@ -29,6 +29,10 @@ pub record Device : Type 0 where
   pub calls : ℕ
   pub faults : ℕ
   pub honest : Bool
+
+-- the maximum number of device calls of a command
+abbrev pub call_limit : Device → ℕ
+call_limit device = 2 * length device.content + 64
 
 -- the range of one call: inside the device, at most 4096 bytes
 pub record IsPiece (at n : ℕ) (device : Device) : Type 0 where

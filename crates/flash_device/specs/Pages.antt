@@ -1,5 +1,6 @@
 -- Buffered devices, and the effects of their calls.
-use Rattle.std.specs.Prelude.{◌≡◌, ◌+◌, ◌-◌, ◌≤◌, ℕ, List, length, take, min, Result, IsTrue, IsOk, OnOk, OnErr, IfOk, slice_range, ◌/◌, ◌<◌, Option, replicate, IsErrOf}
+use Rattle.std.specs.Prelude.{◌≡◌, ◌+◌, ◌-◌, ◌≤◌, ℕ, List, length, take, min, Result, IsTrue, IsOk, OnOk, OnErr, IfOk, slice_range, ◌/◌, ◌<◌, Option, replicate, IsErrOf, IfSome, ◌⊎◌}
+use Rattle.std.specs.Global.{Vec}
 use Rattle.std.specs.Borrow.{Bor}
 use Rattle.flash_device.specs.Device.{SameOutside, Device, Calls, Reads, refusals, overwritten, FirstWritten, PartWritten, fault_count}
 use Rattle.flash_device.specs.Regions.{Range, bytes_in}
@@ -12,6 +13,19 @@ use Rattle.flash_device.specs.declared.paged.CopyFault.TheVariants as causes
 use Rattle.flash_device.specs.declared.paged.CopyInFault.{CopyInFault}
 use Rattle.flash_device.specs.declared.paged.CopyInFault.TheVariants as inputs
 use Rattle.std.specs.Result.{result_map_both}
+pub use Rattle.flash_device.specs.declared.sink.Sink.{Ghosts as SinkOf}
+
+-- a success returns the value
+abbrev pub Returns : {T E : Type 0} → Result T E → T → Type 0
+Returns result value = IfOk result (λ returned. returned ≡ value)
+
+-- a success returns a vector of these items
+abbrev pub Lists : {T E : Type 0} → Result (Vec T) E → List T → Type 0
+Lists result items = IfOk result (λ returned. returned.items ≡ items)
+
+-- a success with a value has the property P
+abbrev pub IfFound : {T E : Type 0} → Result (Option T) E → (T → Type 0) → Type 0
+IfFound result P = IfOk result (λ found. IfSome found P)
 
 -- P holds for an honest device's content
 abbrev pub OnHonest : Device → (List ℕ → Type 0) → Type 0
@@ -32,6 +46,16 @@ pub record Pages (F : Type 0) : Type 0 where
   pub flash : F
   pub device : Device
   pub held : Held
+
+-- on an honest device, a success returns a function of the region's bytes
+abbrev pub ReadsAs : {F T E : Type 0} → Pages F → Range → Result T E → (List ℕ → T) → Type 0
+ReadsAs old region result value = OnHonestIn old.device region (λ x. Returns result (value x))
+
+-- on an honest device, the result is a function of the region's bytes, or the device's fault
+abbrev pub AnswersAs : {F T E : Type 0} → Pages F → Range → E → Result T E
+    → (List ℕ → Result T E) → Type 0
+AnswersAs old region fault result answer =
+    OnHonestIn old.device region (λ x. IsErrOf result fault ⊎ (result ≡ answer x))
 
 abbrev pub held_in : List ℕ → Buffered → Held
 held_in buffer code.Nothing = Nothing
@@ -66,6 +90,10 @@ pub record HasRead {F : Type 0} (n refused : ℕ)
     (old new : Pages F) : Type 0 where
   pub device : Reads n refused old.device new.device
   pub window : IsTrueTo old.device old.held → IsTrueTo new.device new.held
+
+-- at most n reads, with the faults in a result
+abbrev pub HasReadBy : {F T E : Type 0} → (E → ℕ) → ℕ → Pages F → Pages F → Result T E → Type 0
+HasReadBy told n old new result = HasRead n (fault_count told result) old new
 
 -- at most n reads, failed exactly if a read fails
 pub record HasAnswered {F T E : Type 0} (n : ℕ) (old new : Pages F)
@@ -140,17 +168,18 @@ pub record HasCopiedIn {T : Type 0} (at n : ℕ) (old new source source_now : De
   pub outside : IsTrue old.honest → SameOutside at n old.content new.content
 
 -- A copy of n bytes into a sink. `copied` and `part` are for honest devices.
-pub record HasCopiedOut {F W T : Type 0} (contents : W → Option (List ℕ))
-    (failures : W → ℕ) (most at n : ℕ) (old new : Pages F) (out out_now : W)
-    (result : Result T CopyFault) : Type 0 where
+pub record HasCopiedOut {F W T : Type 0} (sink : SinkOf W) (most at n : ℕ) (old new : Pages F)
+    (out out_now : W) (result : Result T CopyFault) : Type 0 where
   pub read : HasRead most (fault_count by_device result) old new
   pub free : Covers old.held at n → new ≡ old
   pub no_piece : without_piece new.held ≡ new.held
   pub dropped : IsErrOf result causes.Device → new.held ≡ Nothing
-  pub faults : failures out ≤ failures out_now
-  pub output : IsErrOf result causes.Output → failures out < failures out_now
+  pub faults : sink.faults out ≤ sink.faults out_now
+  pub output : IsErrOf result causes.Output → sink.faults out < sink.faults out_now
   pub no_source : IsErrOf result causes.Source → ⊥
   pub copied : OnHonest old.device (λ image.
-      OnOk result (Appends (contents out) (contents out_now) (slice_range image at (at + n))))
+      OnOk result (Appends (sink.contents out) (sink.contents out_now)
+      (slice_range image at (at + n))))
   pub part : OnHonest old.device (λ image.
-      OnErr result (AppendsPart (contents out) (contents out_now) (slice_range image at (at + n))))
+      OnErr result (AppendsPart (sink.contents out) (sink.contents out_now)
+      (slice_range image at (at + n))))

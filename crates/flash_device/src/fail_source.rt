@@ -1,5 +1,5 @@
 //! A source with injected faults.
-ghost use Rattle.std.specs.Prelude.{◌≡◌, ◌+◌, ◌≤◌, length, false};
+ghost use Rattle.std.specs.Prelude.{◌≡◌, length, false};
 ghost use Rattle.flash_device.specs.Device.{IsPiece, OneRead};
 ghost use Rattle.flash_device.specs.TestDevices.{facts_over, PassedOrRefused, refused_once};
 

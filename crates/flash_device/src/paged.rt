@@ -1,7 +1,7 @@
 //! Buffered devices.
 ghost use Rattle.std.specs.Prelude.{◌≡◌, ℕ, List, ◌++◌, ◌+◌, ◌/◌, ◌^◌, ◌<◌, ◌≤◌, ◌↔◌, length, take, IsTrue, OnOk, IfOk, IsErrOf, slice_range, replicate};
 ghost use Rattle.flash_device.specs.Device.{IsPiece, OneCall, OneRead, OneWrite, OneCommit, refusals};
-ghost use Rattle.flash_device.specs.Pages.{HasFilled, HasCopiedIn, HasCopiedOut, as_copy};
+ghost use Rattle.flash_device.specs.Pages.{HasFilled, HasCopiedIn, HasCopiedOut, as_copy, OnHonest};
 ghost use Rattle.flash_device.specs.Output.{AppendsPieces};
 ghost use Rattle.std.specs.Io.KnownBytes.{Keeps};
 
@@ -355,8 +355,8 @@ impl<F: Flash> Paged<F> {
     pub fn copy_out<W: Sink>(&mut self, at: u64, n: u64, out: &mut W) -> Result<(), CopyFault>
         requires { at + n ≤ length self.old.device.content }
 
-        ensures after { HasCopiedOut W.contents W.faults ((n + 4095) / 4096) at n
-            self.old self.new out.old out.new result }
+        ensures after { HasCopiedOut W.Sink
+            ((n + 4095) / 4096) at n self.old self.new out.old out.new result }
         ensures pieces { OnHonest self.old.device
             (λ image. IsErrOf result CopyFault.Device → AppendsPieces
             (W.contents out.old) (W.contents out.new) (slice_range image at (at + n))) }
@@ -376,8 +376,7 @@ impl<F: Flash> Paged<F> {
         requires piece { IsPiece at n self.old.device }
         requires some { 0 < n }
 
-        ensures after { HasCopiedOut W.contents W.faults 1 at n
-            self.old self.new out.old out.new result }
+        ensures after { HasCopiedOut W.Sink 1 at n self.old self.new out.old out.new result }
         ensures none { IsErrOf result CopyFault.Device
             → Keeps (W.contents out.old) (W.contents out.new) }
     {

@@ -1,5 +1,5 @@
 //! Input of bytes.
-ghost use Rattle.std.specs.Prelude.{◌≡◌, ◌+◌, ◌^◌, ◌<◌, ◌≤◌, length};
+ghost use Rattle.std.specs.Prelude.{◌≡◌, ◌^◌, ◌<◌, length};
 ghost use Rattle.flash_device.specs.Device.{IsPiece, Device, OneRead};
 
 /// A failed call.

@@ -1,5 +1,5 @@
 //! Observers of copied bytes.
-ghost use Rattle.std.specs.Prelude.{◌≡◌, ℕ, List, ◌++◌};
+ghost use Rattle.std.specs.Prelude.{ℕ, List, ◌++◌};
 
 /// An observer of copied bytes in order, such as a hasher.
 ///

@@ -2,8 +2,7 @@
 
 ghost use Rattle.std.specs.Prelude.{◌≡◌, ◌+◌, ◌*◌, ◌/◌, ◌≤◌, length, IfOk, IfSome};
 ghost use Rattle.flash_format.specs.Flashmap.{area_len, map_len};
-ghost use Rattle.flash_device.specs.Device.{fault_count};
-ghost use Rattle.flash_device.specs.Pages.{HasRead, OnHonest};
+ghost use Rattle.flash_device.specs.Pages.{OnHonest, Lists, HasReadBy};
 ghost use Rattle.flash_map.specs.Areas.{image_areas, map_areas};
 ghost use Rattle.flash_map.specs.Faults.{by_device};
 ghost use Rattle.flash_map.specs.Fmap.{found_in};
@@ -30,9 +29,8 @@ pub struct ImageMap {
 
 /// Returns the image's map and areas, or `Device` exactly if a read failed.
 pub fn image_map<F: Flash>(alloc: Global, paged: &mut Paged<F>) -> Result<ImageMap, CheckFault>
-    ensures after { HasRead (length paged.old.device.content / 2
-        + length paged.old.device.content / area_len + 8) (fault_count by_device result)
-        paged.old paged.new }
+    ensures after { HasReadBy by_device (length paged.old.device.content / 2
+        + length paged.old.device.content / area_len + 8) paged.old paged.new result }
     ensures inside { IfOk result (λ map. IfSome map.found (λ found.
         found.at + map_len found.head ≤ length paged.old.device.content)) }
     ensures fits { IfOk result (λ map.
@@ -59,10 +57,9 @@ fn map_areas<F: Flash>(
 ) -> Result<Vec<NumberedArea>, CheckFault>
     requires { map.now.at + map_len map.now.head ≤ length paged.old.device.content }
 
-    ensures after { HasRead map.now.head.nareas (fault_count by_device result) paged.old paged.new }
+    ensures after { HasReadBy by_device map.now.head.nareas paged.old paged.new result }
     ensures count { IfOk result (λ areas. length areas.items ≡ map.now.head.nareas) }
-    ensures areas { OnHonest paged.old.device (λ image.
-        IfOk result (λ areas. areas.items ≡ map_areas image map.now)) }
+    ensures areas { OnHonest paged.old.device (λ image. Lists result (map_areas image map.now)) }
 {
     let mut areas = Vec::new(alloc);
     for number in 0..map.head.nareas {

@@ -1,9 +1,9 @@
 //! Searches for a flash map and for a region.
-ghost use Rattle.std.specs.Prelude.{◌≡◌, ◌+◌, ◌-◌, ◌*◌, ◌/◌, ◌<◌, ◌≤◌, ◌↔◌, ◌⊎◌, length, drop, OnErr, IfOk, IfSome, IsErrOf};
+ghost use Rattle.std.specs.Prelude.{◌≡◌, ◌+◌, ◌-◌, ◌*◌, ◌/◌, ◌<◌, ◌≤◌, ◌⊎◌, length, drop, IfOk, IfSome, IsErrOf};
 ghost use Rattle.std.specs.List.{find};
 ghost use Rattle.flash_format.specs.Flashmap.{fmap_head_len, area_len, map_len, area_of, areas_from, is_area};
-ghost use Rattle.flash_device.specs.Device.{IsPiece, Reads, fault_count, refusals};
-ghost use Rattle.flash_device.specs.Pages.{OnHonest, HasRead, HasAnswered};
+ghost use Rattle.flash_device.specs.Device.{IsPiece, Reads, refusals};
+ghost use Rattle.flash_device.specs.Pages.{OnHonest, HasAnswered, Returns, HasReadBy};
 ghost use Rattle.flash_map.specs.Fmap.{HasSignatureAt, map_head, map_head_in, found_from, found_in};
 ghost use Rattle.flash_device.specs.Regions.{LiesOn};
 ghost use Rattle.flash_map.specs.Regions.{by_device, region_by_area, region_of};
@@ -60,8 +60,7 @@ pub fn find_fmap<F: Flash>(paged: &mut Paged<F>) -> Result<Option<FoundMap>, Fla
         paged.old paged.new result }
     ensures fits { IfOk result (λ found. IfSome found (λ map.
         map.at + map_len map.head ≤ length paged.old.device.content)) }
-    ensures found { OnHonest paged.old.device
-        (λ image. IfOk result (λ found. found ≡ found_in image)) }
+    ensures found { OnHonest paged.old.device (λ image. Returns result (found_in image)) }
 {
     find_fmap_from(paged, 0)
 }
@@ -77,8 +76,7 @@ pub fn find_fmap_from<F: Flash>(
         paged.old paged.new result }
     ensures fits { IfOk result (λ found. IfSome found (λ map.
         map.at + map_len map.head ≤ length paged.old.device.content)) }
-    ensures found { OnHonest paged.old.device
-        (λ image. IfOk result (λ found. found ≡ found_from from image)) }
+    ensures found { OnHonest paged.old.device (λ image. Returns result (found_from from image)) }
 {
     let len = paged.len();
     let mut place = from;
@@ -127,7 +125,7 @@ fn map_head_at<F: Flash>(
 
     ensures after { HasAnswered 1 paged.old paged.new result }
     ensures head { OnHonest paged.old.device
-        (λ image. IfOk result (λ found. found ≡ map_head (drop place image))) }
+        (λ image. Returns result (map_head (drop place image))) }
     ensures fits { IfOk result (λ found. IfSome found (λ head. place + map_len head ≤ len)) }
 {
     if len < HEAD_LENGTH || place > len - HEAD_LENGTH {
@@ -156,8 +154,8 @@ pub fn area<F: Flash>(paged: &mut Paged<F>, map: &FoundMap, i: u16) -> Result<Ar
     requires number { i < map.now.head.nareas }
 
     ensures after { HasAnswered 1 paged.old paged.new result }
-    ensures area { OnHonest paged.old.device (λ image. IfOk result
-        (λ area. area ≡ area_of (drop (map.now.at + fmap_head_len + area_len * i) image))) }
+    ensures area { OnHonest paged.old.device (λ image.
+        Returns result (area_of (drop (map.now.at + fmap_head_len + area_len * i) image))) }
 {
     let _len = paged.len();
     let mut bytes = [0; Area::LENGTH];
@@ -174,8 +172,7 @@ fn area_named<F: Flash>(
     requires inside { map.now.at + map_len map.now.head ≤ length paged.old.device.content }
 
     ensures after { HasAnswered map.now.head.nareas paged.old paged.new result }
-    ensures first { OnHonest paged.old.device
-        (λ image. IfOk result (λ area. area ≡ find (is_area name.now)
+    ensures first { OnHonest paged.old.device (λ image. Returns result (find (is_area name.now)
         (areas_from map.now.head.nareas (drop (map.now.at + fmap_head_len) image)))) }
 {
     for i in 0..map.head.nareas {
@@ -206,9 +203,8 @@ pub fn region_of_area(area: Option<Area>, image_len: u64) -> Result<Region, Stor
 /// outside the image (6); a device fault (1) at any read.
 #[tactic(auto, unfolding(crate::specs::Regions::region_of))]
 pub fn region<F: Flash>(paged: &mut Paged<F>, name: &[u8]) -> Result<Region, StoreFault>
-    ensures after { HasRead (length paged.old.device.content / 2
-        + length paged.old.device.content / area_len + 8) (fault_count by_device result)
-        paged.old paged.new }
+    ensures after { HasReadBy by_device (length paged.old.device.content / 2
+        + length paged.old.device.content / area_len + 8) paged.old paged.new result }
     ensures inside { IfOk result (λ region. LiesOn region paged.old.device) }
     ensures answer { OnHonest paged.old.device (λ image.
         IsErrOf result StoreFault.Device ⊎ (result ≡ region_of image name.now)) }
@@ -225,8 +221,7 @@ pub fn map_in_source<S: Source>(source: &mut S) -> Result<Option<FmapHead>, Sour
     ensures calls { Reads 1 (refusals result) (S.facts source.old) (S.facts source.new) }
     ensures fits { IfOk result
         (λ found. IfSome found (λ head. map_len head ≤ length (S.facts source.old).content)) }
-    ensures head { OnHonest (S.facts source.old)
-        (λ content. IfOk result (λ found. found ≡ map_head content)) }
+    ensures head { OnHonest (S.facts source.old) (λ content. Returns result (map_head content)) }
 {
     let len = source.len();
     if len < HEAD_LENGTH {
@@ -247,8 +242,8 @@ pub fn area_in_source<S: Source>(
     requires number { i < head.now.nareas }
 
     ensures calls { Reads 1 (refusals result) (S.facts source.old) (S.facts source.new) }
-    ensures area { OnHonest (S.facts source.old) (λ content.
-        IfOk result (λ area. area ≡ area_of (drop (fmap_head_len + area_len * i) content))) }
+    ensures area { OnHonest (S.facts source.old)
+        (λ content. Returns result (area_of (drop (fmap_head_len + area_len * i) content))) }
 {
     let mut bytes = [0; Area::LENGTH];
     let at = HEAD_LENGTH + AREA_LENGTH * u64::from(i);

@@ -2,7 +2,7 @@
 
 ghost use Rattle.std.specs.Prelude.{◌≡◌, ◌+◌, ◌*◌, ◌/◌, ◌≤◌, All, fold, length, map, OnOk, OnErr};
 ghost use Rattle.std.specs.Prelude.{Err};
-ghost use Rattle.flash_device.specs.Device.{Calls, refusals};
+ghost use Rattle.flash_device.specs.Device.{Calls, refusals, call_limit};
 ghost use Rattle.flash_device.specs.Laws.{with_edit};
 ghost use Rattle.flash_device.specs.Pages.{OnHonest};
 ghost use Rattle.cbfs_edit.specs.Formats.{formatted};
@@ -57,8 +57,8 @@ pub fn create<F: Flash, S: Source>(
     source: &mut S,
 ) -> Result<(), Refusal>
     requires { length names.now ≤ MOST_REGIONS }
-    ensures { HasApplied (2 * length paged.old.device.content + 64) (creates (map (λ name. name.now)
-        names.now)) paged.old paged.new (S.facts source.old) (S.facts source.new) result }
+    ensures { HasApplied (call_limit paged.old.device) (creates (map (λ name. name.now) names.now))
+        paged.old paged.new (S.facts source.old) (S.facts source.new) result }
 {
     let image_len = paged.len();
     let plan = read_plan(names, source, image_len)?;

@@ -1,15 +1,14 @@
 //! The lines after a component's row.
 
-ghost use Rattle.std.specs.Prelude.{◌≡◌, ◌+◌, ◌/◌, ◌≤◌, ◌++◌, length, map};
+ghost use Rattle.std.specs.Prelude.{◌≡◌, ◌+◌, ◌/◌, ◌≤◌, length, map};
 ghost use Rattle.std.specs.List.{flat_map};
 ghost use Rattle.byteorder.specs.Endian.{big_bytes};
 ghost use Rattle.hex.specs.Hex.{encode_lower};
 ghost use Rattle.arrayvec.specs.ArrayVec.{array_vec_len};
 ghost use Rattle.flash_format.specs.Made.{digest_bytes};
-ghost use Rattle.flash_format.specs.Components.{cell_attributes, cell_content};
+ghost use Rattle.flash_format.specs.Components.{cell_attributes};
 ghost use Rattle.flash_format.specs.Texts.{Pushes};
 ghost use Rattle.cbfs_walk.specs.AttrWalks.{head_of_attribute};
-ghost use Rattle.cbfs_walk.specs.Hashes.{hash_state};
 ghost use Rattle.cbfs_commands.specs.Rows.{attribute_line, details, digest_line, hash_line};
 ghost use Rattle.cbfs_commands.specs.Rows.{hash_text};
 ghost use Rattle.cbfs_commands.specs.Printouts.{HasOutput, IsComponentOf, cell_bytes, shows};
@@ -93,8 +92,8 @@ fn print_attributes<F: Flash, W: Sink>(
 ) -> Result<(), Refusal>
     requires { IsComponentOf region cell.now paged.old.device }
 
-    ensures { HasOutput W.contents W.faults (cell.now.head.offset / 8)
-        paged.old paged.new out.old out.new result (λ image. shows (flat_map attribute_line
+    ensures { HasOutput W.Sink (cell.now.head.offset / 8) paged.old paged.new out.old out.new result
+        (λ image. shows (flat_map attribute_line
         (map head_of_attribute (cell_attributes (cell_bytes region cell.now image))))) }
 {
     let mut walk = attributes(cell);
@@ -114,8 +113,8 @@ fn print_hash<F: Flash, W: Sink>(
 ) -> Result<(), Refusal>
     requires { IsComponentOf region cell.now paged.old.device }
 
-    ensures { HasOutput W.contents W.faults (1 + cell.now.span / 3840) paged.old paged.new
-        out.old out.new result (λ image. shows (hash_text (cell_bytes region cell.now image))) }
+    ensures { HasOutput W.Sink (1 + cell.now.span / 3840) paged.old paged.new out.old out.new result
+        (λ image. shows (hash_text (cell_bytes region cell.now image))) }
 {
     let state = check_hash(paged, region, cell)?;
     set_hash_row(row, &state);
@@ -132,8 +131,8 @@ pub fn print_details<F: Flash, W: Sink>(
 ) -> Result<(), Refusal>
     requires { IsComponentOf region cell.now paged.old.device }
 
-    ensures { HasOutput W.contents W.faults (cell.now.head.offset / 8
-        + (1 + cell.now.span / 3840)) paged.old paged.new out.old out.new result
+    ensures { HasOutput W.Sink (cell.now.head.offset / 8 + (1 + cell.now.span / 3840)) paged.old
+        paged.new out.old out.new result
         (λ image. shows (details (cell_bytes region cell.now image))) }
 {
     print_attributes(paged, region, cell, row, out)?;

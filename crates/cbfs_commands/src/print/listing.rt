@@ -1,11 +1,12 @@
 //! The command `print`.
 
-ghost use Rattle.std.specs.Prelude.{◌≡◌, ◌+◌, ◌*◌, ◌/◌, ◌<◌, ◌≤◌, length, OnOk, if◌then◌else◌};
+ghost use Rattle.std.specs.Prelude.{◌≡◌, ◌+◌, ◌/◌, ◌<◌, OnOk, if◌then◌else◌};
 ghost use Rattle.flash_device.specs.Pages.{HasAnswered, OnHonest};
 ghost use Rattle.flash_device.specs.Regions.{LiesOn, bytes_in};
 ghost use Rattle.cbfs_commands.specs.Outcomes.{print_region, printed_in};
 ghost use Rattle.cbfs_commands.specs.Rows.{cell_row, details_reads, shown_cell};
 ghost use Rattle.cbfs_commands.specs.Printouts.{HasOutput, IsCellOf, cell_bytes, shows};
+ghost use Rattle.flash_device.specs.Device.{call_limit};
 
 use crate::print::details::print_details;
 use crate::refusal::Refusal;
@@ -49,8 +50,8 @@ fn print_row<F: Flash, W: Sink>(
 ) -> Result<(), Refusal>
     requires { IsCellOf region cell.now paged.old.device }
 
-    ensures { HasOutput W.contents W.faults (2 + cell.now.span / 3840) paged.old paged.new out.old
-        out.new result (λ image. shows (cell_row cell.now.at (cell_bytes region cell.now image))) }
+    ensures { HasOutput W.Sink (2 + cell.now.span / 3840) paged.old paged.new out.old out.new result
+        (λ image. shows (cell_row cell.now.at (cell_bytes region cell.now image))) }
 {
     set_cell_row(paged, region, cell, buffer)?;
     put_row(out, buffer)
@@ -67,8 +68,8 @@ fn print_cell<F: Flash, W: Sink>(
 ) -> Result<(), Refusal>
     requires { IsCellOf region cell.now paged.old.device }
 
-    ensures { HasOutput W.contents W.faults (2 + cell.now.span / 3840 + (if verbose
-        then details_reads cell.now.span else 0)) paged.old paged.new out.old out.new result
+    ensures { HasOutput W.Sink (2 + cell.now.span / 3840 + (if verbose then details_reads
+        cell.now.span else 0)) paged.old paged.new out.old out.new result
         (λ image. shows (shown_cell verbose cell.now.at (cell_bytes region cell.now image))) }
 {
     cells_stand_in_their_image();
@@ -87,8 +88,8 @@ fn print_region<F: Flash, W: Sink>(
 ) -> Result<(), Refusal>
     requires { LiesOn region paged.old.device }
 
-    ensures { HasOutput W.contents W.faults ((if verbose then region.size / 4 else region.size / 16)
-        + 2) paged.old paged.new out.old out.new result
+    ensures { HasOutput W.Sink ((if verbose then region.size / 4 else region.size / 16) + 2)
+        paged.old paged.new out.old out.new result
         (λ image. print_region (bytes_in region image) verbose) }
 {
     let mut buffer = ArrayVec::new();
@@ -106,9 +107,8 @@ pub fn print<F: Flash, W: Sink>(
     verbose: bool,
     out: &mut W,
 ) -> Result<(), Refusal>
-    ensures { HasOutput W.contents W.faults
-        (2 * length paged.old.device.content + 64) paged.old paged.new out.old out.new result
-        (λ image. printed_in image name.now (λ x. print_region x verbose)) }
+    ensures { HasOutput W.Sink (call_limit paged.old.device) paged.old paged.new out.old out.new
+        result (λ image. printed_in image name.now (λ x. print_region x verbose)) }
 {
     let region = flash_map::region(paged, name)?;
     print_region(paged, region, verbose, out)

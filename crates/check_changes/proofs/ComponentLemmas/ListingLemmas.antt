@@ -22,7 +22,7 @@ use Rattle.cbfs_walk.proofs.Shapes.{shaped_step}
 use Rattle.check_findings.proofs.RegionLemmas.WalkParts.{Answers, Reached, reached_answer, reached_more, reached_start}
 use Rattle.check_findings.specs.Lists.{only_if}
 use Rattle.check_changes.specs.Components.{listed_in, listed_of}
-use Rattle.check_changes.specs.Listings.{IsListedIn, Lists, cell_listed, spans}
+use Rattle.check_changes.specs.Listings.{IsListedIn, IsListing, cell_listed, spans}
 use Rattle.check_changes.specs.declared.components.listing.Listed.{Listed}
 
 -- ---- the components from an offset on

@@ -5,6 +5,7 @@ ghost use Rattle.check_changes.specs.Areas.{content_differences, entry_differenc
 ghost use Rattle.check_changes.specs.Areas.{same_size_regions};
 ghost use Rattle.check_changes.specs.Blocks.{blocks_of, different_blocks};
 ghost use Rattle.check_changes.specs.Images.{HasCompared, OnBoth, lengths, lengths_of};
+ghost use Rattle.flash_device.specs.Pages.{Returns};
 
 use crate::areas::blocks::{Differing, blocks_of, different_in};
 use crate::areas::change::{AreaChange, AreaDifference};
@@ -84,8 +85,7 @@ fn push_changes<F: Flash, G: Flash>(
 
 fn different_blocks<F: Flash, G: Flash>(images: &mut Images<F, G>) -> Result<u32, ChangeFault>
     ensures after { HasCompared (blocks_of (lengths images.old).new) images.old images.new result }
-    ensures blocks { OnBoth images.old (λ x y.
-        IfOk result (λ blocks. blocks ≡ different_blocks x y)) }
+    ensures blocks { OnBoth images.old (λ x y. Returns result (different_blocks x y)) }
 {
     let lens = images.lengths();
     let shorter = blocks_of(lens.old.min(lens.new));

@@ -1,6 +1,6 @@
 //! The changes between two flash maps.
-ghost use Rattle.std.specs.Prelude.{◌≡◌, IfOk};
 ghost use Rattle.check_changes.specs.Areas as maps;
+ghost use Rattle.flash_device.specs.Pages.{Lists};
 
 use crate::areas::change::MapChange;
 use check_findings::{push, push_if};
@@ -14,7 +14,7 @@ pub fn map_changes(
     old: Option<FoundMap>,
     new: Option<FoundMap>,
 ) -> Result<Vec<MapChange>, AllocError>
-    ensures { IfOk result (λ changes. changes.items ≡ maps.map_changes old new) }
+    ensures { Lists result (maps.map_changes old new) }
 {
     let mut changes = Vec::new(alloc);
     let Some(new) = new else {

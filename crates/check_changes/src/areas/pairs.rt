@@ -5,6 +5,7 @@ ghost use Rattle.std.specs.Option.{option_map_or};
 ghost use Rattle.check_changes.specs.Areas.{pairs, gone_of, has_block, is_held, is_same_size};
 ghost use Rattle.check_changes.specs.Areas.{regions_of, same_size_regions};
 ghost use Rattle.check_changes.specs.Images.{LieWithin};
+ghost use Rattle.flash_device.specs.Pages.{Lists};
 
 use crate::areas::change::{AreaChange, AreaDifference};
 use crate::areas::names::NamedBoth;
@@ -83,8 +84,7 @@ pub fn is_held(pairs: &[AreaPair], lens: Lengths, outer: RegionPair, number: u64
 
 /// Returns the first new area of each name, in order, with its first old namesake.
 pub fn pairs<'a>(alloc: Global, areas: &NamedBoth<'a>) -> Result<Vec<AreaPair>, AllocError>
-    ensures found { IfOk result (λ found. found.items
-        ≡ pairs areas.now.old.all.now areas.now.new.all.now) }
+    ensures found { Lists result (pairs areas.now.old.all.now areas.now.new.all.now) }
     ensures count { IfOk result (λ found. length found.items ≤ length areas.now.new.all.now) }
 {
     let mut pairs = Vec::new(alloc);

@@ -1,5 +1,5 @@
 //! The changes between two regions.
-ghost use Rattle.std.specs.Prelude.{◌≡◌, ◌++◌, ◌∷◌, [], ◌+◌, ◌/◌, All, map, IfOk, OnOk, option_to_list};
+ghost use Rattle.std.specs.Prelude.{◌≡◌, ◌++◌, ◌∷◌, [], ◌+◌, ◌/◌, All, map, OnOk, option_to_list};
 ghost use Rattle.std.specs.List.{flat_map};
 ghost use Rattle.check_changes.specs.Areas.{if_changed};
 ghost use Rattle.check_changes.specs.Components.{changes_between, component_change};
@@ -8,6 +8,7 @@ ghost use Rattle.check_changes.specs.Listings.{IsListedIn, spans};
 ghost use Rattle.check_changes.specs.Regions.{listed_regions};
 ghost use Rattle.check_changes.specs.Images.{HasCompared, HasReadFor, LieOn, OnBothIn};
 ghost use Rattle.check_changes.specs.declared.components.change.ComponentDifference.TheVariants.{MovedFrom};
+ghost use Rattle.flash_device.specs.Pages.{Lists};
 
 use crate::components::change::{ComponentChange, ComponentDifference};
 use crate::components::comparison::difference;
@@ -148,8 +149,8 @@ fn list_changes<'a, F: Flash, G: Flash>(
     requires new { All (IsListedIn regions.new.size) new.now }
 
     ensures after { HasCompared (spans new.now / 24) images.old images.new result }
-    ensures changes { OnBothIn images.old regions (λ x y. IfOk result
-        (λ changes. changes.items ≡ changes_between x y old.now new.now)) }
+    ensures changes { OnBothIn images.old regions
+        (λ x y. Lists result (changes_between x y old.now new.now)) }
 {
     let lists = Listings {
         old: with_firsts(alloc, keys, regions.old, old)?,
@@ -176,8 +177,7 @@ pub fn component_changes<F: Flash, G: Flash>(
         (regions.new.size / 12 + 2) images.old images.new result }
 
     // On honest devices.
-    ensures changes { OnBothIn images.old regions (λ x y.
-        IfOk result (λ changes. changes.items ≡ component_changes x y)) }
+    ensures changes { OnBothIn images.old regions (λ x y. Lists result (component_changes x y)) }
 {
     let old = components(alloc, &mut images.old_image, regions.old).map_err(ChangeFault::of_old)?;
     let new = components(alloc, &mut images.new_image, regions.new).map_err(ChangeFault::of_new)?;

@@ -1,10 +1,11 @@
 //! The comparison of components.
-ghost use Rattle.std.specs.Prelude.{◌≡◌, ◌+◌, ◌-◌, ◌/◌, ◌≤◌, ◌<◌, ◌^◌, slice_range, IfOk};
+ghost use Rattle.std.specs.Prelude.{◌≡◌, ◌+◌, ◌-◌, ◌/◌, ◌≤◌, ◌<◌, ◌^◌, slice_range};
 ghost use Rattle.std.specs.Str.{bytes_eq};
 ghost use Rattle.flash_format.specs.Entry.{name_end};
 ghost use Rattle.check_changes.specs.Components.{difference};
 ghost use Rattle.check_changes.specs.Listings.{IsListedIn};
 ghost use Rattle.check_changes.specs.Images.{HasCompared, LieOn, OnBothIn};
+ghost use Rattle.flash_device.specs.Pages.{Returns};
 
 use crate::areas::blocks_of;
 use crate::components::change::ComponentDifference;
@@ -29,8 +30,8 @@ pub fn difference<F: Flash, G: Flash>(
     requires new { IsListedIn regions.new.size new.now }
 
     ensures after { HasCompared (2 + new.now.cell.span / 4096) images.old images.new result }
-    ensures difference { OnBothIn images.old regions (λ x y.
-        IfOk result (λ what. what ≡ difference x y old.now.cell new.now.cell)) }
+    ensures difference { OnBothIn images.old regions
+        (λ x y. Returns result (difference x y old.now.cell new.now.cell)) }
 {
     let (old, new) = (&old.cell, &new.cell);
     if old.head.kind != new.head.kind {
@@ -86,8 +87,8 @@ fn same_range<F: Flash, G: Flash>(
     requires new_order { new.start ≤ new.end }
 
     ensures after { HasCompared (1 + (new.end - new.start) / 4096) images.old images.new result }
-    ensures same { OnBothIn images.old regions (λ x y. IfOk result (λ same. same
-        ≡ bytes_eq (slice_range x old.start old.end) (slice_range y new.start new.end))) }
+    ensures same { OnBothIn images.old regions (λ x y. Returns result
+        (bytes_eq (slice_range x old.start old.end) (slice_range y new.start new.end))) }
 {
     let lens = images.lengths();
     let n = old.end - old.start;
@@ -111,7 +112,7 @@ fn same_bytes<F: Flash, G: Flash>(
     requires same_size { regions.old.size ≡ regions.new.size }
 
     ensures after { HasCompared (1 + regions.new.size / 4096) images.old images.new result }
-    ensures same { OnBothIn images.old regions (λ x y. IfOk result (λ same. same ≡ bytes_eq x y)) }
+    ensures same { OnBothIn images.old regions (λ x y. Returns result (bytes_eq x y)) }
 {
     for number in 0..blocks_of(regions.new.size()) {
         if images.is_different(regions, number)? {

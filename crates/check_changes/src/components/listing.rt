@@ -1,11 +1,10 @@
 //! The components of a region.
 ghost use Rattle.std.specs.Prelude.{◌≡◌, ◌+◌, ◌/◌, ◌≤◌, ◌++◌, All, IfOk, OnOk};
-ghost use Rattle.flash_device.specs.Device.{fault_count};
-ghost use Rattle.flash_device.specs.Pages.{HasRead, OnHonestIn};
+ghost use Rattle.flash_device.specs.Pages.{OnHonestIn, HasReadBy};
 ghost use Rattle.flash_device.specs.Regions.{LiesOn};
 ghost use Rattle.cbfs_walk.specs.Cells.{IsCellOn, IsCellIn, cell_in};
 ghost use Rattle.cbfs_walk.specs.Walks.{StandsIn};
-ghost use Rattle.check_changes.specs.Listings.{IsListedIn, Lists, cell_listed, spans};
+ghost use Rattle.check_changes.specs.Listings.{IsListedIn, IsListing, cell_listed, spans};
 ghost use Rattle.flash_map.specs.Faults.{by_device};
 
 use cbfs_walk::{Cell, Step, Walk, WalkFault, cells_stand_in_their_image, name};
@@ -38,7 +37,7 @@ fn list_cell<F: Flash>(
 ) -> Result<(), CheckFault>
     requires { IsCellOn IsCellIn region cell.now paged.old.device }
 
-    ensures after { HasRead 1 (fault_count by_device result) paged.old paged.new }
+    ensures after { HasReadBy by_device 1 paged.old paged.new result }
     ensures cells { OnOk result (All (IsListedIn region.size) all.old.items
         → All (IsListedIn region.size) all.new.items) }
     ensures room { OnOk result (spans all.new.items ≤ spans all.old.items + cell.now.span) }
@@ -63,9 +62,8 @@ pub fn components<F: Flash>(
 ) -> Result<Vec<Listed>, CheckFault>
     requires { LiesOn region paged.old.device }
 
-    ensures after { HasRead (region.size / 24 + 2)
-        (fault_count by_device result) paged.old paged.new }
-    ensures lists { IfOk result (Lists region paged.old) }
+    ensures after { HasReadBy by_device (region.size / 24 + 2) paged.old paged.new result }
+    ensures lists { IfOk result (IsListing region paged.old) }
 {
     let mut all = Vec::new(alloc);
     let mut walk = Walk::new(region);

@@ -1,9 +1,10 @@
 //! The changes of each region's components.
-ghost use Rattle.std.specs.Prelude.{◌≡◌, ◌+◌, ◌-◌, ◌*◌, ◌/◌, ◌≤◌, ◌++◌, List, length, IfOk, OnOk};
+ghost use Rattle.std.specs.Prelude.{◌≡◌, ◌+◌, ◌-◌, ◌*◌, ◌/◌, ◌≤◌, ◌++◌, List, length, OnOk};
 ghost use Rattle.check_findings.specs.ImageFindings.{region_area, region_areas, sum_sizes};
 ghost use Rattle.flash_map.specs.declared.areas.NumberedArea.{NumberedArea};
 ghost use Rattle.check_changes.specs.Images.{HasReadFor, OnBoth, lengths};
 ghost use Rattle.check_changes.specs.Regions.{region_changes, region_changes_in};
+ghost use Rattle.flash_device.specs.Pages.{Lists};
 
 use crate::areas::{AreaPair, NamedAreas};
 use crate::components::component_changes;
@@ -75,8 +76,8 @@ pub fn region_changes<'a, F: Flash, G: Flash>(
         + 2 * length (region_areas findings.now)) images.old images.new result }
 
     // On honest devices.
-    ensures changes { OnBoth images.old (λ x y.
-        IfOk result (λ changes. changes.items ≡ region_changes x old_areas.now y findings.now)) }
+    ensures changes { OnBoth images.old
+        (λ x y. Lists result (region_changes x old_areas.now y findings.now)) }
 {
     let olds = NamedAreas::of(alloc, old_areas)?;
     let mut left = images.lengths().old;

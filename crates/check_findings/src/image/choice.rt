@@ -1,7 +1,6 @@
 //! The choice of areas to check.
-ghost use Rattle.std.specs.Prelude.{ℕ, ◌≡◌, ◌≤◌, List, All, IsTrue, length, IfOk};
-ghost use Rattle.flash_device.specs.Device.{fault_count};
-ghost use Rattle.flash_device.specs.Pages.{HasRead, HasAnswered, OnHonest};
+ghost use Rattle.std.specs.Prelude.{ℕ, ◌≤◌, List, All, IsTrue, length, IfOk};
+ghost use Rattle.flash_device.specs.Pages.{HasAnswered, OnHonest, Returns, Lists, HasReadBy};
 ghost use Rattle.flash_map.specs.declared.areas.NumberedArea.{NumberedArea};
 ghost use Rattle.flash_map.specs.Faults.{by_device};
 ghost use Rattle.flash_map.specs.Areas.{area_end};
@@ -23,9 +22,8 @@ pub fn cbfs_areas<F: Flash>(
     paged: &mut Paged<F>,
     areas: &[NumberedArea],
 ) -> Result<Vec<NumberedArea>, CheckFault>
-    ensures after { HasRead (length areas.now) (fault_count by_device result) paged.old paged.new }
-    ensures areas { OnHonest paged.old.device (λ image.
-        IfOk result (λ found. found.items ≡ cbfs_areas image areas.now)) }
+    ensures after { HasReadBy by_device (length areas.now) paged.old paged.new result }
+    ensures areas { OnHonest paged.old.device (λ image. Lists result (cbfs_areas image areas.now)) }
 {
     let none = NameSet::new(alloc);
     wanted_areas(alloc, paged, &none, areas)
@@ -38,13 +36,12 @@ pub fn wanted_areas<F: Flash>(
     expected: &NameSet,
     areas: &[NumberedArea],
 ) -> Result<Vec<NumberedArea>, CheckFault>
-    ensures after { HasRead (length areas.now) (fault_count by_device result) paged.old paged.new }
+    ensures after { HasReadBy by_device (length areas.now) paged.old paged.new result }
     ensures inside { IfOk result (λ wanted.
         All (λ a. area_end a.area ≤ length paged.old.device.content) wanted.items) }
     ensures count { IfOk result (λ wanted. length wanted.items ≤ length areas.now) }
-    ensures areas { OnHonest paged.old.device (λ image.
-        (names : List (List ℕ)) → HasNames expected.now names →
-        IfOk result (λ wanted. wanted.items ≡ wanted_areas image names areas.now)) }
+    ensures areas { OnHonest paged.old.device (λ image. (names : List (List ℕ))
+        → HasNames expected.now names → Lists result (wanted_areas image names areas.now)) }
 {
     let starts = Starts::of(alloc, areas)?;
     let mut wanted = Vec::new(alloc);
@@ -64,9 +61,9 @@ fn is_wanted<F: Flash>(
     ensures after { HasAnswered 1 paged.old paged.new result }
     ensures inside { IfOk result (λ wanted. IsTrue wanted →
         area_end area.now.area ≤ length paged.old.device.content) }
-    ensures wanted { OnHonest paged.old.device (λ image. (names : List (List ℕ))
-        (areas : List NumberedArea) → HasNames expected.now names → HasStarts starts.now areas
-        → IfOk result (λ wanted. wanted ≡ is_wanted image names areas area.now)) }
+    ensures wanted { OnHonest paged.old.device
+        (λ image. (names : List (List ℕ)) (areas : List NumberedArea) → HasNames expected.now names
+        → HasStarts starts.now areas → Returns result (is_wanted image names areas area.now)) }
 {
     let start = u64::from(area.area.offset);
     let size = u64::from(area.area.size);

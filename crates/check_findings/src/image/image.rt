@@ -1,10 +1,9 @@
 //! The image check.
-ghost use Rattle.std.specs.Prelude.{ℕ, List, All, ◌≡◌, ◌+◌, ◌-◌, ◌*◌, ◌/◌, ◌≤◌, [], ◌∷◌, ◌++◌};
-ghost use Rattle.std.specs.Prelude.{length, map, OnOk, IfOk, nat_le, if◌then◌else◌};
+ghost use Rattle.std.specs.Prelude.{ℕ, List, All, ◌≡◌, ◌+◌, ◌-◌, ◌*◌, ◌/◌, ◌≤◌, [], ◌∷◌};
+ghost use Rattle.std.specs.Prelude.{length, map, IfOk, nat_le, if◌then◌else◌};
 ghost use Rattle.flash_format.specs.Flashmap.{area_len};
-ghost use Rattle.flash_device.specs.Device.{fault_count};
 ghost use Rattle.flash_map.specs.Fmap.{found_in};
-ghost use Rattle.flash_device.specs.Pages.{HasRead, OnHonest};
+ghost use Rattle.flash_device.specs.Pages.{OnHonest, Returns, Lists, HasReadBy};
 ghost use Rattle.flash_map.specs.Areas.{area_end, image_areas};
 ghost use Rattle.check_findings.specs.declared.image.finding.ImageFinding.TheVariants.{Map};
 ghost use Rattle.flash_map.specs.Faults.{by_device};
@@ -14,6 +13,7 @@ ghost use Rattle.check_findings.specs.ImageFindings.{left_after};
 ghost use Rattle.check_findings.specs.ImageFindings.{HasNames};
 ghost use Rattle.check_findings.specs.ImageFindings.{AreChecked, region_area, region_areas};
 ghost use Rattle.check_findings.specs.ImageFindings.{sum_sizes};
+ghost use Rattle.flash_device.specs.Device.{call_limit};
 
 use crate::image::choice::wanted_areas;
 use crate::image::finding::{ImageFinding, RegionFindings};
@@ -39,14 +39,13 @@ fn area_finding<F: Flash>(
 ) -> Result<ImageFinding, CheckFault>
     requires { area_end area.area ≤ length paged.old.device.content }
 
-    ensures after { HasRead ((left.old - left.new) / 16 + 2) (fault_count by_device result)
-        paged.old paged.new }
+    ensures after
+        { HasReadBy by_device ((left.old - left.new) / 16 + 2) paged.old paged.new result }
     ensures left { left.new ≡ left_after left.old area }
     ensures area { IfOk result (λ finding. region_area finding
         ≡ (if nat_le area.area.size left.old then area ∷ [] else [])) }
-    ensures found { OnHonest paged.old.device (λ image.
-        (names : List (List ℕ)) → HasNames expected.now names → IfOk result (λ finding.
-        finding ≡ of.area_finding image names left.old area)) }
+    ensures found { OnHonest paged.old.device (λ image. (names : List (List ℕ)) → HasNames
+        expected.now names → Returns result (of.area_finding image names left.old area)) }
 {
     let start = u64::from(area.area.offset);
     let size = u64::from(area.area.size);
@@ -70,13 +69,13 @@ fn areas_findings<F: Flash>(
 ) -> Result<Vec<ImageFinding>, CheckFault>
     requires { All (λ a. area_end a.area ≤ length paged.old.device.content) areas.now }
 
-    ensures after { HasRead (length paged.old.device.content / 2
-        + 2 * length areas.now) (fault_count by_device result) paged.old paged.new }
+    ensures after { HasReadBy by_device
+        (length paged.old.device.content / 2 + 2 * length areas.now) paged.old paged.new result }
     ensures checked { IfOk result (λ all. AreChecked (length paged.old.device.content)
         (length areas.now) 0 (region_areas all.items)) }
-    ensures found { OnHonest paged.old.device (λ image.
-        (names : List (List ℕ)) → HasNames expected.now names → IfOk result (λ findings.
-        findings.items ≡ of.areas_findings image names (2 * length image) areas.now)) }
+    ensures found { OnHonest paged.old.device
+        (λ image. (names : List (List ℕ)) → HasNames expected.now names
+        → Lists result (of.areas_findings image names (2 * length image) areas.now)) }
 {
     let mut left = MAX_IMAGES * paged.len();
     let mut findings = Vec::new(alloc);
@@ -88,7 +87,7 @@ fn areas_findings<F: Flash>(
 }
 
 fn map_part(alloc: Global, found: &[MapFinding]) -> Result<Vec<ImageFinding>, AllocError>
-    ensures { IfOk result (λ findings. findings.items ≡ map Map found.now) }
+    ensures { Lists result (map Map found.now) }
 {
     let findings = found.iter().map(|finding| ImageFinding::Map(*finding));
     findings.collect(alloc)
@@ -119,8 +118,7 @@ pub fn check_image<F: Flash>(
     expected: &[&[u8]],
 ) -> Result<CheckedImage, CheckFault>
     // On any device.
-    ensures after { HasRead (2 * length paged.old.device.content + 64)
-        (fault_count by_device result) paged.old paged.new }
+    ensures after { HasReadBy by_device (call_limit paged.old.device) paged.old paged.new result }
     ensures total { IfOk result (λ checked. sum_sizes (region_areas checked.findings.items)
         ≤ 2 * length paged.old.device.content) }
     ensures inside { IfOk result (λ checked. All (λ a. area_end a.area

@@ -1,5 +1,5 @@
 //! Expected names of areas.
-ghost use Rattle.std.specs.Prelude.{◌≡◌, ◌∷◌, [], ◌++◌, List, ℕ, map, IfOk, OnOk};
+ghost use Rattle.std.specs.Prelude.{◌≡◌, [], ◌++◌, List, ℕ, map, IfOk, OnOk};
 ghost use Rattle.check_findings.specs.ImageFindings.{expected_names, has_one_of};
 ghost use Rattle.check_findings.specs.ImageFindings.{missing_name};
 ghost use Rattle.std.specs.List.{enumerate_from, flat_map};

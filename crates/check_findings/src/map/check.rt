@@ -2,9 +2,8 @@
 
 ghost use Rattle.std.specs.Prelude.{◌≡◌, ◌+◌, ◌*◌, ◌/◌, ◌≤◌, length, IfOk};
 ghost use Rattle.flash_format.specs.Flashmap.{area_len};
-ghost use Rattle.flash_device.specs.Device.{fault_count};
 ghost use Rattle.flash_map.specs.Fmap.{found_in};
-ghost use Rattle.flash_device.specs.Pages.{HasRead, OnHonest};
+ghost use Rattle.flash_device.specs.Pages.{OnHonest, HasReadBy};
 ghost use Rattle.flash_map.specs.Faults.{by_device};
 ghost use Rattle.check_findings.specs.MapFindings.{map_findings};
 ghost use Rattle.flash_map.specs.Areas.{image_areas};
@@ -27,9 +26,8 @@ pub struct CheckedMap {
 /// Returns the findings of the image's map in the order of `MapFinding`, or `Device` exactly if a
 /// read failed.
 pub fn check_map<F: Flash>(alloc: Global, paged: &mut Paged<F>) -> Result<CheckedMap, CheckFault>
-    ensures after { HasRead (length paged.old.device.content
-        + length paged.old.device.content / area_len + 16) (fault_count by_device result)
-        paged.old paged.new }
+    ensures after { HasReadBy by_device (length paged.old.device.content
+        + length paged.old.device.content / area_len + 16) paged.old paged.new result }
     ensures fits { IfOk result (λ map.
         area_len * length map.areas.items ≤ length paged.old.device.content) }
     ensures found { OnHonest paged.old.device (λ image.

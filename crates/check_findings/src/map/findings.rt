@@ -1,6 +1,6 @@
 //! The findings of a map and its areas.
 
-ghost use Rattle.std.specs.Prelude.{◌≡◌, ◌+◌, ◌^◌, ◌<◌, ◌≤◌, ◌++◌, IfOk, OnOk};
+ghost use Rattle.std.specs.Prelude.{◌≡◌, ◌+◌, ◌^◌, ◌<◌, ◌≤◌, ◌++◌, OnOk};
 ghost use Rattle.std.specs.List.{find, flat_map};
 ghost use Rattle.std.specs.Str.{is_utf8};
 ghost use lib.Chars.{codes};
@@ -8,6 +8,7 @@ ghost use Rattle.flash_format.specs.Flashmap.{map_len};
 ghost use Rattle.check_findings.specs.MapFindings.{area_findings, findings_of};
 ghost use Rattle.check_findings.specs.MapFindings.{holds_map, map_area_findings};
 ghost use Rattle.flash_map.specs.Areas.{has_name};
+ghost use Rattle.flash_device.specs.Pages.{Lists};
 
 use crate::lists::{Pushed, push_if};
 use crate::map::finding::{MapFinding, MapFindings};
@@ -25,7 +26,7 @@ pub fn findings_of(
     areas: &[NumberedArea],
 ) -> Result<MapFindings, AllocError>
     requires { map.now.at + map_len map.now.head ≤ len }
-    ensures { IfOk result (λ findings. findings.items ≡ findings_of len map.now next areas.now) }
+    ensures { Lists result (findings_of len map.now next areas.now) }
 {
     let mut findings = Vec::new(alloc);
     let has_other_size = u64::from(map.head.size) != len;

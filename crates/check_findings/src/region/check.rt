@@ -1,7 +1,6 @@
 //! The region check.
-ghost use Rattle.std.specs.Prelude.{◌≡◌, ◌+◌, ◌*◌, ◌/◌, ◌++◌, IfOk, OnOk};
-ghost use Rattle.flash_device.specs.Device.{fault_count};
-ghost use Rattle.flash_device.specs.Pages.{HasRead, OnHonestIn};
+ghost use Rattle.std.specs.Prelude.{◌≡◌, ◌+◌, ◌*◌, ◌/◌, ◌++◌, OnOk};
+ghost use Rattle.flash_device.specs.Pages.{OnHonestIn, Lists, HasReadBy};
 ghost use Rattle.flash_device.specs.Regions.{LiesOn};
 ghost use Rattle.cbfs_walk.specs.Cells.{IsCellOn, IsCellIn, cell_in};
 ghost use Rattle.cbfs_walk.specs.Walks.{StandsIn};
@@ -31,8 +30,8 @@ fn push_cell<F: Flash>(
 ) -> Result<(), CheckFault>
     requires { IsCellOn IsCellIn region cell.now paged.old.device }
 
-    ensures after { HasRead (3 + 2 * (cell.now.span / 3840)) (fault_count by_device result)
-        paged.old paged.new }
+    ensures after
+        { HasReadBy by_device (3 + 2 * (cell.now.span / 3840)) paged.old paged.new result }
     ensures found { OnHonestIn paged.old.device region (λ x. StandsIn x cell.now →
         OnOk result (findings.new.items
         ≡ findings.old.items ++ cell_findings cell.now.at (cell_in x cell.now))) }
@@ -69,10 +68,8 @@ fn walk_region<F: Flash>(
 ) -> Result<Vec<RegionFinding>, CheckFault>
     requires { LiesOn region paged.old.device }
 
-    ensures after { HasRead (region.size / 16 + 2) (fault_count by_device result)
-        paged.old paged.new }
-    ensures findings { OnHonestIn paged.old.device region (λ x.
-        IfOk result (λ findings. findings.items ≡ walk_findings x)) }
+    ensures after { HasReadBy by_device (region.size / 16 + 2) paged.old paged.new result }
+    ensures findings { OnHonestIn paged.old.device region (λ x. Lists result (walk_findings x)) }
 {
     let mut findings = Vec::new(alloc);
     let size = region.size();
@@ -122,12 +119,10 @@ pub fn check_region<F: Flash>(
     requires { LiesOn region paged.old.device }
 
     // On any device.
-    ensures after { HasRead (region.size / 16 + 2) (fault_count by_device result)
-        paged.old paged.new }
+    ensures after { HasReadBy by_device (region.size / 16 + 2) paged.old paged.new result }
 
     // On an honest device.
-    ensures findings { OnHonestIn paged.old.device region (λ x.
-        IfOk result (λ findings. findings.items ≡ region_findings x)) }
+    ensures findings { OnHonestIn paged.old.device region (λ x. Lists result (region_findings x)) }
 {
     let mut findings = walk_region(alloc, paged, region)?;
     mark_shadowed(alloc, keys, &mut findings)?;

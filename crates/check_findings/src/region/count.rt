@@ -1,6 +1,7 @@
 //! Sums over entries.
-ghost use Rattle.std.specs.Prelude.{◌≡◌, ◌+◌, ◌^◌, ◌<◌, ◌≤◌, [], ◌++◌, max, IfOk};
+ghost use Rattle.std.specs.Prelude.{◌≡◌, ◌+◌, ◌^◌, ◌<◌, ◌≤◌, [], ◌++◌, max};
 ghost use Rattle.flash_format.specs.Head.{is_free};
+ghost use Rattle.flash_device.specs.Pages.{Lists};
 
 use crate::region::finding::RegionFinding;
 use cbfs_walk::Cell;
@@ -70,7 +71,7 @@ impl Count {
         mut findings: Vec<RegionFinding>,
         end: u64,
     ) -> Result<Vec<RegionFinding>, AllocError>
-        ensures { IfOk result (λ all. all.items ≡ findings.items ++ count_findings self end []) }
+        ensures { Lists result (findings.items ++ count_findings self end []) }
     {
         findings.push(RegionFinding::Components(self.components))?;
         findings.push(RegionFinding::FreeBytes(self.free))?;

@@ -1,6 +1,7 @@
 //! Findings of a region.
-ghost use Rattle.std.specs.Prelude.{◌≡◌, IfOk};
+ghost use Rattle.std.specs.Prelude.{◌≡◌};
 ghost use Rattle.check_findings.specs.RegionFindings.{hash_finding};
+ghost use Rattle.flash_device.specs.Pages.{Returns};
 
 use cbfs_walk::HashState;
 use flash_format::{Algorithm, DamageKind};
@@ -26,7 +27,7 @@ impl Model for Name {
 impl Name {
     /// Copies these bytes.
     pub fn copied(alloc: Global, bytes: &[u8]) -> Result<Name, AllocError>
-        ensures { IfOk result (λ name. name ≡ bytes.now) }
+        ensures { Returns result bytes.now }
     {
         let bytes = SmallVec::from_slice(alloc, bytes)?;
         Ok(Name { bytes })

@@ -1,6 +1,6 @@
 //! Starts of entries.
-ghost use Rattle.std.specs.Prelude.{◌≡◌, ◌≤◌, drop, IfOk};
-ghost use Rattle.flash_device.specs.Pages.{HasAnswered, OnHonestIn};
+ghost use Rattle.std.specs.Prelude.{drop};
+ghost use Rattle.flash_device.specs.Pages.{HasAnswered, ReadsAs};
 ghost use Rattle.flash_device.specs.Regions.{Reaches};
 ghost use Rattle.check_findings.specs.RegionFindings.{begins_with_entry};
 
@@ -23,8 +23,7 @@ pub fn has_entry_at<F: Flash>(
     ensures after { HasAnswered 1 paged.old paged.new result }
 
     // On an honest device.
-    ensures has { OnHonestIn paged.old.device region (λ x.
-        IfOk result (λ has. has ≡ begins_with_entry (drop at x))) }
+    ensures has { ReadsAs paged.old region result (λ x. begins_with_entry (drop at x)) }
 {
     if region.size() - at < HEAD {
         return Ok(false);

@@ -1,8 +1,7 @@
 //! The bytes after the entries.
-ghost use Rattle.std.specs.Prelude.{◌≡◌, ◌+◌, ◌-◌, ◌/◌, ◌^◌, ◌<◌, ◌≤◌, ◌++◌, length, IfOk, OnOk};
+ghost use Rattle.std.specs.Prelude.{◌≡◌, ◌+◌, ◌-◌, ◌/◌, ◌^◌, ◌<◌, ◌++◌, length, OnOk};
 ghost use Rattle.std.specs.List.{position_from};
-ghost use Rattle.flash_device.specs.Device.{fault_count};
-ghost use Rattle.flash_device.specs.Pages.{HasAnswered, HasRead, OnHonestIn};
+ghost use Rattle.flash_device.specs.Pages.{HasAnswered, OnHonestIn, HasReadBy, ReadsAs};
 ghost use Rattle.flash_device.specs.Regions.{Reaches};
 ghost use Rattle.flash_map.specs.Faults.{by_device};
 ghost use Rattle.check_findings.specs.RegionFindings.{is_filled, tail_bytes};
@@ -37,8 +36,8 @@ fn find_filled<F: Flash>(
     requires { Reaches region at paged.old.device }
 
     ensures after { HasAnswered ((region.size - at + 4095) / 4096) paged.old paged.new result }
-    ensures found { OnHonestIn paged.old.device region (λ x.
-        IfOk result (λ found. found ≡ position_from is_filled at (tail_bytes at x))) }
+    ensures found { ReadsAs paged.old region result
+        (λ x. position_from is_filled at (tail_bytes at x)) }
 {
     let len = (region.size() - at).saturating_sub(4);
     for i in 0..(len + 4095) / 4096 {
@@ -61,8 +60,7 @@ fn push_entries<F: Flash>(
 ) -> Result<(), CheckFault>
     requires { Reaches region at paged.old.device }
 
-    ensures after { HasRead ((region.size - at) / 64) (fault_count by_device result)
-        paged.old paged.new }
+    ensures after { HasReadBy by_device ((region.size - at) / 64) paged.old paged.new result }
     ensures found { OnHonestIn paged.old.device region (λ x. OnOk result
         (findings.new.items ≡ findings.old.items ++ entries_findings ((length x - at) / 64) at x)) }
 {
@@ -84,8 +82,8 @@ pub fn push_tail<F: Flash>(
 ) -> Result<(), CheckFault>
     requires { Reaches region at paged.old.device }
 
-    ensures after { HasRead ((region.size - at + 4095) / 4096 + (region.size - at) / 64)
-        (fault_count by_device result) paged.old paged.new }
+    ensures after { HasReadBy by_device
+        ((region.size - at + 4095) / 4096 + (region.size - at) / 64) paged.old paged.new result }
     ensures found { OnHonestIn paged.old.device region (λ x.
         OnOk result (findings.new.items ≡ findings.old.items ++ tail_findings at x)) }
 {

@@ -7,6 +7,7 @@ use Rattle.std.specs.declared.alloc.AllocError.{AllocError}
 use Rattle.json.specs.Token.{Token}
 use Rattle.json.specs.Written.{Written}
 use Rattle.flash_device.specs.Device.{fault_count}
+use Rattle.flash_device.specs.Pages.{SinkOf}
 use Rattle.check_report.specs.declared.fault.WriteFault.{WriteFault}
 use Rattle.check_report.specs.declared.fault.WriteFault.TheVariants as writes
 use Rattle.check_report.specs.declared.rows.row.Verdict.TheVariants.{Bad}
@@ -28,9 +29,9 @@ pub record AddsTokens (result : Result (Unit {0}) AllocError) (old new : Written
   pub tokens : OnOk result (new.tokens ≡ old.tokens ++ more)
   pub before : new.before ≡ old.before
 
-module _ {W : Type 0} (contents : W → Option (List ℕ)) where
+module _ {W : Type 0} (sink : SinkOf W) where
   pub record HasPrinted (old new : Printer W) (bytes : List ℕ) (is_next : Bool) : Type 0 where
-    pub text : Appends (contents old.out) (contents new.out) bytes
+    pub text : Appends (sink.contents old.out) (sink.contents new.out) bytes
     pub form : new.form ≡ old.form
     pub follows : new.follows ≡ is_next
 
@@ -44,20 +45,21 @@ module _ {W : Type 0} (contents : W → Option (List ℕ)) where
         writer.printer (parts start.form false lines) (follows_after false lines)
 
   -- A successful call prints all rows, more rows and the ending, and tells whether a row is bad.
-  pub record Ends (faults : W → ℕ) (result : Result Bool WriteFault) (old new : RowWriter W)
+  pub record Ends (result : Result Bool WriteFault) (old new : RowWriter W)
       (more : List SeenRow) : Type 0 where
     pub ended : IfOk result (λ is_bad. (start : Printer W) (verbose : Bool) (rows : List SeenRow)
         → HasWritten start verbose rows old → let all = rows ++ more in
         (is_bad ≡ list_any (has_verdict Bad) all)
-        × Appends (contents start.out) (contents new.printer.out)
+        × Appends (sink.contents start.out) (sink.contents new.printer.out)
         (parts start.form false (report_lines verbose all) ++ ending start.form (counts_of all)))
-    pub cause : faults old.printer.out + fault_count by_sink result ≤ faults new.printer.out
+    pub cause : sink.faults old.printer.out + fault_count by_sink result
+        ≤ sink.faults new.printer.out
 
-  module _ (faults : W → ℕ) (result : Result (Unit {0}) WriteFault) where
+  module _ (result : Result (Unit {0}) WriteFault) where
     -- a successful call prints the bytes; a reported fault of the sink occurred
     pub record Prints (old new : Printer W) (bytes : List ℕ) (is_next : Bool) : Type 0 where
       pub printed : OnOk result (HasPrinted old new bytes is_next)
-      pub cause : faults old.out + fault_count by_sink result ≤ faults new.out
+      pub cause : sink.faults old.out + fault_count by_sink result ≤ sink.faults new.out
 
     abbrev pub PrintsLines : Printer W → Printer W → List Line → Type 0
     PrintsLines old new lines =
@@ -67,4 +69,5 @@ module _ {W : Type 0} (contents : W → Option (List ℕ)) where
     pub record Adds (old new : RowWriter W) (more : List SeenRow) : Type 0 where
       pub added : OnOk result ((start : Printer W) (verbose : Bool) (rows : List SeenRow)
           → HasWritten start verbose rows old → HasWritten start verbose (rows ++ more) new)
-      pub cause : faults old.printer.out + fault_count by_sink result ≤ faults new.printer.out
+      pub cause : sink.faults old.printer.out + fault_count by_sink result
+          ≤ sink.faults new.printer.out

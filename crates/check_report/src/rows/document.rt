@@ -1,19 +1,18 @@
 //! Parts of the JSON document.
-ghost use Rattle.std.specs.Prelude.{◌≡◌, [], ◌∷◌, map, if◌then◌else◌, IfOk};
+ghost use Rattle.std.specs.Prelude.{◌≡◌, [], ◌∷◌, map};
 ghost use Rattle.std.specs.List.{flat_map};
-ghost use Rattle.std.specs.Fmt.{decimal};
-ghost use lib.Chars.{codes};
 ghost use Rattle.flash_format.specs.Texts.{hexadecimal};
 ghost use Rattle.json.specs.Json.{array};
 ghost use Rattle.json.specs.Print.{IsPrintable, print};
 ghost use Rattle.json.specs.Reads.{token_of};
-ghost use Rattle.json.specs.Token.{number, string};
+ghost use Rattle.json.specs.Token.{string};
 ghost use Rattle.json.specs.Tree.{json_tokens};
 ghost use Rattle.check_report.specs.declared.rows.form.Form.TheVariants as forms;
 ghost use Rattle.check_report.specs.Rows.Fields.{items, name_json, number_json, seen_field};
 ghost use Rattle.check_report.specs.Rows.Reports.{ending, file_fields, member_tokens};
 ghost use Rattle.check_report.specs.Rows.Reports.{parts, start_tokens};
 ghost use Rattle.check_report.specs.Rows.Effects.{AddsTokens};
+ghost use Rattle.flash_device.specs.Pages.{Lists};
 
 use crate::request::Files;
 use crate::rows::field::{Field, Value};
@@ -92,8 +91,8 @@ pub fn line_object(
     follows: bool,
     fields: &[Field<'_>],
 ) -> Result<Vec<u8>, AllocError>
-    ensures { IfOk result (λ part. part.items ≡ parts forms.Json follows
-        (record { head = []; fields = map seen_field fields.now } ∷ [])) }
+    ensures { Lists result
+        (parts forms.Json follows (record { head = []; fields = map seen_field fields.now } ∷ [])) }
 {
     let mut text = Vec::new(alloc);
     push(&mut text, if follows { "," } else { "" }.as_bytes())?;
@@ -116,8 +115,7 @@ fn file_fields<'a>(files: Files<'a>) -> [Field<'a>; 3]
 
 /// Returns the document up to the start of this array.
 pub fn json_start(alloc: Global, files: Files<'_>, array: &str) -> Result<Vec<u8>, AllocError>
-    ensures { IfOk result (λ text. text.items
-        ≡ print (start_tokens (file_fields files.entry) array.now)) }
+    ensures { Lists result (print (start_tokens (file_fields files.entry) array.now)) }
 {
     let mut writer = Writer::new(Vec::new(alloc));
     put(&mut writer, Token::BeginObject)?;
@@ -129,7 +127,7 @@ pub fn json_start(alloc: Global, files: Files<'_>, array: &str) -> Result<Vec<u8
 
 /// Returns the document from the end of the array of rows.
 pub fn json_end(alloc: Global, counts: Counts) -> Result<Vec<u8>, AllocError>
-    ensures { IfOk result (λ text. text.items ≡ ending forms.Json counts) }
+    ensures { Lists result (ending forms.Json counts) }
 {
     let mut writer = Writer::new(Vec::new(alloc));
     put(&mut writer, Token::EndArray)?;

@@ -1,9 +1,10 @@
 //! Kinds of rows. A kind is a verdict and a code.
-ghost use Rattle.std.specs.Prelude.{◌≡◌, ◌+◌, ◌++◌, ◌∷◌, [], List, count_by, map, IfOk, OnOk};
+ghost use Rattle.std.specs.Prelude.{◌≡◌, ◌+◌, ◌++◌, ◌∷◌, [], List, count_by, map, IfOk};
 ghost use Rattle.check_report.specs.Rows.Rows.{SeenRow, counts_of, is_like, kinds_of, row_of};
 ghost use Rattle.check_report.specs.Rows.Rows.{seen_kind, seen_row};
 ghost use Rattle.check_report.specs.Rows.Fields.{seen_field};
 ghost use Rattle.check_report.specs.Rows.Reports.{count_fields};
+ghost use Rattle.flash_device.specs.Pages.{Returns};
 
 use crate::rows::field::{Field, Value};
 use crate::rows::row::{Row, Verdict};
@@ -27,7 +28,7 @@ pub struct Counts {
 
 /// Returns the next number. A report of 2^64 rows ends as if an allocation failed.
 fn next(count: u64) -> Result<u64, AllocError>
-    ensures { IfOk result (λ n. n ≡ count + 1) }
+    ensures { Returns result (count + 1) }
 {
     count.checked_add(1).ok_or(AllocError)
 }

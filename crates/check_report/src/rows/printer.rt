@@ -1,9 +1,9 @@
 //! A report, printed line by line.
-ghost use Rattle.std.specs.Prelude.{◌≡◌, ◌∷◌, [], false, map, IfOk};
+ghost use Rattle.std.specs.Prelude.{◌≡◌, ◌∷◌, [], false, map};
 ghost use lib.Chars.{codes};
 ghost use Rattle.json.specs.Token.{begin_array, end_array, key};
 ghost use Rattle.check_report.specs.Rows.Fields.{seen_field};
-ghost use Rattle.check_report.specs.Rows.Reports.{ending, file_fields, part, parts, start_tokens};
+ghost use Rattle.check_report.specs.Rows.Reports.{ending, file_fields, part, start_tokens};
 ghost use Rattle.check_report.specs.Rows.Effects.{Prints, PrintsLines};
 
 use crate::fault::WriteFault;
@@ -40,7 +40,7 @@ impl<W: Sink + Drop> Printer<W> {
 
     /// Prints the report up to this array's first item.
     pub fn start(&mut self, files: Files<'_>, array: &str) -> Result<(), WriteFault>
-        ensures { Prints W.contents W.faults result self.old self.new
+        ensures { Prints W.Sink result self.old self.new
             (part self.old.form false [] (start_tokens (file_fields files.entry) array.now)) false }
     {
         self.follows = false;
@@ -51,7 +51,7 @@ impl<W: Sink + Drop> Printer<W> {
     }
 
     pub fn line(&mut self, head: &str, fields: &[Field<'_>]) -> Result<(), WriteFault>
-        ensures { PrintsLines W.contents W.faults result self.old self.new
+        ensures { PrintsLines W.Sink result self.old self.new
             (record { head = head.now; fields = map seen_field fields.now } ∷ []) }
     {
         let part = match self.form {
@@ -65,7 +65,7 @@ impl<W: Sink + Drop> Printer<W> {
     /// Prints the part between the components and the rows.
     #[tactic(auto, unfolding(json::specs::Print::print_from, json::specs::Print::escape_byte))]
     pub fn between(&mut self) -> Result<(), WriteFault>
-        ensures { Prints W.contents W.faults result self.old self.new (part self.old.form false []
+        ensures { Prints W.Sink result self.old self.new (part self.old.form false []
             (end_array ∷ key (codes "rows") ∷ begin_array ∷ [])) false }
     {
         self.follows = false;
@@ -76,7 +76,7 @@ impl<W: Sink + Drop> Printer<W> {
     }
 
     pub fn end(&mut self, counts: Counts) -> Result<(), WriteFault>
-        ensures { Prints W.contents W.faults result self.old self.new
+        ensures { Prints W.Sink result self.old self.new
             (ending self.old.form counts) self.old.follows }
     {
         let end = match self.form {
@@ -87,7 +87,7 @@ impl<W: Sink + Drop> Printer<W> {
     }
 
     fn put(&mut self, part: &[u8]) -> Result<(), WriteFault>
-        ensures { Prints W.contents W.faults result self.old self.new part.now self.old.follows }
+        ensures { Prints W.Sink result self.old self.new part.now self.old.follows }
     {
         put_all(&mut self.out, part)?;
         Ok(())

@@ -1,10 +1,10 @@
 //! Lines as text.
-ghost use Rattle.std.specs.Prelude.{◌≡◌, ◌++◌, map, IfOk, OnOk};
-ghost use Rattle.std.specs.List.{flat_map};
+ghost use Rattle.std.specs.Prelude.{◌≡◌, ◌++◌, map, OnOk};
 ghost use Rattle.std.specs.Fmt.{decimal};
 ghost use Rattle.flash_format.specs.Texts.{line_feed, printed_name};
 ghost use Rattle.check_report.specs.Rows.Fields.{field_text, line_text, seen_field};
 ghost use Rattle.check_report.specs.Rows.Rows.{summary};
+ghost use Rattle.flash_device.specs.Pages.{Lists};
 
 use crate::rows::field::{Field, Value};
 use crate::rows::kinds::Counts;
@@ -52,8 +52,8 @@ fn push_field(text: &mut Vec<u8>, field: Field<'_>) -> Result<(), AllocError>
 }
 
 pub fn line(alloc: Global, head: &str, fields: &[Field<'_>]) -> Result<Vec<u8>, AllocError>
-    ensures { IfOk result (λ text. text.items
-        ≡ line_text (record { head = head.now; fields = map seen_field fields.now })) }
+    ensures { Lists result
+        (line_text (record { head = head.now; fields = map seen_field fields.now })) }
 {
     let mut text = Vec::new(alloc);
     push(&mut text, head.as_bytes())?;
@@ -67,7 +67,7 @@ pub fn line(alloc: Global, head: &str, fields: &[Field<'_>]) -> Result<Vec<u8>, 
 /// Returns the line after all rows.
 #[tactic(auto, unfolding(crate::specs::Rows::Rows::summary))]
 pub fn summary(alloc: Global, counts: Counts) -> Result<Vec<u8>, AllocError>
-    ensures { IfOk result (λ text. text.items ≡ summary counts ++ line_feed) }
+    ensures { Lists result (summary counts ++ line_feed) }
 {
     let mut text = Vec::new(alloc);
     push_decimal(&mut text, counts.bad)?;

@@ -1,5 +1,5 @@
 //! The rows of a report.
-ghost use Rattle.std.specs.Prelude.{◌≡◌, ◌∷◌, ◌||◌, [], false, nat_lt, map, if◌then◌else◌};
+ghost use Rattle.std.specs.Prelude.{◌≡◌, ◌∷◌, ◌||◌, [], false, map, if◌then◌else◌};
 ghost use Rattle.std.specs.Prelude.{option_map, option_to_list};
 ghost use Rattle.std.specs.List.{flat_map};
 ghost use Rattle.check_findings.specs.Lists.{only_if};
@@ -33,7 +33,7 @@ fn limited(is_verbose: bool, kinds: &[Kind]) -> &[Kind]
 
 impl<W: Sink + Drop> Printer<W> {
     fn row_if(&mut self, is_shown: bool, row: &Row<'_>) -> Result<(), WriteFault>
-        ensures { PrintsLines W.contents W.faults result self.old self.new
+        ensures { PrintsLines W.Sink result self.old self.new
             (map row_line (only_if is_shown (seen_row row.now))) }
     {
         if is_shown {
@@ -44,7 +44,7 @@ impl<W: Sink + Drop> Printer<W> {
     }
 
     fn more(&mut self, kinds: &[Kind]) -> Result<(), WriteFault>
-        ensures { PrintsLines W.contents W.faults result self.old self.new
+        ensures { PrintsLines W.Sink result self.old self.new
             (flat_map (λ kind. map row_line (more_of (seen_kind kind))) kinds.now) }
     {
         for kind in kinds {
@@ -58,8 +58,7 @@ impl<W: Sink + Drop> Printer<W> {
 
 impl<W: Sink + Drop> RowWriter<W> {
     pub fn new(alloc: Global, printer: Printer<W>, is_verbose: bool) -> RowWriter<W>
-        ensures sound { printer.follows ≡ false
-            → HasWritten W.contents printer is_verbose [] result }
+        ensures sound { printer.follows ≡ false → HasWritten W.Sink printer is_verbose [] result }
         ensures printer { result.printer ≡ printer }
     {
         RowWriter {
@@ -76,7 +75,7 @@ impl<W: Sink + Drop> RowWriter<W> {
 
     /// Adds a row, and prints it unless 16 rows of its kind precede it.
     pub fn add(&mut self, row: Row<'_>) -> Result<(), WriteFault>
-        ensures { Adds W.contents W.faults result self.old self.new (seen_row row.entry ∷ []) }
+        ensures { Adds W.Sink result self.old self.new (seen_row row.entry ∷ []) }
     {
         let before = count_row(&mut self.kinds, &row)?;
         self.counts = self.counts.with(&row)?;
@@ -85,14 +84,13 @@ impl<W: Sink + Drop> RowWriter<W> {
     }
 
     pub fn add_if(&mut self, is_there: bool, row: Row<'_>) -> Result<(), WriteFault>
-        ensures { Adds W.contents W.faults result self.old self.new
-            (only_if is_there (seen_row row.entry)) }
+        ensures { Adds W.Sink result self.old self.new (only_if is_there (seen_row row.entry)) }
     {
         if is_there { self.add(row) } else { Ok(()) }
     }
 
     pub fn add_some(&mut self, row: Option<Row<'_>>) -> Result<(), WriteFault>
-        ensures { Adds W.contents W.faults result self.old self.new
+        ensures { Adds W.Sink result self.old self.new
             (option_to_list (option_map seen_row row.entry)) }
     {
         match row {
@@ -103,7 +101,7 @@ impl<W: Sink + Drop> RowWriter<W> {
 
     /// Prints the end. Returns whether a row is bad.
     pub fn finish(&mut self) -> Result<bool, WriteFault>
-        ensures { Ends W.contents W.faults result self.old self.new [] }
+        ensures { Ends W.Sink result self.old self.new [] }
     {
         self.printer.more(limited(self.is_verbose, &self.kinds))?;
         self.printer.end(self.counts)?;
