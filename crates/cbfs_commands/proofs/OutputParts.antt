@@ -6,6 +6,7 @@ use Rattle.std.proofs.Math.Seq.{take-append-add}
 use Rattle.std.specs.Io.KnownBytes.{Appends}
 use Rattle.std.specs.Result.{IsErrAnd}
 use Rattle.std.proofs.KnownBytes.{Appends-nil, Appends-trans}
+use Rattle.flash_device.specs.declared.sink.Sink.{Ghosts as SinkOf}
 use Rattle.flash_device.specs.Pages.{Pages, HasRead, OnHonest}
 use Rattle.flash_device.specs.Regions.{Range, bytes_in}
 use Rattle.flash_device.proofs.DeviceLemmas.{honest_still, LiesOn-calls}
@@ -57,110 +58,110 @@ pub record Telling (whole rest : Printout) (before after : Option (List ℕ)) : 
   pub is : whole ≡ text_then text rest
 
 -- the same for a device's bytes, after at most n reads
-pub record ToldSoFar {F W : Type 0} (contents : W → Option (List ℕ)) (faults : W → ℕ) (n : ℕ) (whole rest : List ℕ → Printout) (old now : Pages F) (before after : W) : Type 0 where
+pub record ToldSoFar {F W : Type 0} (sink : SinkOf W) (n : ℕ) (whole rest : List ℕ → Printout) (old now : Pages F) (before after : W) : Type 0 where
   pub reads : HasRead n 0 old now
-  pub sink : faults before ≤ faults after
-  pub printout : OnHonest old.device (λ image. Telling (whole image) (rest image) (contents before) (contents after))
+  pub faults : sink.faults before ≤ sink.faults after
+  pub printout : OnHonest old.device (λ image. Telling (whole image) (rest image) (sink.contents before) (sink.contents after))
 
-module _ {F W : Type 0} {contents : W → Option (List ℕ)} {faults : W → ℕ} where
+module _ {F W : Type 0} {sink : SinkOf W} where
   -- no output yet
   pub so_far-none : (n : ℕ) (whole rest : List ℕ → Printout) (p : Pages F) (out : W) → ((image : List ℕ) → whole image ≡ rest image)
-      → ToldSoFar contents faults n whole rest p p out out
+      → ToldSoFar sink n whole rest p p out out
   so_far-none n whole rest p out is = grind (arith, common_steps)
 
-  module _ {n : ℕ} {whole rest : List ℕ → Printout} {old mid : Pages F} {a b : W} (p : ToldSoFar contents faults n whole rest old mid a b) where
+  module _ {n : ℕ} {whole rest : List ℕ → Printout} {old mid : Pages F} {a b : W} (p : ToldSoFar sink n whole rest old mid a b) where
     module _ {k : ℕ} {new : Pages F} {c : W} where
       -- one more text
-      pub so_far-more : {text : List ℕ → List ℕ} (m : ℕ) (next : List ℕ → Printout) → HasOutput contents faults k mid new b c (Ok tt) (λ image. shows (text image))
-          → OnHonest mid.device (λ image. rest image ≡ text_then (text image) (next image)) → n + k ≤ m → ToldSoFar contents faults m whole next old new a c
+      pub so_far-more : {text : List ℕ → List ℕ} (m : ℕ) (next : List ℕ → Printout) → HasOutput sink k mid new b c (Ok tt) (λ image. shows (text image))
+          → OnHonest mid.device (λ image. rest image ≡ text_then (text image) (next image)) → n + k ≤ m → ToldSoFar sink m whole next old new a c
       so_far-more {text} m next step is few = record {
         reads = HasRead-within (n + k) m 0 old new few (HasRead-then n k 0 old mid new p.reads step.read);
-        sink = omega (arith, p.sink, step.sink);
+        faults = omega (arith, p.faults, step.faults);
         printout = λ h.
             let so_far = p.printout h in
             let still = honest_still p.reads.device.calls.same_honesty h in
             let image : List ℕ = old.device.content in
-            let piece = subst (λ (l : List ℕ). Appends (contents b) (contents c) (text l)) (p.reads.device.unchanged h) (printout-text _ _ _ (step.printout still)) in
+            let piece = subst (λ (l : List ℕ). Appends (sink.contents b) (sink.contents c) (text l)) (p.reads.device.unchanged h) (printout-text _ _ _ (step.printout still)) in
             let left = subst (λ (l : List ℕ). rest l ≡ text_then (text l) (next l)) (p.reads.device.unchanged h) (is still) in
             record {
               text = so_far.text ++ text image;
-              written = Appends-trans (contents a) (contents b) (contents c) so_far.text (text image) so_far.written piece;
+              written = Appends-trans (sink.contents a) (sink.contents b) (sink.contents c) so_far.text (text image) so_far.written piece;
               is = so_far.is ∙ ap (λ (t : Printout). text_then so_far.text t) left
                   ∙ ap (λ (l : List ℕ). (let t : Printout = record { written = l; answer = (next image).answer } in t)) (sym (append_assoc so_far.text (text image) (next image).written));
             };
       }
 
       -- the rest of the output
-      pub so_far-ends : {answer : CommandResult} {t : List ℕ → Printout} (m : ℕ) → HasOutput contents faults k mid new b c answer t
-          → OnHonest mid.device (λ image. rest image ≡ t image) → n + k ≤ m → HasOutput contents faults m old new a c answer whole
+      pub so_far-ends : {answer : CommandResult} {t : List ℕ → Printout} (m : ℕ) → HasOutput sink k mid new b c answer t
+          → OnHonest mid.device (λ image. rest image ≡ t image) → n + k ≤ m → HasOutput sink m old new a c answer whole
       so_far-ends {answer} {t} m last is few = record {
         read = HasRead-within (n + k) m _ old new few (HasRead-then n k _ old mid new p.reads last.read);
-        sink = omega (arith, p.sink, last.sink);
-        output = λ failed. omega (arith, p.sink, last.output failed);
+        faults = omega (arith, p.faults, last.faults);
+        output = λ failed. omega (arith, p.faults, last.output failed);
         no_source = last.no_source;
         printout = λ h.
             let so_far = p.printout h in
             let still = honest_still p.reads.device.calls.same_honesty h in
-            let here = subst (λ (u : Printout). PrintsOut (contents b) (contents c) answer u) (sym (is still)) (last.printout still) in
-            subst (λ (u : Printout). PrintsOut (contents a) (contents c) answer u) (sym so_far.is)
-            (prints-then _ _ _ answer so_far.text _ so_far.written (subst (λ (l : List ℕ). PrintsOut (contents b) (contents c) answer (rest l)) (p.reads.device.unchanged h) here));
+            let here = subst (λ (u : Printout). PrintsOut (sink.contents b) (sink.contents c) answer u) (sym (is still)) (last.printout still) in
+            subst (λ (u : Printout). PrintsOut (sink.contents a) (sink.contents c) answer u) (sym so_far.is)
+            (prints-then _ _ _ answer so_far.text _ so_far.written (subst (λ (l : List ℕ). PrintsOut (sink.contents b) (sink.contents c) answer (rest l)) (p.reads.device.unchanged h) here));
       }
 
-  module _ {k : ℕ} {old mid new : Pages F} {a b : W} {answer : CommandResult} {t : List ℕ → Printout} (printout : HasOutput contents faults k mid new a b answer t) where
+  module _ {k : ℕ} {old mid new : Pages F} {a b : W} {answer : CommandResult} {t : List ℕ → Printout} (printout : HasOutput sink k mid new a b answer t) where
     -- output after reads
-    pub printout-after : {n : ℕ} (m : ℕ) → HasRead n 0 old mid → n + k ≤ m → HasOutput contents faults m old new a b answer t
+    pub printout-after : {n : ℕ} (m : ℕ) → HasRead n 0 old mid → n + k ≤ m → HasOutput sink m old new a b answer t
     printout-after {n} m first few = record {
       read = HasRead-within (n + k) m _ old new few (HasRead-then n k _ old mid new first printout.read);
-      sink = printout.sink;
+      faults = printout.faults;
       output = printout.output;
       no_source = printout.no_source;
-      printout = λ h. subst (λ (l : List ℕ). PrintsOut (contents a) (contents b) answer (t l)) (first.device.unchanged h) (printout.printout (honest_still first.device.calls.same_honesty h));
+      printout = λ h. subst (λ (l : List ℕ). PrintsOut (sink.contents a) (sink.contents b) answer (t l)) (first.device.unchanged h) (printout.printout (honest_still first.device.calls.same_honesty h));
     }
 
   module _ {k : ℕ} {old new : Pages F} {a b : W} {text : List ℕ → List ℕ} where
     -- a partial text is a prefix of the output
-    pub printout-stopped : {refusal : Refusal} {answer : CommandResult} (t : List ℕ → Printout) → HasOutput contents faults k old new a b (Err refusal) (λ image. shows (text image)) → IsErrAnd answer (λ r. r ≡ refusal)
-        → HasOutput contents faults k old new a b answer (λ image. text_then (text image) (t image))
-    printout-stopped {refusal} {answer} t printout is = subst (λ (r : CommandResult). HasOutput contents faults k old new a b r (λ image. text_then (text image) (t image))) (handed answer refusal is) (record {
+    pub printout-stopped : {refusal : Refusal} {answer : CommandResult} (t : List ℕ → Printout) → HasOutput sink k old new a b (Err refusal) (λ image. shows (text image)) → IsErrAnd answer (λ r. r ≡ refusal)
+        → HasOutput sink k old new a b answer (λ image. text_then (text image) (t image))
+    printout-stopped {refusal} {answer} t printout is = subst (λ (r : CommandResult). HasOutput sink k old new a b r (λ image. text_then (text image) (t image))) (handed answer refusal is) (record {
       read = printout.read;
-      sink = printout.sink;
+      faults = printout.faults;
       output = printout.output;
       no_source = printout.no_source;
       printout = λ h. prints-stopped _ _ refusal (text old.device.content) (t old.device.content) (printout.printout h);
     })
 
     -- a complete output before the next output
-    pub so_far-of : (next : List ℕ → Printout) → HasOutput contents faults k old new a b (Ok tt) (λ image. shows (text image))
-        → ToldSoFar contents faults k (λ image. text_then (text image) (next image)) next old new a b
-    so_far-of next printout = record { reads = printout.read; sink = printout.sink; printout = λ h. record { text = text old.device.content; written = printout-text _ _ _ (printout.printout h); is = refl } }
+    pub so_far-of : (next : List ℕ → Printout) → HasOutput sink k old new a b (Ok tt) (λ image. shows (text image))
+        → ToldSoFar sink k (λ image. text_then (text image) (next image)) next old new a b
+    so_far-of next printout = record { reads = printout.read; faults = printout.faults; printout = λ h. record { text = text old.device.content; written = printout-text _ _ _ (printout.printout h); is = refl } }
 
   -- by more calls
-  pub printout-within : {k : ℕ} {old new : Pages F} {a b : W} {answer : CommandResult} {t : List ℕ → Printout} (m : ℕ) → k ≤ m → HasOutput contents faults k old new a b answer t
-      → HasOutput contents faults m old new a b answer t
+  pub printout-within : {k : ℕ} {old new : Pages F} {a b : W} {answer : CommandResult} {t : List ℕ → Printout} (m : ℕ) → k ≤ m → HasOutput sink k old new a b answer t
+      → HasOutput sink m old new a b answer t
   printout-within m few printout = printout-after printout m (HasRead-none _) (omega (arith, few))
 
   -- a row after reads
-  pub printout-row : {k : ℕ} {old new : Pages F} {a b : W} {answer : CommandResult} {text : List ℕ} → HasRead k 0 old new → faults a ≤ faults b → OnErr answer (faults a < faults b) → OnErr answer (answer ≡ Err refusals.Output)
-      → PrintsOut (contents a) (contents b) answer (shows text) → HasOutput contents faults k old new a b answer (λ image. shows text)
-  printout-row {answer = Ok done} read sink output only printout = record { read = read; sink = sink; output = λ failed. absurd cc; no_source = λ failed. absurd cc; printout = λ h. printout }
+  pub printout-row : {k : ℕ} {old new : Pages F} {a b : W} {answer : CommandResult} {text : List ℕ} → HasRead k 0 old new → sink.faults a ≤ sink.faults b → OnErr answer (sink.faults a < sink.faults b) → OnErr answer (answer ≡ Err refusals.Output)
+      → PrintsOut (sink.contents a) (sink.contents b) answer (shows text) → HasOutput sink k old new a b answer (λ image. shows text)
+  printout-row {answer = Ok done} read sink output only printout = record { read = read; faults = sink; output = λ failed. absurd cc; no_source = λ failed. absurd cc; printout = λ h. printout }
   printout-row {answer = Err refusal} read sink output only printout =
       let is : refusal ≡ refusals.Output = cc in
-      record { read = rw is read; sink = sink; output = λ failed. output; no_source = λ failed. absurd cc; printout = λ h. printout }
+      record { read = rw is read; faults = sink; output = λ failed. output; no_source = λ failed. absurd cc; printout = λ h. printout }
 
-  pub printout-none : (p : Pages F) (out : W) → HasOutput contents faults 0 p p out out (Ok tt) (λ image. shows [])
+  pub printout-none : (p : Pages F) (out : W) → HasOutput sink 0 p p out out (Ok tt) (λ image. shows [])
   printout-none p out = grind (arith, common_steps)
 
   -- only an error: the device's, or the output's only content
   pub printout-refusal : {k : ℕ} {old new : Pages F} {out : W} {refusal : Refusal} {answer : CommandResult} (t : List ℕ → Printout) → IsErrAnd answer (λ r. r ≡ refusal) → HasRead k (by_device refusal) old new
-      → (refusal ≡ refusals.Output → ⊥) → (refusal ≡ refusals.Source → ⊥) → OnHonest old.device (λ image. (refusal ≡ refusals.Device) ⊎ (t image ≡ refuses refusal)) → HasOutput contents faults k old new out out answer t
-  printout-refusal {k} {old} {new} {out} {refusal} {answer} t is read no_output no_source printout = subst (λ (r : CommandResult). HasOutput contents faults k old new out out r t) (handed answer refusal is) (record {
+      → (refusal ≡ refusals.Output → ⊥) → (refusal ≡ refusals.Source → ⊥) → OnHonest old.device (λ image. (refusal ≡ refusals.Device) ⊎ (t image ≡ refuses refusal)) → HasOutput sink k old new out out answer t
+  printout-refusal {k} {old} {new} {out} {refusal} {answer} t is read no_output no_source printout = subst (λ (r : CommandResult). HasOutput sink k old new out out r t) (handed answer refusal is) (record {
     read = read;
-    sink = omega arith;
+    faults = omega arith;
     output = λ failed. absurd (no_output cc);
     no_source = λ failed. no_source cc;
     printout = λ h. elim (printout h) [
-      | inl device ↦ rw device (inr (inr (refl, (0, omega arith, Appends-nil (contents out)))))
-      | inr only ↦ rw only (inl (refl, Appends-nil (contents out)))
+      | inl device ↦ rw device (inr (inr (refl, (0, omega arith, Appends-nil (sink.contents out)))))
+      | inr only ↦ rw only (inl (refl, Appends-nil (sink.contents out)))
     ];
   })
 

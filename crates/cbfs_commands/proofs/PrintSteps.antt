@@ -3,6 +3,7 @@ use Rattle.std.proofs.lemmas.Grind.{common_steps}
 use Rattle.std.proofs.Common.{◌≡◌, ℕ, ◌+◌, ◌/◌, ◌%◌, ◌-◌, ◌≤◌, ◌⊎◌, inl, inr, Bool, List, [], Option, None, Ok, Err, refl, sym, ap, ◌∙◌, arith, subst}
 use Rattle.std.specs.Prelude.{IsErrOf, if◌then◌else◌}
 use Rattle.std.specs.Result.{IsErrAnd}
+use Rattle.flash_device.specs.declared.sink.Sink.{Ghosts as SinkOf}
 use Rattle.flash_device.specs.Device.{fault_count}
 use Rattle.flash_device.specs.Pages.{Pages, HasRead, OnHonest, OnHonestIn}
 use Rattle.flash_device.specs.Regions.{Range, LiesIn, LiesOn, bytes_in}
@@ -69,19 +70,19 @@ blames_no_other fault = grind (arith, common_steps)
 -- ---- the loop
 
 -- a walk at a position, and the output of the earlier cells
-pub record PrintedTo {F W : Type 0} (contents : W → Option (List ℕ)) (sinks : W → ℕ) (verbose : Bool) (r : Range) (old now : Pages F) (before after : W) (w : Walking) : Type 0 where
+pub record PrintedTo {F W : Type 0} (sink : SinkOf W) (verbose : Bool) (r : Range) (old now : Pages F) (before after : W) (w : Walking) : Type 0 where
   pub region : w.region ≡ r
   pub going : w.ended ≡ None
   pub inside : w.at ≤ r.size
   pub aligned : w.at % 64 ≡ 0
-  pub printout : ToldSoFar contents sinks (region_reads verbose w.at) (λ image. print_region (bytes_in r image) verbose) (λ image. print_from verbose (bytes_in r image) w.at) old now before after
+  pub printout : ToldSoFar sink (region_reads verbose w.at) (λ image. print_region (bytes_in r image) verbose) (λ image. print_from verbose (bytes_in r image) w.at) old now before after
 
-module _ {F W : Type 0} {contents : W → Option (List ℕ)} {sinks : W → ℕ} {verbose : Bool} {r : Range} {old now next : Pages F} {before after : W} {w : Walking}
-    (p : PrintedTo contents sinks verbose r old now before after w) (lies : LiesOn r old.device) (a : walks.StepResult)
+module _ {F W : Type 0} {sink : SinkOf W} {verbose : Bool} {r : Range} {old now next : Pages F} {before after : W} {w : Walking}
+    (p : PrintedTo sink verbose r old now before after w) (lies : LiesOn r old.device) (a : walks.StepResult)
     (read : HasRead (reads_at w.region.size w.at a) (fault_count walks.by_device a) now next)
     (answer : OnHonestIn now.device w.region (λ x. w.ended ≡ None → IsErrOf a faults.Device ⊎ (a ≡ answer_at x w.at))) where
   abbrev Printed : Pages F → W → CommandResult → Type 0
-  Printed new out result = HasOutput contents sinks (region_reads verbose r.size + 2) old new before out result (λ image. print_region (bytes_in r image) verbose)
+  Printed new out result = HasOutput sink (region_reads verbose r.size + 2) old new before out result (λ image. print_region (bytes_in r image) verbose)
 
   size : w.region.size ≡ r.size
   size = ap (λ (q : Range). q.size) p.region
@@ -107,7 +108,7 @@ module _ {F W : Type 0} {contents : W → Option (List ℕ)} {sinks : W → ℕ}
     few = 2 + c.span / 3840 + (if verbose then details_reads c.span else 0)
 
     abbrev Shown : ℕ → Pages F → Pages F → W → CommandResult → Type 0
-    Shown n from new out result = HasOutput contents sinks n from new after out result (λ image. shows (shown_cell verbose c.at (cell_bytes r c image)))
+    Shown n from new out result = HasOutput sink n from new after out result (λ image. shows (shown_cell verbose c.at (cell_bytes r c image)))
 
     given : IsCellIn w.region.size c × (c.at ≡ w.at)
     given = rw is at cell
@@ -118,8 +119,8 @@ module _ {F W : Type 0} {contents : W → Option (List ℕ)} {sinks : W → ℕ}
     lines : {new : Pages F} {out : W} {result : CommandResult} → Shown few next new out result → Shown (1 + c.span / 3840 + few) now new out result
     lines printout = printout-after printout _ (rw is at read) (omega arith)
 
-    pub printed-more : {new : Pages F} {out : W} → Shown few next new out (Ok tt) → (v : Walking) → v ≡ walk_after w a → PrintedTo contents sinks verbose r old new before out v
-    printed-more {new} {out} printout v is_moved = subst (λ (u : Walking). PrintedTo contents sinks verbose r old new before out u) (sym (rw is at is_moved)) (record {
+    pub printed-more : {new : Pages F} {out : W} → Shown few next new out (Ok tt) → (v : Walking) → v ≡ walk_after w a → PrintedTo sink verbose r old new before out v
+    printed-more {new} {out} printout v is_moved = subst (λ (u : Walking). PrintedTo sink verbose r old new before out u) (sym (rw is at is_moved)) (record {
       region = p.region;
       going = p.going;
       inside = omega (arith, given.0.inside, given.1, size);

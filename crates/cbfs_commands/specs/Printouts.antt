@@ -4,7 +4,8 @@ use Rattle.std.specs.Prelude.{Err, length, take}
 use Rattle.std.specs.Io.KnownBytes.{Appends}
 use Rattle.flash_format.specs.Head.{is_free}
 use Rattle.flash_device.specs.Device.{Device, fault_count}
-use Rattle.flash_device.specs.Pages.{Pages, HasReadBy, OnHonest, OnHonestIn, SinkOf}
+use Rattle.flash_device.specs.Pages.{Pages, HasReadBy, OnHonest, OnHonestIn}
+use Rattle.flash_device.specs.declared.sink.Sink.{Ghosts as SinkOf}
 use Rattle.flash_device.specs.Output.{AppendsPart}
 use Rattle.flash_device.specs.Regions.{Range, LiesOn, bytes_in}
 use Rattle.cbfs_walk.specs.Cells.{IsCellIn, cell_in}

@@ -5,6 +5,7 @@ use Rattle.std.specs.List.{flat_map, list_any}
 use Rattle.std.specs.Io.KnownBytes.{Appends}
 use Rattle.std.proofs.lemmas.List.{map-append}
 use Rattle.std.proofs.KnownBytes.{Appends-nil, Appends-trans}
+use Rattle.flash_device.specs.declared.sink.Sink.{Ghosts as SinkOf}
 use Rattle.check_report.specs.declared.fault.WriteFault.{WriteFault}
 use Rattle.check_report.specs.declared.rows.kinds.Kind.{Kind}
 use Rattle.check_report.specs.declared.request.Files.{Files}
@@ -21,25 +22,25 @@ use Rattle.check_report.proofs.RowCounts.{push_by, some_bad}
 use Rattle.check_report.proofs.PrinterEffects.{printed_both}
 use Rattle.check_report.proofs.ReportParts.{no_parts, whole}
 
-pub sound_empty : {W : Type 0} (contents : W → Option (List ℕ)) (w : RowWriter W) → w.kinds.items ≡ [] → w.counts ≡ counts_of [] → w.printer.follows ≡ false
-    → HasWritten contents w.printer w.is_verbose [] w
-sound_empty contents w kinds counts follows = record {
+pub sound_empty : {W : Type 0} (sink : SinkOf W) (w : RowWriter W) → w.kinds.items ≡ [] → w.counts ≡ counts_of [] → w.printer.follows ≡ false
+    → HasWritten sink w.printer w.is_verbose [] w
+sound_empty sink w kinds counts follows = record {
   is_verbose = refl;
   kinds = ap (map seen_kind) kinds;
   counts = counts;
-  printed = rw (no_parts w.printer.form false) (record { text = Appends-nil (contents w.printer.out); form = refl; follows = follows });
+  printed = rw (no_parts w.printer.form false) (record { text = Appends-nil (sink.contents w.printer.out); form = refl; follows = follows });
 }
 
 -- another row
-pub adds_row : {W : Type 0} (contents : W → Option (List ℕ)) (faults : W → ℕ) (result : Result (Unit {0}) WriteFault) (old new : RowWriter W) (row : SeenRow) (n : ℕ)
+pub adds_row : {W : Type 0} (sink : SinkOf W) (result : Result (Unit {0}) WriteFault) (old new : RowWriter W) (row : SeenRow) (n : ℕ)
     → new.is_verbose ≡ old.is_verbose
     → ((rows : List SeenRow) → map seen_kind old.kinds.items ≡ kinds_of rows → (n ≡ count_by (is_like row) rows) × (map seen_kind new.kinds.items ≡ kinds_of (rows ++ row ∷ [])))
     → ((rows : List SeenRow) → old.counts ≡ counts_of rows → new.counts ≡ counts_of (rows ++ row ∷ []))
-    → PrintsLines contents faults result old.printer new.printer (map row_line (only_if (old.is_verbose || nat_lt n 16) row))
-    → Adds contents faults result old new (row ∷ [])
-adds_row contents faults (Err e) old new row n verbose kinds counts p = record { added = tt; cause = p.cause }
-adds_row contents faults (Ok u) old new row n verbose kinds counts p = record {
-  added = λ start v rows (s : HasWritten contents start v rows old).
+    → PrintsLines sink result old.printer new.printer (map row_line (only_if (old.is_verbose || nat_lt n 16) row))
+    → Adds sink result old new (row ∷ [])
+adds_row sink (Err e) old new row n verbose kinds counts p = record { added = tt; cause = p.cause }
+adds_row sink (Ok u) old new row n verbose kinds counts p = record {
+  added = λ start v rows (s : HasWritten sink start v rows old).
       let shown : List SeenRow = only_if (v || nat_lt (count_by (is_like row) rows) 16) row in
       let lines : map row_line (shown_rows v (rows ++ row ∷ [])) ≡ map row_line (shown_rows v rows) ++ map row_line shown =
       ap (map row_line) (push_by (λ n. v || nat_lt n 16) [] rows row) ∙ map-append row_line (shown_rows v rows) shown in
@@ -47,7 +48,7 @@ adds_row contents faults (Ok u) old new row n verbose kinds counts p = record {
         is_verbose = verbose ∙ s.is_verbose;
         kinds = (kinds rows s.kinds).1;
         counts = counts rows s.counts;
-        printed = rw lines (printed_both contents start old.printer new.printer false (map row_line (shown_rows v rows)) (map row_line shown) s.printed (rw (s.is_verbose, (kinds rows s.kinds).0) at p.printed));
+        printed = rw lines (printed_both sink start old.printer new.printer false (map row_line (shown_rows v rows)) (map row_line shown) s.printed (rw (s.is_verbose, (kinds rows s.kinds).0) at p.printed));
       };
   cause = p.cause;
 }
@@ -64,39 +65,39 @@ limited false rows ks is =
     ap (λ l. map row_line (shown_rows false rows) ++ l) (more_lines ks ∙ ap (λ l. map row_line (flat_map more_of l)) is) ∙ sym (map-append row_line (shown_rows false rows) (flat_map more_of (kinds_of rows)))
 
 -- the end of a report
-pub sound_end : {W : Type 0} (contents : W → Option (List ℕ)) (w : RowWriter W) (mid out : Printer W)
+pub sound_end : {W : Type 0} (sink : SinkOf W) (w : RowWriter W) (mid out : Printer W)
     → let more = flat_map (λ k. map row_line (more_of (seen_kind k))) (if w.is_verbose then [] else w.kinds.items) in
-    HasPrinted contents w.printer mid (parts w.printer.form w.printer.follows more) (follows_after w.printer.follows more)
-    → Appends (contents mid.out) (contents out.out) (ending mid.form w.counts) → (start : Printer W) (v : Bool) (rows : List SeenRow) → HasWritten contents start v rows w
+    HasPrinted sink w.printer mid (parts w.printer.form w.printer.follows more) (follows_after w.printer.follows more)
+    → Appends (sink.contents mid.out) (sink.contents out.out) (ending mid.form w.counts) → (start : Printer W) (v : Bool) (rows : List SeenRow) → HasWritten sink start v rows w
     → (nat_lt 0 w.counts.bad ≡ list_any (has_verdict Bad) (rows ++ []))
-    × Appends (contents start.out) (contents out.out) (parts start.form false (report_lines v (rows ++ [])) ++ ending start.form (counts_of (rows ++ [])))
-sound_end contents w mid out more end start v rows s =
-    let all = printed_both contents start w.printer mid false (map row_line (shown_rows v rows)) _ s.printed (rw s.is_verbose at more) in
+    × Appends (sink.contents start.out) (sink.contents out.out) (parts start.form false (report_lines v (rows ++ [])) ++ ending start.form (counts_of (rows ++ [])))
+sound_end sink w mid out more end start v rows s =
+    let all = printed_both sink start w.printer mid false (map row_line (shown_rows v rows)) _ s.printed (rw s.is_verbose at more) in
     rw (append-nil rows)
     (ap (λ (c : Counts). nat_lt 0 c.bad) s.counts ∙ some_bad (has_verdict Bad) rows, rw (← limited v rows w.kinds.items s.kinds) (Appends-trans _ _ _ _ _ all.text (rw (all.form, s.counts) at end)))
 
 -- the heading, the rows and the end are the report
-pub report_text : {W : Type 0} (contents : W → Option (List ℕ)) (faults : W → ℕ) (result : Result Bool WriteFault) (first begun : Printer W) (made last : RowWriter W)
+pub report_text : {W : Type 0} (sink : SinkOf W) (result : Result Bool WriteFault) (first begun : Printer W) (made last : RowWriter W)
     (verbose : Bool) (files : Files) (list : Option (List Line)) (rows : List SeenRow)
-    → HasPrinted contents first begun (heading first.form files list) false → HasWritten contents begun verbose [] made → Ends contents faults result made last rows
-    → IfOk result (λ is_bad. is_bad ≡ list_any (has_verdict Bad) rows) × OnOk result (Appends (contents first.out) (contents last.printer.out) (report first.form verbose files list rows))
+    → HasPrinted sink first begun (heading first.form files list) false → HasWritten sink begun verbose [] made → Ends sink result made last rows
+    → IfOk result (λ is_bad. is_bad ≡ list_any (has_verdict Bad) rows) × OnOk result (Appends (sink.contents first.out) (sink.contents last.printer.out) (report first.form verbose files list rows))
 unfolding report
-report_text contents faults (Err e) first begun made last verbose files list rows before sound ends = (tt, tt)
-report_text contents faults (Ok b) first begun made last verbose files list rows before sound ends =
+report_text sink (Err e) first begun made last verbose files list rows before sound ends = (tt, tt)
+report_text sink (Ok b) first begun made last verbose files list rows before sound ends =
     let all = ends.ended begun verbose [] sound in (
       all.0,
       rw (← whole first.form files list (report_lines verbose rows) (counts_of rows))
-          (Appends-trans (contents first.out) (contents begun.out) (contents last.printer.out) _ _ before.text (rw before.form at all.1)),
+          (Appends-trans (sink.contents first.out) (sink.contents begun.out) (sink.contents last.printer.out) _ _ before.text (rw before.form at all.1)),
     )
 
 -- ---- rows after rows
 
-pub adds_after : {W : Type 0} {contents : W → Option (List ℕ)} {faults : W → ℕ} {result : Result (Unit {0}) WriteFault} {old mid new : RowWriter W} {xs ys : List SeenRow}
-    → Adds contents faults (Ok tt) old mid xs → Adds contents faults result mid new ys → Adds contents faults result old new (xs ++ ys)
+pub adds_after : {W : Type 0} {sink : SinkOf W} {result : Result (Unit {0}) WriteFault} {old mid new : RowWriter W} {xs ys : List SeenRow}
+    → Adds sink (Ok tt) old mid xs → Adds sink result mid new ys → Adds sink result old new (xs ++ ys)
 adds_after {result = Err e} a b = record { added = tt; cause = omega (arith, a.cause, b.cause) }
 adds_after {result = Ok u} a b = record { added = λ start v rows s. rw append_assoc at (b.added start v _ (a.added start v rows s)); cause = omega (arith, a.cause, b.cause) }
 
-pub ends_after : {W : Type 0} {contents : W → Option (List ℕ)} {faults : W → ℕ} {result : Result Bool WriteFault} {old mid new : RowWriter W} {xs : List SeenRow}
-    → Adds contents faults (Ok tt) old mid xs → Ends contents faults result mid new [] → Ends contents faults result old new xs
+pub ends_after : {W : Type 0} {sink : SinkOf W} {result : Result Bool WriteFault} {old mid new : RowWriter W} {xs : List SeenRow}
+    → Adds sink (Ok tt) old mid xs → Ends sink result mid new [] → Ends sink result old new xs
 ends_after {result = Err e} a b = record { ended = tt; cause = omega (arith, a.cause, b.cause) }
 ends_after {result = Ok is_bad} {xs} a b = record { ended = λ start v rows s. rw (append-nil (rows ++ xs)) at (b.ended start v _ (a.added start v rows s)); cause = omega (arith, a.cause, b.cause) }

@@ -119,7 +119,7 @@ module _ {F : Type 0} (r : Range) (w : Walking) (all : Vec Listed Global) (old n
   })
 
   -- the walk ended
-  pub listing_lists : (a : StepResult) → IsNoCell a → (IsErrOf a walk.Device → ⊥) → Answers w now a → Lists r old all
+  pub listing_lists : (a : StepResult) → IsNoCell a → (IsErrOf a walk.Device → ⊥) → Answers w now a → IsListing r old all
   listing_lists a none other answer = (
     i.cells,
     omega (arith, i.room, i.reached.inside),

@@ -7,7 +7,7 @@ use Rattle.std.specs.declared.alloc.AllocError.{AllocError}
 use Rattle.json.specs.Token.{Token}
 use Rattle.json.specs.Written.{Written}
 use Rattle.flash_device.specs.Device.{fault_count}
-use Rattle.flash_device.specs.Pages.{SinkOf}
+use Rattle.flash_device.specs.declared.sink.Sink.{Ghosts as SinkOf}
 use Rattle.check_report.specs.declared.fault.WriteFault.{WriteFault}
 use Rattle.check_report.specs.declared.fault.WriteFault.TheVariants as writes
 use Rattle.check_report.specs.declared.rows.row.Verdict.TheVariants.{Bad}

@@ -5,4 +5,4 @@ pub returns-in_err-cell : goal.returns-in_err-cell
 returns-in_err-cell g c = search rules
 
 pub returns-in-Some : goal.returns-in-Some
-returns-in-Some g c = record { read = search rules; sink = search rules; output = search rules; no_source = search rules; printout = search rules }
+returns-in-Some g c = record { read = search rules; faults = search rules; output = search rules; no_source = search rules; printout = search rules }

@@ -4,5 +4,5 @@ use Rattle.check_report.specs.ChangeRows.{component_change_row}
 use Rattle.check_report.proofs.changes.add_component_changes.Given as goal
 
 abbrev pub invariant-loop-change : goal.invariant-loop-change
-invariant-loop-change g l = Adds g.W.Sink.contents g.W.Sink.faults (Ok tt) l.initial.rows l.rows
+invariant-loop-change g l = Adds g.W.Sink (Ok tt) l.initial.rows l.rows
     (map (component_change_row l.is_kept l.area) (take l.change-index l.changes))

@@ -4,5 +4,5 @@ use Rattle.check_report.specs.FindingRows.{finding_rows}
 use Rattle.check_report.proofs.findings.add_findings.Given as goal
 
 abbrev pub invariant-loop-finding : goal.invariant-loop-finding
-invariant-loop-finding g l = Adds g.W.Sink.contents g.W.Sink.faults (Ok tt) l.initial.rows l.rows
+invariant-loop-finding g l = Adds g.W.Sink (Ok tt) l.initial.rows l.rows
     (finding_rows l.asked (map (λ n. n.now) l.names) (take l.finding-index l.findings))

@@ -6,5 +6,5 @@ use Rattle.check_report.specs.FindingRows.{need_rows}
 use Rattle.check_report.proofs.findings.add_needs.Given as goal
 
 abbrev pub invariant-loop-need : goal.invariant-loop-need
-invariant-loop-need g l = Adds g.W.Sink.contents g.W.Sink.faults (Ok tt) l.initial.rows l.rows
+invariant-loop-need g l = Adds g.W.Sink (Ok tt) l.initial.rows l.rows
     (flat_map (need_rows l.findings) (map wish_of (take l.need-index l.needs)))

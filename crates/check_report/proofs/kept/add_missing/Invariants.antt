@@ -5,4 +5,4 @@ use Rattle.check_report.specs.ChangeRows.{missing_if}
 use Rattle.check_report.proofs.kept.add_missing.Given as goal
 
 abbrev pub invariant-loop-name : goal.invariant-loop-name
-invariant-loop-name g l = Adds g.W.Sink.contents g.W.Sink.faults (Ok tt) l.initial.rows l.rows (flat_map (missing_if (l.old_areas ++ l.new_areas)) (map (λ n. n.now) (take l.name-index l.kept)))
+invariant-loop-name g l = Adds g.W.Sink (Ok tt) l.initial.rows l.rows (flat_map (missing_if (l.old_areas ++ l.new_areas)) (map (λ n. n.now) (take l.name-index l.kept)))

@@ -5,11 +5,11 @@ use Rattle.check_report.proofs.list.list_area.Goals as goal
 use Rattle.check_report.proofs.list.list_area.Goals.{in-Component+in_ok-line, in_default}
 
 pub loop-finding-init : goal.loop-finding-init
-loop-finding-init g c = prints_none g.W.Sink.contents g.W.Sink.faults _
+loop-finding-init g c = prints_none g.W.Sink _
 
 pub loop-finding-preserved : goal.loop-finding-preserved
 loop-finding-preserved g c =
-    let then = prints_then g.W.Sink.contents g.W.Sink.faults _ c.loop-finding.printer c.match-finding.printer (component_lines c.args.area.now) c.args.findings.now c.loop-finding.finding-index
+    let then = prints_then g.W.Sink _ c.loop-finding.printer c.match-finding.printer (component_lines c.args.area.now) c.args.findings.now c.loop-finding.finding-index
     _ c.finding-item.result c.loop-finding-test.true c.finding-item.is c.loop-finding.invariant in
     elim c.match-finding.branch [
       | in-Component+in_ok-line w ↦
@@ -17,5 +17,5 @@ loop-finding-preserved g c =
           then (rw (w.printer-is, w.in-Component.is) (rw fields at w.in_ok-line.ensures))
       | in_default w ↦
           let none : component_lines c.args.area.now c.finding-item.result ≡ [] = search rules in
-          then (rw (w.printer-is, none) (prints_none g.W.Sink.contents g.W.Sink.faults c.loop-finding.printer))
+          then (rw (w.printer-is, none) (prints_none g.W.Sink c.loop-finding.printer))
     ]

@@ -5,15 +5,15 @@ use Rattle.check_report.proofs.list.list_components.Goals as goal
 use Rattle.check_report.proofs.list.list_components.Goals.{in-Region+in_ok-list_area, in_default}
 
 pub loop-finding-init : goal.loop-finding-init
-loop-finding-init g c = prints_none g.W.Sink.contents g.W.Sink.faults _
+loop-finding-init g c = prints_none g.W.Sink _
 
 pub loop-finding-preserved : goal.loop-finding-preserved
 loop-finding-preserved g c =
-    let then = prints_then g.W.Sink.contents g.W.Sink.faults _ c.loop-finding.printer c.match-finding.printer components_in c.args.findings.now c.loop-finding.finding-index
+    let then = prints_then g.W.Sink _ c.loop-finding.printer c.match-finding.printer components_in c.args.findings.now c.loop-finding.finding-index
     _ c.finding-item.result c.loop-finding-test.true c.finding-item.is c.loop-finding.invariant in
     elim c.match-finding.branch [
       | in-Region+in_ok-list_area w ↦ then (rw (w.printer-is, w.in-Region.is) (rw (w.text.ensures.value, w.as_slice.ensures) at w.in_ok-list_area.ensures))
       | in_default w ↦
           let none : components_in c.finding-item.result ≡ [] = search rules in
-          then (rw (w.printer-is, none) (prints_none g.W.Sink.contents g.W.Sink.faults c.loop-finding.printer))
+          then (rw (w.printer-is, none) (prints_none g.W.Sink c.loop-finding.printer))
     ]

@@ -5,5 +5,5 @@ use Rattle.check_report.specs.Rows.Effects.{PrintsLines}
 use Rattle.check_report.proofs.list.list_components.Given as goal
 
 abbrev pub invariant-loop-finding : goal.invariant-loop-finding
-invariant-loop-finding g l = PrintsLines g.W.Sink.contents g.W.Sink.faults (Ok tt) l.initial.printer l.printer
+invariant-loop-finding g l = PrintsLines g.W.Sink (Ok tt) l.initial.printer l.printer
     (flat_map components_in (take l.finding-index l.findings))

@@ -5,5 +5,5 @@ use Rattle.check_report.specs.FindingRows.{region_rows}
 use Rattle.check_report.proofs.region.add_region.Given as goal
 
 abbrev pub invariant-loop-finding : goal.invariant-loop-finding
-invariant-loop-finding g l = Adds g.W.Sink.contents g.W.Sink.faults (Ok tt) l.initial.rows l.rows
+invariant-loop-finding g l = Adds g.W.Sink (Ok tt) l.initial.rows l.rows
     (flat_map (region_rows l.asked l.region) (take l.finding-index l.findings))

@@ -15,7 +15,7 @@ invariant-loop-head g l = record {
   same_offset : l.walk.cell.head.offset ≡ l.fn.cell.head.offset;
   inside : l.walk.at ≤ l.fn.cell.head.offset;
   left : OnHonestIn l.paged.device l.fn.region (λ x. (all : List Attribute) × (attributes_left x l.walk ≡ Some all));
-  printout : ToldSoFar g.W.Sink.contents g.W.Sink.faults (l.walk.at / 8)
+  printout : ToldSoFar g.W.Sink (l.walk.at / 8)
       (λ image. lines (cell_attributes (cell_bytes l.fn.region l.fn.cell image)))
       (λ image. lines_left (attributes_left (bytes_in l.fn.region image) l.walk)) l.initial.paged l.paged l.initial.out l.out;
 }

@@ -4,9 +4,9 @@ use Rattle.check_report.proofs.PrinterEffects.{prints_none, prints_then}
 use Rattle.check_report.proofs.rows.printer.Printer.more.Goals as goal
 
 pub loop-kind-init : goal.loop-kind-init
-loop-kind-init g c = prints_none g.W.Sink.contents g.W.Sink.faults _
+loop-kind-init g c = prints_none g.W.Sink _
 
 pub loop-kind-preserved : goal.loop-kind-preserved
-loop-kind-preserved g c = prints_then g.W.Sink.contents g.W.Sink.faults _ _ _ (λ k. map row_line (more_of (seen_kind k))) c.args.kinds.now c.loop-kind.kind-index _ _
+loop-kind-preserved g c = prints_then g.W.Sink _ _ _ (λ k. map row_line (more_of (seen_kind k))) c.args.kinds.now c.loop-kind.kind-index _ _
     c.loop-kind-test.true refl c.loop-kind.invariant
     (rw (c.count.ensures ∙ ap (with_count c.saturating_sub-hidden.result) c.row-more.ensures, c.saturating_sub-hidden.ensures) at c.in_ok-row_if.ensures)

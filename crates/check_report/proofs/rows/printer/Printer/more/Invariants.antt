@@ -5,5 +5,5 @@ use Rattle.check_report.specs.Rows.Effects.{PrintsLines}
 use Rattle.check_report.proofs.rows.printer.Printer.more.Given as goal
 
 abbrev pub invariant-loop-kind : goal.invariant-loop-kind
-invariant-loop-kind g l = PrintsLines g.W.Sink.contents g.W.Sink.faults (Ok tt) l.initial.self l.self
+invariant-loop-kind g l = PrintsLines g.W.Sink (Ok tt) l.initial.self l.self
     (flat_map (λ k. map row_line (more_of (seen_kind k))) (take l.kind-index l.kinds))

@@ -2,4 +2,4 @@ use Rattle.check_report.proofs.PrinterEffects.{prints_none}
 use Rattle.check_report.proofs.rows.printer.Printer.row_if.Goals as goal
 
 pub returns-else-is_shown : goal.returns-else-is_shown
-returns-else-is_shown g c = rw c.if-is_shown.false (prints_none g.W.Sink.contents g.W.Sink.faults c.args.self.now)
+returns-else-is_shown g c = rw c.if-is_shown.false (prints_none g.W.Sink c.args.self.now)

@@ -3,4 +3,4 @@ use Rattle.check_report.proofs.SoundRows.{sound_empty}
 use Rattle.check_report.proofs.rows.writer.RowWriter.new.Goals as goal
 
 pub returns-clause-sound : goal.returns-clause-sound
-returns-clause-sound g c = sound_empty g.W.Sink.contents _ c.new.ensures.items refl
+returns-clause-sound g c = sound_empty g.W.Sink _ c.new.ensures.items refl
