@@ -8,9 +8,8 @@ pub record WritesInRegions : Type 0 where
   pub inside : (r : Range) (x : List ℕ) (at : ℕ) (u : List ℕ) → LiesIn r x → at + length u ≤ r.size
       → bytes_in r (overwritten x (r.start + at) u) ≡ overwritten (bytes_in r x) at u
   -- a write beside the region has no effect
-  pub beside : (r : Range) (x : List ℕ) (at : ℕ) (u : List ℕ) → at ≤ length x
-      → (at + length u ≤ r.start) ⊎ (r.start + r.size ≤ at)
-      → bytes_in r (overwritten x at u) ≡ bytes_in r x
+  pub beside : (r : Range) (x : List ℕ) (at : ℕ) (u : List ℕ) → at ≤ length x → (at + length u
+      ≤ r.start) ⊎ (r.start + r.size ≤ at) → bytes_in r (overwritten x at u) ≡ bytes_in r x
   -- a change in the range changes the region's bytes
   pub changed : (r : Range) (x y : List ℕ) (at n : ℕ) → at + n ≤ r.size
       → SameOutside (r.start + at) n x y → SameOutside at n (bytes_in r x) (bytes_in r y)

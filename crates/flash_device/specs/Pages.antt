@@ -177,9 +177,7 @@ pub record HasCopiedOut {F W T : Type 0} (sink : SinkOf W) (most at n : ℕ) (ol
   pub faults : sink.faults out ≤ sink.faults out_now
   pub output : IsErrOf result causes.Output → sink.faults out < sink.faults out_now
   pub no_source : IsErrOf result causes.Source → ⊥
-  pub copied : OnHonest old.device (λ image.
-      OnOk result (Appends (sink.contents out) (sink.contents out_now)
-      (slice_range image at (at + n))))
-  pub part : OnHonest old.device (λ image.
-      OnErr result (AppendsPart (sink.contents out) (sink.contents out_now)
-      (slice_range image at (at + n))))
+  pub copied : OnHonest old.device (λ image. OnOk result
+      (Appends (sink.contents out) (sink.contents out_now) (slice_range image at (at + n))))
+  pub part : OnHonest old.device (λ image. OnErr result
+      (AppendsPart (sink.contents out) (sink.contents out_now) (slice_range image at (at + n))))

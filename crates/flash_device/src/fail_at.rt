@@ -26,27 +26,15 @@ impl<F: Flash> Model for FailAt<F> {
 
     ghost Value = { Failing F };
 
-    ghost view = { λ f. record {
-      device = f.device;
-      left = f.left;
-      part = f.part;
-      tears = f.tears;
-      calls = f.calls;
-      faults = f.faults;
-    } };
+    ghost view = { λ f. record { device = f.device; left = f.left; part = f.part; tears = f.tears;
+        calls = f.calls; faults = f.faults } };
 }
 
 impl<F: Flash> FailAt<F> {
     /// Makes a device with `k` successful calls and a torn write of up to `part` bytes.
     pub fn new(device: F, k: u64, part: usize) -> FailAt<F>
-        ensures { result ≡ record {
-          device = device;
-          left = k;
-          part = part;
-          tears = true;
-          calls = 0;
-          faults = 0;
-        } }
+        ensures { result ≡ record { device = device; left = k; part = part; tears = true; calls = 0;
+            faults = 0 } }
     {
         FailAt {
             device,

@@ -22,14 +22,8 @@ impl<S: Source> Model for FailSource<S> {
 
     ghost Value = { Failing S };
 
-    ghost view = { λ f. record {
-      device = f.source;
-      left = f.left;
-      part = 0;
-      tears = false;
-      calls = f.calls;
-      faults = f.faults;
-    } };
+    ghost view = { λ f. record { device = f.source; left = f.left; part = 0; tears = false;
+        calls = f.calls; faults = f.faults } };
 }
 
 impl<S: Source> FailSource<S> {

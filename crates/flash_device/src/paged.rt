@@ -113,11 +113,8 @@ impl<F: Flash> Model for Paged<F> {
 
     ghost Value = { Pages F };
 
-    ghost view = { λ p. record {
-      flash = p.device;
-      device = F.facts p.device;
-      held = held_in p.buffer p.held;
-    } };
+    ghost view = { λ p.
+        record { flash = p.device; device = F.facts p.device; held = held_in p.buffer p.held } };
 
     ghost invariant = { λ p. FitsBuffer p.held
         × IsTrueTo (F.facts p.device) (held_in p.buffer p.held) };

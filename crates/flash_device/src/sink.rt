@@ -26,9 +26,8 @@ pub trait Sink {
         requires { 0 < length bytes.now }
 
         ensures taken { IfOk result (λ n. (0 < n) × (n ≤ length bytes.now)) }
-        ensures bytes { MatchResult result
-            (λ n. Appends (contents self.old) (contents self.new) (take n bytes.now))
-            (λ _. Keeps (contents self.old) (contents self.new)) }
+        ensures bytes { MatchResult result (λ n. Appends (contents self.old) (contents self.new)
+            (take n bytes.now)) (λ _. Keeps (contents self.old) (contents self.new)) }
         ensures faults { faults self.old ≤ faults self.new }
         ensures cause { OnErr result (faults self.old < faults self.new) };
 }

@@ -14,8 +14,7 @@ map_head x = if is_map x then Some (fmap_head_of x) else None
 
 -- from the first 56 bytes, with `left` bytes up to the image's end
 abbrev pub map_head_in : List ℕ → ℕ → Option FmapHead
-map_head_in bytes left =
-    if has_signature bytes && is_valid_head (fmap_head_of bytes) left
+map_head_in bytes left = if has_signature bytes && is_valid_head (fmap_head_of bytes) left
     then Some (fmap_head_of bytes) else None
 
 -- the lowest from an offset on

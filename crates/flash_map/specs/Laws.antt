@@ -14,8 +14,6 @@ pub record FindsMap (h : FmapHead) (areas : List Area) (image : List ℕ) (q : �
 
 -- if no valid map begins lower after the write
 abbrev pub WrittenMapsAreFound : Type 0
-WrittenMapsAreFound =
-    (h : FmapHead) (areas : List Area) (bytes image : List ℕ) (q : ℕ)
+WrittenMapsAreFound = (h : FmapHead) (areas : List Area) (bytes image : List ℕ) (q : ℕ)
     → ((more : List ℕ) → IsReadAsMap h areas (bytes ++ more)) → q ≤ length image
-    → let now = overwritten image q bytes in
-    NoMapBelow now q → FindsMap h areas now q
+    → let now = overwritten image q bytes in NoMapBelow now q → FindsMap h areas now q

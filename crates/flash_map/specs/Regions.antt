@@ -13,9 +13,8 @@ by_device _ = 0
 
 abbrev pub region_by_area : ℕ → Option Area → Result Range StoreFault
 region_by_area image_len None = Err faults.NoRegion
-region_by_area image_len (Some a) =
-    if nat_lt image_len (a.offset + a.size) then Err faults.RegionOutside
-    else Ok (record { start = a.offset; size = a.size })
+region_by_area image_len (Some a) = if nat_lt image_len (a.offset + a.size)
+    then Err faults.RegionOutside else Ok (record { start = a.offset; size = a.size })
 
 -- the first area with the name, in the map at an offset
 abbrev pub region_under : List ℕ → List ℕ → Option ℕ → Result Range StoreFault

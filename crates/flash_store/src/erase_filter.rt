@@ -41,9 +41,8 @@ impl<S: Storage> Model for EraseFilter<S> {
 
     ghost view = { λ f. S.facts f.storage };
 
-    ghost invariant = { λ f. (f.from ≤ f.to) × (f.to ≤ length (S.facts f.storage).content)
-        × (IsTrue (S.facts f.storage).faithful
-        → IsErased f.from f.to (S.facts f.storage).content) };
+    ghost invariant = { λ f. (f.from ≤ f.to) × (f.to ≤ length (S.facts f.storage).content) × (IsTrue
+        (S.facts f.storage).faithful → IsErased f.from f.to (S.facts f.storage).content) };
 }
 
 impl<S: Storage> EraseFilter<S> {

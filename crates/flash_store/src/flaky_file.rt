@@ -28,15 +28,9 @@ impl Model for FlakyFile {
 
     ghost Value = { Flaky };
 
-    ghost view = { λ f. record {
-      content = f.bytes.items;
-      most = f.most;
-      between = f.between;
-      before = f.before;
-      left = f.left;
-      written_at = f.written_at;
-      written_len = f.written_len;
-    } };
+    ghost view = { λ f. record { content = f.bytes.items; most = f.most; between = f.between;
+        before = f.before; left = f.left; written_at = f.written_at;
+        written_len = f.written_len } };
 
     ghost invariant = { λ f. length f.bytes.items < 2 ^ 32 };
 }
@@ -45,15 +39,8 @@ impl FlakyFile {
     /// Makes a file of fewer than 2^32 bytes. 0 for `between` interrupts every call.
     pub fn new(bytes: Vec<u8>, most: usize, between: u64, left: u64) -> FlakyFile
         requires { length bytes.items < 2 ^ 32 }
-        ensures { result ≡ record {
-          content = bytes.items;
-          most = most;
-          between = between;
-          before = between;
-          left = left;
-          written_at = 0;
-          written_len = 0;
-        } }
+        ensures { result ≡ record { content = bytes.items; most = most; between = between;
+            before = between; left = left; written_at = 0; written_len = 0 } }
     {
         FlakyFile {
             bytes,
@@ -82,9 +69,8 @@ impl FlakyFile {
             × (self.new ≡ record self.old { left = self.old.left - 1; before = self.old.between }) }
         ensures made { 0 < self.old.left → 0 < self.old.before → IsOk result × (self.new
             ≡ record self.old { left = self.old.left - 1; before = self.old.before - 1 }) }
-        ensures same { (self.new.content ≡ self.old.content)
-            × (self.new.written_at ≡ self.old.written_at)
-            × (self.new.written_len ≡ self.old.written_len) }
+        ensures same { self.new
+            ≡ record self.old { left = self.new.left; before = self.new.before } }
     {
         if self.left == 0 {
             return Err(StorageFault::Failed);
@@ -100,11 +86,8 @@ impl FlakyFile {
 
     fn replace(&mut self, at: u64, bytes: &[u8])
         requires { at + length bytes.now ≤ length self.old.content }
-        ensures { self.new ≡ record self.old {
-          content = overwritten self.old.content at bytes.now;
-          written_at = at;
-          written_len = length bytes.now;
-        } }
+        ensures { self.new ≡ record self.old { content = overwritten self.old.content at bytes.now;
+            written_at = at; written_len = length bytes.now } }
     {
         let _below = self.len();
         let start = at as usize;
@@ -134,12 +117,8 @@ fn is_in_one_block(at: u64, n: usize) -> bool {
 }
 
 impl Storage for FlakyFile {
-    ghost facts = { λ f. record {
-      content = f.content;
-      faithful = true;
-      written_at = f.written_at;
-      written_len = f.written_len;
-    } };
+    ghost facts = { λ f. record { content = f.content; faithful = true; written_at = f.written_at;
+        written_len = f.written_len } };
 
     fn len(&self) -> u64 {
         self.bytes.len() as u64

@@ -32,8 +32,7 @@ impl<S: Storage> Model for ReadAhead<S> {
     ghost view = { λ f. S.facts f.storage };
 
     ghost invariant = { λ f. (f.from ≤ f.to) × (f.to - f.from ≤ 16384)
-        × (IsTrue (S.facts f.storage).faithful
-        → take (f.to - f.from) f.window
+        × (IsTrue (S.facts f.storage).faithful → take (f.to - f.from) f.window
         ≡ take (f.to - f.from) (drop f.from (S.facts f.storage).content)) };
 }
 
