@@ -1,9 +1,23 @@
 -- Searches for an image's flash map.
-use Rattle.std.specs.Prelude.{◌≡◌, ℕ, true, ◌&&◌, List, Option, Some, None, drop, if◌then◌else◌}
+use Rattle.std.specs.Prelude.{◌≡◌, ℕ, ◌+◌, ◌/◌, length, true, ◌&&◌, List, Option, Some, None, drop, if◌then◌else◌}
 use Rattle.std.specs.Option.{option_map}
 use Rattle.flash_format.specs.declared.flashmap.FmapHead.{FmapHead}
-use Rattle.flash_format.specs.Flashmap.{is_map, map_from, fmap_head_of, has_signature, is_valid_head}
+use Rattle.flash_format.specs.declared.flashmap.Area.{Area}
+use Rattle.flash_format.specs.Flashmap.{is_map, map_from, map_len, fmap_head_len, fmap_head_of, has_signature, is_valid_head}
+use Rattle.flash_format.specs.Flashmap.{area_len, areas_from}
+use Rattle.flash_device.specs.Device.{Device}
 use Rattle.flash_map.specs.declared.search.FoundMap.{FoundMap}
+
+-- the offset after the areas
+abbrev pub map_end : FoundMap → ℕ
+map_end map = map.at + map_len map.head
+
+-- the maximum number of reads of a search for the map, and of the map and its areas
+abbrev pub search_reads : Device → ℕ
+search_reads device = length device.content / 2 + 8
+
+abbrev pub map_reads : Device → ℕ
+map_reads device = search_reads device + length device.content / area_len
 
 abbrev pub HasSignatureAt : List ℕ → ℕ → Type 0
 HasSignatureAt image q = has_signature (drop q image) ≡ true
@@ -24,3 +38,6 @@ found_from place image = option_map
 
 abbrev pub found_in : List ℕ → Option FoundMap
 found_in image = found_from 0 image
+
+abbrev pub areas_of : List ℕ → FoundMap → List Area
+areas_of image map = areas_from map.head.nareas (drop (map.at + fmap_head_len) image)

@@ -1,11 +1,11 @@
 //! The areas of a flash map.
 
-ghost use Rattle.std.specs.Prelude.{◌≡◌, ◌+◌, ◌*◌, ◌/◌, ◌≤◌, length, IfOk, IfSome};
-ghost use Rattle.flash_format.specs.Flashmap.{area_len, map_len};
+ghost use Rattle.std.specs.Prelude.{◌≡◌, ◌*◌, ◌≤◌, length, IfOk, IfSome};
+ghost use Rattle.flash_format.specs.Flashmap.{area_len};
 ghost use Rattle.flash_device.specs.Pages.{OnHonest, Lists, HasReadBy};
 ghost use Rattle.flash_map.specs.Areas.{image_areas, map_areas};
 ghost use Rattle.flash_map.specs.Faults.{by_device};
-ghost use Rattle.flash_map.specs.Fmap.{found_in};
+ghost use Rattle.flash_map.specs.Fmap.{found_in, map_end, map_reads};
 
 use crate::fault::CheckFault;
 use crate::search::{FoundMap, area, find_fmap};
@@ -29,16 +29,15 @@ pub struct ImageMap {
 
 /// Returns the image's map and areas, or `Device` exactly if a read failed.
 pub fn image_map<F: Flash>(alloc: Global, paged: &mut Paged<F>) -> Result<ImageMap, CheckFault>
-    ensures after { HasReadBy by_device (length paged.old.device.content / 2
-        + length paged.old.device.content / area_len + 8) paged.old paged.new result }
-    ensures inside { IfOk result (λ map. IfSome map.found (λ found.
-        found.at + map_len found.head ≤ length paged.old.device.content)) }
+    ensures after { HasReadBy by_device (map_reads paged.old.device) paged.old paged.new result }
+    ensures inside { IfOk result (λ map.
+        IfSome map.found (λ found. map_end found ≤ length paged.old.device.content)) }
     ensures fits { IfOk result (λ map.
         area_len * length map.areas.items ≤ length paged.old.device.content) }
-    ensures found { OnHonest paged.old.device (λ image.
-        IfOk result (λ map. map.found ≡ found_in image)) }
-    ensures areas { OnHonest paged.old.device (λ image.
-        IfOk result (λ map. map.areas.items ≡ image_areas image)) }
+    ensures found { OnHonest paged.old.device
+        (λ image. IfOk result (λ map. map.found ≡ found_in image)) }
+    ensures areas { OnHonest paged.old.device
+        (λ image. IfOk result (λ map. map.areas.items ≡ image_areas image)) }
 {
     let Some(found) = find_fmap(paged)? else {
         let areas = Vec::new(alloc);
@@ -55,7 +54,7 @@ fn map_areas<F: Flash>(
     paged: &mut Paged<F>,
     map: &FoundMap,
 ) -> Result<Vec<NumberedArea>, CheckFault>
-    requires { map.now.at + map_len map.now.head ≤ length paged.old.device.content }
+    requires { map_end map.now ≤ length paged.old.device.content }
 
     ensures after { HasReadBy by_device map.now.head.nareas paged.old paged.new result }
     ensures count { IfOk result (λ areas. length areas.items ≡ map.now.head.nareas) }

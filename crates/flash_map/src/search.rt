@@ -1,10 +1,10 @@
 //! Searches for a flash map and for a region.
-ghost use Rattle.std.specs.Prelude.{◌≡◌, ◌+◌, ◌-◌, ◌*◌, ◌/◌, ◌<◌, ◌≤◌, ◌⊎◌, length, drop, IfOk, IfSome, IsErrOf};
+ghost use Rattle.std.specs.Prelude.{◌≡◌, ◌+◌, ◌-◌, ◌*◌, ◌<◌, ◌≤◌, ◌⊎◌, length, drop, IfOk, IfSome, IsErrOf};
 ghost use Rattle.std.specs.List.{find};
-ghost use Rattle.flash_format.specs.Flashmap.{fmap_head_len, area_len, map_len, area_of, areas_from, is_area};
+ghost use Rattle.flash_format.specs.Flashmap.{fmap_head_len, area_len, map_len, area_of, is_area};
 ghost use Rattle.flash_device.specs.Device.{IsPiece, Reads, refusals};
-ghost use Rattle.flash_device.specs.Pages.{OnHonest, HasAnswered, Returns, HasReadBy};
-ghost use Rattle.flash_map.specs.Fmap.{HasSignatureAt, map_head, map_head_in, found_from, found_in};
+ghost use Rattle.flash_device.specs.Pages.{OnHonest, HasAnswered, Returns, HasReadBy, IfFound};
+ghost use Rattle.flash_map.specs.Fmap.{HasSignatureAt, areas_of, map_end, map_head, map_head_in, map_reads, found_from, found_in, search_reads};
 ghost use Rattle.flash_device.specs.Regions.{LiesOn};
 ghost use Rattle.flash_map.specs.Regions.{by_device, region_by_area, region_of};
 ghost use Rattle.memchr.specs.Find.{IsFirst};
@@ -56,10 +56,8 @@ impl From<FlashFault> for StoreFault {
 
 /// Returns the lowest valid flash map.
 pub fn find_fmap<F: Flash>(paged: &mut Paged<F>) -> Result<Option<FoundMap>, FlashFault>
-    ensures after { HasAnswered (length paged.old.device.content / 2 + 8)
-        paged.old paged.new result }
-    ensures fits { IfOk result (λ found. IfSome found (λ map.
-        map.at + map_len map.head ≤ length paged.old.device.content)) }
+    ensures after { HasAnswered (search_reads paged.old.device) paged.old paged.new result }
+    ensures fits { IfFound result (λ map. map_end map ≤ length paged.old.device.content) }
     ensures found { OnHonest paged.old.device (λ image. Returns result (found_in image)) }
 {
     find_fmap_from(paged, 0)
@@ -72,10 +70,8 @@ pub fn find_fmap_from<F: Flash>(
 ) -> Result<Option<FoundMap>, FlashFault>
     requires { from ≤ length paged.old.device.content }
 
-    ensures after { HasAnswered (length paged.old.device.content / 2 + 8)
-        paged.old paged.new result }
-    ensures fits { IfOk result (λ found. IfSome found (λ map.
-        map.at + map_len map.head ≤ length paged.old.device.content)) }
+    ensures after { HasAnswered (search_reads paged.old.device) paged.old paged.new result }
+    ensures fits { IfFound result (λ map. map_end map ≤ length paged.old.device.content) }
     ensures found { OnHonest paged.old.device (λ image. Returns result (found_from from image)) }
 {
     let len = paged.len();
@@ -104,7 +100,7 @@ fn signature_in<F: Flash>(
     requires { IsPiece at n paged.old.device }
 
     ensures after { HasAnswered 1 paged.old paged.new result }
-    ensures within { IfOk result (λ place. IfSome place (λ q. (at ≤ q) × (q + 8 ≤ at + n))) }
+    ensures within { IfFound result (λ place. (at ≤ place) × (place + 8 ≤ at + n)) }
     ensures first { OnHonest paged.old.device
         (λ image. IfOk result (IsFirst (HasSignatureAt image) at (at + n - 7))) }
 {
@@ -126,7 +122,7 @@ fn map_head_at<F: Flash>(
     ensures after { HasAnswered 1 paged.old paged.new result }
     ensures head { OnHonest paged.old.device
         (λ image. Returns result (map_head (drop place image))) }
-    ensures fits { IfOk result (λ found. IfSome found (λ head. place + map_len head ≤ len)) }
+    ensures fits { IfFound result (λ head. place + map_len head ≤ len) }
 {
     if len < HEAD_LENGTH || place > len - HEAD_LENGTH {
         return Ok(None);
@@ -150,7 +146,7 @@ fn head_in(bytes: &[u8; FmapHead::LENGTH], left: u64) -> Option<FmapHead>
 
 /// Reads an area by its index from 0.
 pub fn area<F: Flash>(paged: &mut Paged<F>, map: &FoundMap, i: u16) -> Result<Area, FlashFault>
-    requires inside { map.now.at + map_len map.now.head ≤ length paged.old.device.content }
+    requires inside { map_end map.now ≤ length paged.old.device.content }
     requires number { i < map.now.head.nareas }
 
     ensures after { HasAnswered 1 paged.old paged.new result }
@@ -169,11 +165,11 @@ fn area_named<F: Flash>(
     map: &FoundMap,
     name: &[u8],
 ) -> Result<Option<Area>, FlashFault>
-    requires inside { map.now.at + map_len map.now.head ≤ length paged.old.device.content }
+    requires inside { map_end map.now ≤ length paged.old.device.content }
 
     ensures after { HasAnswered map.now.head.nareas paged.old paged.new result }
-    ensures first { OnHonest paged.old.device (λ image. Returns result (find (is_area name.now)
-        (areas_from map.now.head.nareas (drop (map.now.at + fmap_head_len) image)))) }
+    ensures first { OnHonest paged.old.device
+        (λ image. Returns result (find (is_area name.now) (areas_of image map.now))) }
 {
     for i in 0..map.head.nareas {
         let area = area(paged, map, i)?;
@@ -203,11 +199,10 @@ pub fn region_of_area(area: Option<Area>, image_len: u64) -> Result<Region, Stor
 /// outside the image (6); a device fault (1) at any read.
 #[tactic(auto, unfolding(crate::specs::Regions::region_of))]
 pub fn region<F: Flash>(paged: &mut Paged<F>, name: &[u8]) -> Result<Region, StoreFault>
-    ensures after { HasReadBy by_device (length paged.old.device.content / 2
-        + length paged.old.device.content / area_len + 8) paged.old paged.new result }
+    ensures after { HasReadBy by_device (map_reads paged.old.device) paged.old paged.new result }
     ensures inside { IfOk result (λ region. LiesOn region paged.old.device) }
-    ensures answer { OnHonest paged.old.device (λ image.
-        IsErrOf result StoreFault.Device ⊎ (result ≡ region_of image name.now)) }
+    ensures answer { OnHonest paged.old.device
+        (λ image. IsErrOf result StoreFault.Device ⊎ (result ≡ region_of image name.now)) }
 {
     let Some(map) = find_fmap(paged)? else {
         return Err(StoreFault::NoFmap);
@@ -219,8 +214,7 @@ pub fn region<F: Flash>(paged: &mut Paged<F>, name: &[u8]) -> Result<Region, Sto
 /// Returns the head of a valid map at the front.
 pub fn map_in_source<S: Source>(source: &mut S) -> Result<Option<FmapHead>, SourceFault>
     ensures calls { Reads 1 (refusals result) (S.facts source.old) (S.facts source.new) }
-    ensures fits { IfOk result
-        (λ found. IfSome found (λ head. map_len head ≤ length (S.facts source.old).content)) }
+    ensures fits { IfFound result (λ head. map_len head ≤ length (S.facts source.old).content) }
     ensures head { OnHonest (S.facts source.old) (λ content. Returns result (map_head content)) }
 {
     let len = source.len();
