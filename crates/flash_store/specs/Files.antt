@@ -48,17 +48,6 @@ pub record HasWrittenSome {E : Type 0} (at : ℕ) (bytes : List ℕ) (old new : 
   pub room : IsTrue old.faithful → length bytes ≤ header_length
       → IfOk result (λ k. k ≡ length bytes → IsReserved at (length bytes) new)
 
--- A write in one call, which fails if short.
-pub record HasWrittenOnce {E : Type 0} (at : ℕ) (bytes : List ℕ) (old new : Stored)
-    (result : Result ⊤ E) : Type 0 where
-  pub after : SameFile old new
-  pub written : IsTrue old.faithful → OnOk result (new.content ≡ overwritten old.content at bytes)
-  pub same : IsTrue old.faithful → overwritten old.content at bytes ≡ old.content
-      → new.content ≡ old.content
-  pub whole : IsTrue old.faithful → IsReserved at (length bytes) old
-      → (new.content ≡ old.content) ⊎ (new.content ≡ overwritten old.content at bytes)
-  pub room : IsTrue old.faithful → OnOk result (IsReserved at (length bytes) new)
-
 -- a device or a source over a file
 abbrev pub stored_device : Stored → ℕ → ℕ → Device
 stored_device file calls faults =

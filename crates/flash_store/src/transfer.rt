@@ -1,13 +1,13 @@
 //! Complete transfers by repeated file calls, with device contracts.
 ghost use Rattle.std.specs.Prelude.{◌≡◌, ◌+◌, ◌<◌, ◌≤◌, length, IfOk, OnOk, IsTrue};
 ghost use Rattle.flash_device.specs.Device.{OneRead, OneWrite, OneCommit, refusals};
+ghost use Rattle.flash_device.specs.Pages.{Returns};
 ghost use Rattle.flash_store.specs.Files.{
   stored_device,
   SameFile,
   IsReserved,
   HasReadSome,
   HasWrittenSome,
-  HasWrittenOnce,
 };
 
 use crate::storage::{Storage, StorageFault};
@@ -95,20 +95,22 @@ pub fn write_whole<S: Storage>(storage: &mut S, at: u64, bytes: &[u8]) -> Result
     Ok(())
 }
 
-/// Writes a header in one call. A short call is a fault.
+/// Writes a header in one call, and returns its length. A short call is a fault.
 fn write_in_one<S: Storage>(
     storage: &mut S,
     at: u64,
     bytes: &[u8; HEADER_LENGTH],
-) -> Result<(), StorageFault>
+) -> Result<usize, StorageFault>
     requires { at + length bytes.now ≤ length (S.facts storage.old).content }
 
-    ensures { HasWrittenOnce at bytes.now (S.facts storage.old) (S.facts storage.new) result }
+    ensures after { HasWrittenSome at bytes.now (S.facts storage.old) (S.facts storage.new) result }
+    ensures all { Returns result HEADER_LENGTH }
 {
-    if write_again(storage, at, bytes)? < HEADER_LENGTH {
+    let n = write_again(storage, at, bytes)?;
+    if n < HEADER_LENGTH {
         return Err(StorageFault::Failed);
     }
-    Ok(())
+    Ok(n)
 }
 
 /// Writes the present bytes again, so the next header write is atomic. If a full disk, a limit or a
@@ -124,7 +126,8 @@ fn make_room<S: Storage>(storage: &mut S, at: u64) -> Result<(), StorageFault>
 {
     let mut header = [0; HEADER_LENGTH];
     read_whole(storage, at, &mut header)?;
-    write_in_one(storage, at, &header)
+    write_in_one(storage, at, &header)?;
+    Ok(())
 }
 
 /// Writes a header atomically.
@@ -139,5 +142,6 @@ pub fn write_once<S: Storage>(
         (stored_device (S.facts storage.new) 1 (refusals result)) result }
 {
     make_room(storage, at)?;
-    write_in_one(storage, at, bytes)
+    write_in_one(storage, at, bytes)?;
+    Ok(())
 }
