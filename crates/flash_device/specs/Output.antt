@@ -1,10 +1,6 @@
--- Sinks over writers, and the effect of a stopped copy.
+-- The effect of a stopped copy on its output.
 use Rattle.std.specs.Prelude.{◌≡◌, ℕ, ◌<◌, ◌%◌, List, Option, length, take}
 use Rattle.std.specs.Io.KnownBytes.{Appends}
-
-pub record Writer (W : Type 0) : Type 0 where
-  pub writer : W
-  pub faults : ℕ
 
 -- a proper prefix is appended
 abbrev pub AppendsPart : Option (List ℕ) → Option (List ℕ) → List ℕ → Type 0

@@ -5,32 +5,25 @@ ghost use Rattle.flash_device.specs.TestDevices.{facts_over, PassedOrRefused, Re
 
 use crate::counter::Counter;
 use crate::flash::{COMMIT_LENGTH, Flash, FlashFault};
-use std::marker::Model;
 
 /// A test device over another: the first calls pass, and all later calls fail.
 ///
 /// The first failed write still writes a part, like a power failure; other failed calls have no
 /// effect. Each is one fault, of either device.
 #[derive(Drop)]
-pub struct FailAt<F: Flash> {
-    device: F,
-    left: u64,
-    part: usize,
-    tears: bool,
-    calls: Counter,
-    faults: Counter,
+pub struct FailAt<F> {
+    pub device: F,
+    /// The remaining successful calls.
+    pub left: u64,
+    /// The length of the torn write.
+    pub part: usize,
+    /// Whether the next failed write is torn.
+    pub tears: bool,
+    pub calls: Counter,
+    pub faults: Counter,
 }
 
-impl<F: Flash> Model for FailAt<F> {
-    ghost use Rattle.flash_device.specs.TestDevices.{Failing};
-
-    ghost Value = { Failing F };
-
-    ghost view = { λ f. record { device = f.device; left = f.left; part = f.part; tears = f.tears;
-        calls = f.calls; faults = f.faults } };
-}
-
-impl<F: Flash> FailAt<F> {
+impl<F> FailAt<F> {
     /// Makes a device with `k` successful calls and a torn write of up to `part` bytes.
     pub fn new(device: F, k: u64, part: usize) -> FailAt<F>
         ensures { result ≡ record { device = device; left = k; part = part; tears = true; calls = 0;
@@ -54,7 +47,7 @@ impl<F: Flash> FailAt<F> {
     }
 
     /// Counts a call, passed or failed.
-    fn admits(&mut self) -> bool
+    pub(crate) fn admits(&mut self) -> bool
         ensures passed { IsTrue result → (0 < self.old.left) × (self.new
             ≡ record self.old { left = self.old.left - 1; calls = self.old.calls + 1 }) }
         ensures refused { result ≡ false → (self.old.left ≡ 0)
@@ -68,7 +61,8 @@ impl<F: Flash> FailAt<F> {
         true
     }
 
-    fn refuse(&mut self) -> FlashFault
+    /// Counts a failed call.
+    pub(crate) fn refuse(&mut self) -> FlashFault
         ensures { self.new ≡ record self.old { faults = self.old.faults + 1 } }
     {
         self.faults.tick();

@@ -5,7 +5,6 @@ ghost use Rattle.flash_device.specs.Output.{AppendsPart};
 
 use crate::counter::Counter;
 use std::io::Write;
-use std::marker::Model;
 
 /// A failed call.
 #[derive(Clone, Copy, Debug, PartialEq, Eq, Drop)]
@@ -34,20 +33,13 @@ pub trait Sink {
 
 /// A sink over a writer.
 #[derive(Drop)]
-pub struct WriteSink<W: Write> {
-    writer: W,
-    faults: Counter,
+pub struct WriteSink<W> {
+    pub writer: W,
+    /// Failed calls; in contracts only.
+    pub faults: Counter,
 }
 
-impl<W: Write> Model for WriteSink<W> {
-    ghost use Rattle.flash_device.specs.Output.{Writer};
-
-    ghost Value = { Writer W };
-
-    ghost view = { λ s. record { writer = s.writer; faults = s.faults } };
-}
-
-impl<W: Write> WriteSink<W> {
+impl<W> WriteSink<W> {
     pub fn new(writer: W) -> WriteSink<W>
         ensures { result ≡ record { writer = writer; faults = 0 } }
     {
