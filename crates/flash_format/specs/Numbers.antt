@@ -2,6 +2,7 @@
 -- rules: leading zeros, no sign, no suffix, and a value below 2^32.
 use Rattle.std.specs.Prelude.{ℕ, ◌+◌, ◌-◌, ◌*◌, ◌^◌, nat_le, nat_eq, nat_lt, ◌&&◌, if◌then◌else◌, List, [], ◌∷◌, drop, Option, Some, None}
 use Rattle.std.specs.List.{starts_with}
+use Rattle.std.specs.Bool.{then_some}
 use Rattle.std.specs.Option.{option_and_then}
 use lib.Chars.{codes}
 
@@ -22,12 +23,7 @@ abbrev pub digits_value : ℕ → List ℕ → Option ℕ
 digits_value base [] = None
 digits_value base (b ∷ bs) = value_from base 0 (b ∷ bs)
 
-abbrev pub number_value : List ℕ → Option ℕ
-number_value text = if starts_with nat_eq text (codes "0x") then digits_value 16 (drop 2 text)
-    else digits_value 10 text
-
-abbrev pub in_32_bits : ℕ → Option ℕ
-in_32_bits n = if nat_lt n (2 ^ 32) then Some n else None
-
 unfoldable pub number_of : List ℕ → Option ℕ
-number_of text = option_and_then in_32_bits (number_value text)
+number_of text = let is_hexadecimal = starts_with nat_eq text (codes "0x") in
+    let value = if is_hexadecimal then digits_value 16 (drop 2 text) else digits_value 10 text in
+    option_and_then (λ n. then_some (nat_lt n (2 ^ 32)) n) value

@@ -1,6 +1,6 @@
 //! Numbers as text.
 
-ghost use Rattle.std.specs.Prelude.{◌≡◌, ◌≤◌, ◌^◌, ℕ, Option, min, option_map, option_and_then};
+ghost use Rattle.std.specs.Prelude.{◌≡◌, ◌≤◌, ◌^◌, min, option_map};
 ghost use Rattle.flash_format.specs.Numbers as spec;
 
 /// The limit of parsed values.
@@ -11,16 +11,13 @@ const LIMIT: u64 = 1 << 32;
 pub fn read_number(text: &str) -> Option<u32>
     ensures { result ≡ spec.number_of text.now }
 {
-    let value = number_value(text.as_bytes());
-    in_32_bits(value)
-}
-
-fn number_value(bytes: &[u8]) -> Option<u64>
-    ensures { result ≡ option_map (min (2 ^ 32)) (spec.number_value bytes.now) }
-{
-    match bytes {
+    let value = match text.as_bytes() {
         [b'0', b'x', digits @ ..] => digits_value(16, digits),
-        _ => digits_value(10, bytes),
+        digits => digits_value(10, digits),
+    };
+    match value {
+        Some(value) if value < LIMIT => Some(value as u32),
+        _ => None,
     }
 }
 
@@ -53,16 +50,5 @@ fn digit_value(byte: u8) -> u64
         b'A'..=b'F' => u64::from(byte - b'A') + 10,
         b'a'..=b'f' => u64::from(byte - b'a') + 10,
         _ => 16,
-    }
-}
-
-/// Refuses `LIMIT`, the value of every larger number.
-fn in_32_bits(value: Option<u64>) -> Option<u32>
-    ensures { (exact : Option ℕ) → value ≡ option_map (min (2 ^ 32)) exact
-        → result ≡ option_and_then spec.in_32_bits exact }
-{
-    match value {
-        Some(value) if value < LIMIT => Some(value as u32),
-        _ => None,
     }
 }
