@@ -32,23 +32,12 @@ pub fn digits_value(base: u64, digits: &[u8]) -> Option<u64>
     }
     let mut value = 0;
     for byte in digits {
-        let digit = digit_value(*byte);
-        if digit >= base {
-            return None;
+        match char::from(*byte).to_digit(16) {
+            Some(digit) if u64::from(digit) < base => {
+                value = (value * base + u64::from(digit)).min(LIMIT);
+            }
+            _ => return None,
         }
-        value = (value * base + digit).min(LIMIT);
     }
     Some(value)
-}
-
-/// Returns 16 for any byte except a digit.
-fn digit_value(byte: u8) -> u64
-    ensures { result ≡ spec.digit_value byte }
-{
-    match byte {
-        b'0'..=b'9' => u64::from(byte - b'0'),
-        b'A'..=b'F' => u64::from(byte - b'A') + 10,
-        b'a'..=b'f' => u64::from(byte - b'a') + 10,
-        _ => 16,
-    }
 }
