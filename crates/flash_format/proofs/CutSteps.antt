@@ -1,5 +1,5 @@
 -- The steps of a cut, for any bound of its recursion.
-use Rattle.std.proofs.Common.{◌≡◌, ℕ, zero, suc, pred, ◌+◌, ◌<◌, ◌≤◌, false, List, [], ◌∷◌, length, take, drop, Some, Result, Ok, Err, refl, sym, ap, ◌∙◌, arith}
+use Rattle.std.proofs.Common.{◌≡◌, ℕ, zero, suc, pred, ◌+◌, ◌%◌, ◌<◌, ◌≤◌, false, List, [], ◌∷◌, length, take, drop, Some, Result, Ok, Err, refl, sym, ap, ◌∙◌, arith}
 use Rattle.std.proofs.lemmas.Bool.Decides.{nat_tests}
 use Rattle.flash_format.specs.declared.head.Head.{Head}
 use Rattle.flash_format.specs.declared.head.Extent.{Extent}
@@ -7,7 +7,7 @@ use Rattle.flash_format.specs.declared.head.DamageKind.{DamageKind}
 use Rattle.flash_format.specs.Head.{head_of, head_at, is_free, attributes_misplaced, extent_of, round64}
 use Rattle.flash_format.specs.Entry.{Entry, cell, entry, present, front}
 use Rattle.flash_format.proofs.Fronts.{drop-pred}
-use Rattle.flash_format.specs.Cut.{complete, ends, after, by_entry, cut, cut_after, IsSpan}
+use Rattle.flash_format.specs.Cut.{complete, ends, after, by_entry, cut, cut_after}
 
 -- the results of passed checks of a head
 pub record IsChecked (h : Head) (left : ℕ) (e : Extent) : Type 0 where
@@ -42,6 +42,12 @@ front_some x h e = grind (arith, nat_tests)
 pub cell_is : (x : List ℕ) (span : ℕ) → entry x ≡ cell span → IsCell x span
 unfolding entry
 cell_is x span e = grind (arith, nat_tests, front_some, present_cell)
+
+-- a multiple of 64, inside bytes of such a length
+pub record IsSpan (x : List ℕ) (span : ℕ) : Type 0 where
+  pub positive : 64 ≤ span
+  pub whole : span % 64 ≡ 0
+  pub inside : length x % 64 ≡ 0 → span ≤ length x
 
 pub cell_span : (x : List ℕ) (span : ℕ) → entry x ≡ cell span → IsSpan x span
 cell_span x span e =

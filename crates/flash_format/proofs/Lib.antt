@@ -9,7 +9,6 @@ pub mod EmptyEntryLaws
 pub mod Splices
 pub mod MapLaws
 pub mod FieldWrites
-pub mod PutLemmas
 pub mod MadeLaws
 pub mod Placings
 pub mod NumberLaws

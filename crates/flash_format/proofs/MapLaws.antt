@@ -1,8 +1,13 @@
 -- An image's map is the lowest valid map.
 use Rattle.std.proofs.lemmas.Bool.Decides.{nat_tests}
 use Rattle.std.proofs.Common.{◌≡◌, ℕ, zero, suc, ◌+◌, Bool, true, false, cond, List, [], ◌∷◌, length, drop, Option, Some, None, refl, sym, subst, ◌∙◌, arith}
+use Rattle.std.specs.Prelude.{MatchOption}
 use Rattle.flash_format.specs.Flashmap.{is_map, map_from, map_of}
-use Rattle.flash_format.specs.Laws.{NoMapBelow, IsMapOf}
+use Rattle.flash_format.specs.Laws.{NoMapBelow}
+
+-- the lowest valid map; without a position, no map
+abbrev pub IsMapOf : List ℕ → Option ℕ → Type 0
+IsMapOf image found = MatchOption found (NoMapBelow image (length image)) (λ q. (is_map (drop q image) ≡ true) × NoMapBelow image q)
 
 -- the lowest map of bytes with the first at `at`
 record IsLowest (at : ℕ) (x : List ℕ) (q : ℕ) : Type 0 where

@@ -48,7 +48,7 @@ components-three a b c = simp (concat-append, length-append, components-append) 
 
 -- ---- free space
 
-space_cell : (size : ℕ) (bytes : List ℕ) → IsSpace size bytes → 0 < size → size % 64 ≡ 0 → size < 2 ^ 32 → IsCell bytes × (is_free (head_of bytes) ≡ true)
+pub space_cell : (size : ℕ) (bytes : List ℕ) → IsSpace size bytes → 0 < size → size % 64 ≡ 0 → size < 2 ^ 32 → IsCell bytes × (is_free (head_of bytes) ≡ true)
 space_cell size bytes is some whole small =
     let (kept, more, shape) = is.header some in
     let room : header_length + length more ≡ size = omega (arith, is.long, ap length shape, length-append (empty_header size kept) more, length-empty_header size kept) in

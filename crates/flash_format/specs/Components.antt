@@ -1,5 +1,5 @@
 -- Components: all cells of a region except free cells.
-use Rattle.std.specs.Prelude.{ℕ, ◌+◌, Bool, not, List, [], ◌∷◌, length, slice_range, map, unwrap_or, ◌==◌, if◌then◌else◌}
+use Rattle.std.specs.Prelude.{ℕ, ◌+◌, Bool, not, List, [], ◌∷◌, length, slice_range, unwrap_or, ◌==◌, if◌then◌else◌}
 use Rattle.std.specs.List.{before_first}
 use Rattle.std.specs.Option.{option_map_or}
 use Rattle.flash_format.specs.Head.{be32, head_of, is_free}
@@ -34,10 +34,8 @@ abbrev pub is_packed : List Attribute → Bool
 is_packed all = not (packing all == 0)
 
 abbrev pub component_at : ℕ → List ℕ → Component
-component_at at x = let name = cell_name x in
-    let kind = (head_of x).kind in
-    let all = cell_attributes x in
-    let content = cell_content x in
+component_at at x = let name = cell_name x in let kind = (head_of x).kind in
+    let all = cell_attributes x in let content = cell_content x in
     record { at = at; name = name; kind = kind; attributes = all; content = content; bytes = x }
 
 -- the components of neighbouring cells from a position on
@@ -45,10 +43,6 @@ unfoldable pub components_from : ℕ → List (List ℕ) → List Component
 components_from at [] = []
 components_from at (x ∷ cells) = let others = components_from (at + length x) cells in
     if is_free (head_of x) then others else component_at at x ∷ others
-
--- positions increased by n
-abbrev pub shifted_by : ℕ → List Component → List Component
-shifted_by n all = map (λ (c : Component). record c { at = n + c.at }) all
 
 abbrev pub components : List ℕ → List Component
 components x = components_from 0 (cut x).cells

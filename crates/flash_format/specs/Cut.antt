@@ -1,6 +1,6 @@
 -- The division of a region into neighbouring cells. CBFS entries begin at multiples of 64. This
 -- project's rule: the rest is an unused, preserved tail.
-use Rattle.std.specs.Prelude.{◌≡◌, ℕ, zero, suc, pred, ◌%◌, ◌<◌, ◌≤◌, List, [], ◌∷◌, ◌++◌, length, take, All}
+use Rattle.std.specs.Prelude.{◌≡◌, ℕ, zero, suc, pred, ◌<◌, List, [], ◌∷◌, ◌++◌, length, take, All}
 use Rattle.std.specs.List.{concat}
 use Rattle.flash_format.specs.declared.head.DamageKind.{DamageKind}
 use Rattle.flash_format.specs.Entry.{Entry, absent, damaged, cell, entry}
@@ -39,12 +39,6 @@ abbrev pub cut : List ℕ → Cut
 cut x = cut_after 0 x
 
 -- ---- as a relation
-
--- a multiple of 64, inside bytes of such a length
-pub record IsSpan (x : List ℕ) (span : ℕ) : Type 0 where
-  pub positive : 64 ≤ span
-  pub whole : span % 64 ≡ 0
-  pub inside : length x % 64 ≡ 0 → span ≤ length x
 
 -- exactly one cell
 abbrev pub IsCell : List ℕ → Type 0

@@ -138,9 +138,6 @@ module _ (name : List ℕ) (kind : ℕ) (digest : Option Digest) (gap : ℕ) whe
 
 -- ---- from a description
 
-abbrev pub described_head : Meta → Head
-described_head m = made_head m.name.now m.kind (option_copied m.digest) m.gap m.len
-
 abbrev pub described_len : Meta → ℕ
 described_len m = meta_length (length m.name.now) (hash_len (option_copied m.digest)) + m.gap
 

@@ -1,7 +1,7 @@
 //! Attribute heads.
 
 ghost use Rattle.std.specs.Prelude.{◌≡◌};
-ghost use Rattle.flash_format.specs.Entry.{attr_head_of, is_unused, least_len, has_bad_len};
+ghost use Rattle.flash_format.specs.Entry.{attr_head_of, is_unused, has_bad_len};
 
 use byteorder::{BigEndian, ByteOrder};
 
@@ -41,16 +41,11 @@ impl AttrHead {
     pub fn has_bad_len(&self, left: u64) -> bool
         ensures { result ≡ has_bad_len self.now left }
     {
-        self.len < self.least_len() || left < u64::from(self.len)
-    }
-
-    fn least_len(&self) -> u32
-        ensures { result ≡ least_len self.now.tag }
-    {
-        match self.tag {
+        let least = match self.tag {
             Self::COMPRESSION => 16,
             Self::HASH => 12,
             _ => 8,
-        }
+        };
+        self.len < least || left < u64::from(self.len)
     }
 }

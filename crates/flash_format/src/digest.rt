@@ -33,14 +33,20 @@ impl Algorithm {
     pub fn number(self) -> u32
         ensures { result ≡ (algorithm_row self).number }
     {
-        self.row().0
+        match self {
+            Algorithm::Sha256 => 2,
+            Algorithm::Sha512 => 3,
+        }
     }
 
     /// Returns the digest length in bytes.
     pub fn digest_len(self) -> usize
         ensures { result ≡ (algorithm_row self).len }
     {
-        self.row().1
+        match self {
+            Algorithm::Sha256 => 32,
+            Algorithm::Sha512 => 64,
+        }
     }
 
     /// Returns the printed name.
@@ -48,17 +54,9 @@ impl Algorithm {
         ensures value { result.now ≡ (algorithm_row self).name }
         ensures short { length result.now ≤ 6 }
     {
-        self.row().2
-    }
-
-    fn row(self) -> (u32, usize, &'static str)
-        ensures number { result.0 ≡ (algorithm_row self).number }
-        ensures len { result.1 ≡ (algorithm_row self).len }
-        ensures name { result.2.now ≡ (algorithm_row self).name }
-    {
         match self {
-            Algorithm::Sha256 => (2, 32, "sha256"),
-            Algorithm::Sha512 => (3, 64, "sha512"),
+            Algorithm::Sha256 => "sha256",
+            Algorithm::Sha512 => "sha512",
         }
     }
 }

@@ -4,7 +4,7 @@ ghost use Rattle.std.specs.Prelude.{◌≡◌, ◌≤◌, length, true};
 ghost use Rattle.std.specs.Bool.{then_some};
 ghost use Rattle.std.specs.List.{list_any, list_all, position};
 ghost use Rattle.flash_format.specs.Entry.{is_nul};
-ghost use Rattle.flash_format.specs.Flashmap.{fmap_head_of, fmap_head_bytes, has_signature, is_map_name, map_len, is_valid_head, area_of, area_bytes, is_area, text_of, is_printing};
+ghost use Rattle.flash_format.specs.Flashmap.{fmap_head_of, fmap_head_bytes, has_signature, map_len, is_valid_head, area_of, area_bytes, is_area, text_of, is_printing};
 
 use byteorder::{ByteOrder, LittleEndian};
 
@@ -33,19 +33,21 @@ impl FmapHead {
     pub const LENGTH: usize = 56;
 
     /// Decodes a head, or returns `None` without the signature.
-    #[tactic(auto, unfolding(crate::specs::Flashmap::has_signature))]
+    #[tactic(auto, unfolding(crate::specs::Flashmap::has_signature, crate::specs::Flashmap::fmap_head_of))]
     pub fn read(bytes: &[u8; Self::LENGTH]) -> Option<FmapHead>
         ensures { result ≡ then_some (has_signature bytes.now) (fmap_head_of bytes.now) }
     {
         if !bytes.starts_with(&Self::SIGNATURE) {
             return None;
         }
+        let mut name = [0; 32];
+        name.copy_from_slice(&bytes[22..54]);
         Some(FmapHead {
             major: bytes[8],
             minor: bytes[9],
             base: LittleEndian::read_u64(&bytes[10..18]),
             size: LittleEndian::read_u32(&bytes[18..22]),
-            name: name_array(&bytes[22..54]),
+            name,
             nareas: LittleEndian::read_u16(&bytes[54..56]),
         })
     }
@@ -95,7 +97,7 @@ impl FmapHead {
     pub fn is_valid(&self, left: u64) -> bool
         ensures { result ≡ is_valid_head self.now left }
     {
-        self.major == 1 && is_map_name(&self.name) && self.map_len() <= left
+        self.major == 1 && has_nul(&self.name) && is_printing(self.text()) && self.map_len() <= left
     }
 }
 
@@ -121,10 +123,12 @@ impl Area {
     pub fn read(bytes: &[u8; Self::LENGTH]) -> Area
         ensures { result ≡ area_of bytes.now }
     {
+        let mut name = [0; 32];
+        name.copy_from_slice(&bytes[8..40]);
         Area {
             offset: LittleEndian::read_u32(&bytes[..4]),
             size: LittleEndian::read_u32(&bytes[4..8]),
-            name: name_array(&bytes[8..40]),
+            name,
             flags: LittleEndian::read_u16(&bytes[40..42]),
         }
     }
@@ -164,15 +168,6 @@ impl Area {
     }
 }
 
-fn name_array(bytes: &[u8]) -> [u8; 32]
-    requires { length bytes.now ≡ 32 }
-    ensures { result ≡ bytes.now }
-{
-    let mut name = [0; 32];
-    name.copy_from_slice(bytes);
-    name
-}
-
 fn first_nul(name: &[u8]) -> Option<usize>
     ensures { result ≡ position is_nul name.now }
 {
@@ -199,10 +194,4 @@ fn is_printing(text: &[u8]) -> bool
     ensures { result ≡ list_all is_printing text.now }
 {
     text.iter().all(|b| matches!(*b, 0x21..=0x7e))
-}
-
-fn is_map_name(name: &[u8]) -> bool
-    ensures { result ≡ is_map_name name.now }
-{
-    has_nul(name) && is_printing(text_of(name))
 }

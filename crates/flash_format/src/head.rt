@@ -1,7 +1,7 @@
 //! Heads of CBFS entries, and their checks.
 
 ghost use Rattle.std.specs.Prelude.{◌≡◌, Some};
-ghost use Rattle.flash_format.specs.Head.{head_at, head_bytes, is_free, attributes_misplaced, extent_of};
+ghost use Rattle.flash_format.specs.Head.{head_at, head_bytes, is_free, extent_of};
 
 use byteorder::{BigEndian, ByteOrder};
 
@@ -120,7 +120,9 @@ impl Head {
         if self.offset < least {
             return Err(DamageKind::Offset);
         }
-        if !free && self.attributes_misplaced() {
+        let attributes_misplaced = self.attributes_offset != 0
+            && (self.attributes_offset < LEAST_NAME_END || self.offset < self.attributes_offset);
+        if !free && attributes_misplaced {
             return Err(DamageKind::AttrOffset);
         }
         let end = u64::from(self.offset) + u64::from(self.len);
@@ -131,12 +133,5 @@ impl Head {
             content: u64::from(self.offset),
             span: (end + 63) / 64 * 64,
         })
-    }
-
-    fn attributes_misplaced(&self) -> bool
-        ensures { result ≡ attributes_misplaced self.now }
-    {
-        self.attributes_offset != 0
-            && (self.attributes_offset < LEAST_NAME_END || self.offset < self.attributes_offset)
     }
 }

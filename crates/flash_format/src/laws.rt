@@ -1,16 +1,17 @@
 //! Laws of the definitions: contracts without code.
 
-ghost use Rattle.std.specs.Prelude.{◌≡◌, ℕ, Bool, ◌+◌, ◌++◌, ◌^◌, ◌%◌, ◌<◌, ◌≤◌, true, List, length, drop, Option, Some};
+ghost use Rattle.std.specs.Prelude.{◌≡◌, ℕ, ◌+◌, ◌++◌, ◌^◌, ◌%◌, ◌<◌, ◌≤◌, true, List, length, drop, All, MatchOption, Option, Some};
+ghost use Rattle.std.specs.List.{concat, flat_map};
 ghost use Rattle.flash_format.specs.declared.digest.Digest.{Digest};
-ghost use Rattle.flash_format.specs.Made.{name_padding, header_length, empty_header, empty_entry, KeepsFour, name_room};
+ghost use Rattle.flash_format.specs.Made.{name_padding, header_length, empty_entry, KeepsFour, name_room};
 ghost use Rattle.flash_format.specs.Head.{head_of, is_free};
 ghost use Rattle.flash_format.specs.Entry.{cell, entry};
-ghost use Rattle.flash_format.specs.Cut.{End, cut, IsCut};
+ghost use Rattle.flash_format.specs.Cut.{End, cut, IsCell, IsCut};
 ghost use Rattle.flash_format.specs.Splices.{CellsBetween};
 ghost use Rattle.flash_format.specs.Placings.{IsSpace};
 ghost use Rattle.flash_format.specs.TypeNames.{name_of_type, type_of_text};
-ghost use Rattle.flash_format.specs.Flashmap.{fmap_head_len, area_len, is_map, map_of};
-ghost use Rattle.flash_format.specs.Laws.{EntriesAreReadAlike, CutsGoOn, GroupsAreReplaced, MadeCellsAreReadAsMade, ComponentsArePlaced, NoMapBelow, IsMapOf, IsMapInBytes, IsReadAsMap, map_bytes, PrintedTextsAreReadBack};
+ghost use Rattle.flash_format.specs.Flashmap.{fmap_head_len, fmap_head_of, fmap_head_bytes, area_len, area_of, area_bytes, is_map, is_map_name, map_of};
+ghost use Rattle.flash_format.specs.Laws.{EntriesAreReadAlike, CutsGoOn, GroupsAreReplaced, MadeCellsAreReadAsMade, ComponentsArePlaced, NoMapBelow, IsReadAsMap, PrintedTextsAreReadBack};
 
 use crate::flashmap::{Area, FmapHead};
 use crate::head::HEADER_LENGTH;
@@ -25,7 +26,7 @@ pub fn lengths_are_defined()
 /// Proves that a cell's length is valid, and that later bytes don't affect a cell. Only the head
 /// affects a free cell.
 pub fn entries_are_read_alike()
-    ensures { EntriesAreReadAlike }
+    ensures { (x : List ℕ) (span : ℕ) → entry x ≡ cell span → EntriesAreReadAlike x span }
 {}
 
 /// Proves that every region has a unique division into cells and a remainder.
@@ -43,15 +44,14 @@ pub fn cuts_go_on()
 
 /// Proves that an empty entry is a free cell, whatever follows its header.
 pub fn empty_headers_are_free_cells()
-    ensures { (size : ℕ) (kept : Bool) (more : List ℕ) → 64 ≤ size → size % 64 ≡ 0
-        → size < 2 ^ 32 → header_length + length more ≡ size
-        → let x = empty_header size kept ++ more in
-        (entry x ≡ cell size) × (is_free (head_of x) ≡ true) }
+    ensures { (size : ℕ) (bytes : List ℕ) → IsSpace size bytes → 0 < size → size % 64 ≡ 0
+        → size < 2 ^ 32 → IsCell bytes × (is_free (head_of bytes) ≡ true) }
 {}
 
-/// Proves that replaced cells change no other component, and that an empty entry adds no component.
+/// Proves that replaced cells change no other component.
 pub fn groups_are_replaced()
-    ensures { (x : List ℕ) (a b : ℕ) (g : CellsBetween x a b) → GroupsAreReplaced x a b g }
+    ensures { (x : List ℕ) (a b : ℕ) (g : CellsBetween x a b) (new : List (List ℕ)) → All IsCell new
+        → a + length (concat new) ≡ b → GroupsAreReplaced x a b g new }
 {}
 
 /// Proves that a written cell decodes to its component, whatever follows.
@@ -71,15 +71,17 @@ pub fn components_are_placed()
 
 /// Proves that an image's map is the lowest valid map.
 pub fn maps_are_the_lowest()
-    ensures lowest { (image : List ℕ) → IsMapOf image (map_of image) }
-    ensures found { (image : List ℕ) (q : ℕ) → is_map (drop q image) ≡ true → NoMapBelow image q
-        → map_of image ≡ Some q }
+    ensures { (image : List ℕ) → MatchOption (map_of image) (NoMapBelow image (length image))
+        (λ q. (is_map (drop q image) ≡ true) × NoMapBelow image q) }
 {}
 
-/// Proves that a valid encoded map decodes to its head and areas, whatever follows.
+/// Proves that a valid encoded map decodes to its head and areas, whatever follows, if each of them
+/// decodes alone, as `read_back` of `FmapHead::write` and `Area::write` ensures.
 pub fn maps_are_read_back()
-    ensures { (h : FmapHead) (areas : List Area) (more : List ℕ) → IsMapInBytes h areas
-        → IsReadAsMap h areas (map_bytes h areas ++ more) }
+    ensures { (h : FmapHead) (areas : List Area) (more : List ℕ)
+        → fmap_head_of (fmap_head_bytes h) ≡ h → All (λ a. area_of (area_bytes a) ≡ a) areas
+        → h.major ≡ 1 → is_map_name h.name ≡ true → h.nareas ≡ length areas
+        → IsReadAsMap h areas (fmap_head_bytes h ++ flat_map area_bytes areas ++ more) }
 {}
 
 /// Proves that a type's name decodes to the type.

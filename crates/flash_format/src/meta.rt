@@ -1,16 +1,15 @@
 //! A component's metadata: the head, the name, the hash attribute and a gap.
 
-ghost use Rattle.std.specs.Prelude.{◌≡◌, ◌≤◌, ◌<◌, ◌+◌, ◌++◌, length, take, drop, replicate};
+ghost use Rattle.std.specs.Prelude.{◌≡◌, ◌≤◌, ◌<◌, ◌++◌, length, take, drop};
 ghost use Rattle.std.specs.Option.{option_copied};
-ghost use Rattle.byteorder.specs.Endian.{big_bytes};
-ghost use Rattle.flash_format.specs.Entry.{HASH};
-ghost use Rattle.flash_format.specs.Made.{IsDigest, meta_length, name_room, padded_name, hash_attribute, hash_bytes, hash_len, metadata_of, described_len, described_head};
-ghost use Rattle.flash_format.specs.Splices.{splice};
+ghost use Rattle.arrayvec.specs.ArrayVec.{array_vec_len};
+ghost use Rattle.flash_format.specs.Made.{IsDigest, meta_length, hash_bytes, hash_len, metadata_of, described_len};
 
 use crate::attribute::AttrHead;
+use crate::buffer::push_text;
 use crate::digest::Digest;
 use crate::head::{Head, NAME_PADDING};
-use byteorder::{BigEndian, ByteOrder};
+use arrayvec::ArrayVec;
 
 /// The maximum length in bytes: name 127, digest 64, gap 63.
 pub const LONGEST_METADATA: usize = Head::LENGTH + 128 + 76 + 63;
@@ -50,7 +49,9 @@ pub fn meta_len(name_len: usize, attr_len: usize) -> usize
     requires attribute { attr_len ≤ 76 }
     ensures { result ≡ meta_length name_len attr_len }
 {
-    Head::LENGTH + name_room(name_len) + attr_len
+    // The name and one to four NULs.
+    let name_room = (name_len / NAME_PADDING + 1) * NAME_PADDING;
+    Head::LENGTH + name_room + attr_len
 }
 
 /// Writes the metadata to the front of `out`, and returns its length in bytes.
@@ -66,99 +67,42 @@ pub fn write_meta(meta: &Meta<'_>, out: &mut [u8]) -> usize
     // Required by `made_cells_are_read_as_made`.
     ensures digest { IsDigest (option_copied meta.now.digest) }
 {
-    let head = head_of(meta);
-    let at = put(out, 0, &head.write());
-    let at = put_name(out, at, meta.name);
-    let at = put_hash(out, at, meta.digest);
-    fill(out, at, meta.gap as usize, 0xff)
-}
-
-fn head_of(meta: &Meta<'_>) -> Head
-    requires name { length meta.now.name.now ≤ 127 }
-    requires gap { meta.now.gap < 64 }
-    ensures head { result ≡ described_head meta.now }
-    ensures digest { IsDigest (option_copied meta.now.digest) }
-{
-    let name_end = Head::LENGTH + name_room(meta.name.len());
+    let name_end = meta_len(meta.name.len(), 0);
     let attr_len = attr_len(meta.digest);
-    Head {
+    let head = Head {
         len: meta.len,
         kind: meta.kind,
         attributes_offset: match meta.digest {
             None => 0,
             Some(_) => name_end as u32,
         },
-        offset: (meta_len(meta.name.len(), attr_len) + meta.gap as usize) as u32,
-    }
-}
-
-/// Counts the name and one to four NULs, in bytes.
-fn name_room(name_len: usize) -> usize
-    requires { name_len ≤ 127 }
-    ensures { result ≡ name_room name_len }
-{
-    (name_len / NAME_PADDING + 1) * NAME_PADDING
-}
-
-fn put(out: &mut [u8], at: usize, bytes: &[u8]) -> usize
-    requires { at + length bytes.now ≤ length out.old }
-    ensures end { result ≡ at + length bytes.now }
-    ensures puts { out.new ≡ splice out.old at result bytes.now }
-{
-    let end = at + bytes.len();
-    out[at..end].copy_from_slice(bytes);
+        offset: (name_end + attr_len) as u32 + meta.gap,
+    };
+    let mut bytes = ArrayVec::new();
+    push_text(&mut bytes, &head.write());
+    push_text(&mut bytes, meta.name);
+    push_text(
+        &mut bytes,
+        &[0; NAME_PADDING][..name_end - Head::LENGTH - meta.name.len()],
+    );
+    push_hash(&mut bytes, meta.digest);
+    push_text(&mut bytes, &[0xff; 63][..meta.gap as usize]);
+    let end = bytes.len();
+    out[..end].copy_from_slice(bytes.as_slice());
     end
 }
 
-fn fill(out: &mut [u8], at: usize, count: usize, byte: u8) -> usize
-    requires { at + count ≤ length out.old }
-    ensures end { result ≡ at + count }
-    ensures puts { out.new ≡ splice out.old at result (replicate count byte) }
+/// Appends the hash attribute, if any.
+#[tactic(auto, unfolding(crate::specs::Made::hash_attribute))]
+fn push_hash(bytes: &mut ArrayVec<u8, LONGEST_METADATA>, digest: Option<&Digest>)
+    requires { array_vec_len bytes.old ≤ 152 }
+    ensures { bytes.new.items ≡ bytes.old.items ++ hash_bytes (option_copied digest.entry) }
 {
-    let end = at + count;
-    out[at..end].fill(byte);
-    end
-}
-
-fn put_name(out: &mut [u8], at: usize, name: &[u8]) -> usize
-    requires name { length name.now ≤ 127 }
-    requires room { at + name_room (length name.now) ≤ length out.old }
-    ensures end { result ≡ at + name_room (length name.now) }
-    ensures puts { out.new ≡ splice out.old at result (padded_name name.now) }
-{
-    let nuls = name_room(name.len()) - name.len();
-    let at = put(out, at, name);
-    fill(out, at, nuls, 0)
-}
-
-fn put_hash(out: &mut [u8], at: usize, digest: Option<&Digest>) -> usize
-    requires { at + hash_len (option_copied digest) ≤ length out.old }
-    ensures end { result ≡ at + hash_len (option_copied digest.entry) }
-    ensures puts { out.new ≡ splice out.old at result (hash_bytes (option_copied digest.entry)) }
-{
-    match digest {
-        None => at,
-        Some(digest) => put_attribute(out, at, digest.algorithm().number(), digest.bytes()),
+    if let Some(digest) = digest {
+        let len = 12 + digest.bytes().len() as u32;
+        push_text(bytes, &AttrHead::HASH.to_be_bytes());
+        push_text(bytes, &len.to_be_bytes());
+        push_text(bytes, &digest.algorithm().number().to_be_bytes());
+        push_text(bytes, digest.bytes());
     }
-}
-
-fn put_attribute(out: &mut [u8], at: usize, algorithm: u32, digest: &[u8]) -> usize
-    requires size { length digest.now ≤ 64 }
-    requires room { at + 12 + length digest.now ≤ length out.old }
-    ensures end { result ≡ at + 12 + length digest.now }
-    ensures puts { out.new ≡ splice out.old at result (hash_attribute algorithm digest.now) }
-{
-    let prefix = attribute_prefix(algorithm, 12 + digest.len() as u32);
-    let at = put(out, at, &prefix);
-    put(out, at, digest)
-}
-
-fn attribute_prefix(algorithm: u32, len: u32) -> [u8; 12]
-    ensures { result ≡ big_bytes 4 HASH ++ big_bytes 4 len ++ big_bytes 4 algorithm }
-{
-    let mut prefix = [0; 12];
-    BigEndian::write_u32(&mut prefix[..4], AttrHead::HASH);
-    BigEndian::write_u32(&mut prefix[4..8], len);
-    BigEndian::write_u32(&mut prefix[8..12], algorithm);
-    prefix
 }

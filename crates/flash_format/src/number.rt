@@ -1,6 +1,6 @@
 //! Numbers as text.
 
-ghost use Rattle.std.specs.Prelude.{◌≡◌, ◌≤◌, ◌^◌, ℕ, Option, min, option_map, option_and_then};
+ghost use Rattle.std.specs.Prelude.{◌≡◌, ◌≤◌, ◌^◌, min, option_map};
 ghost use Rattle.flash_format.specs.Numbers as spec;
 
 /// The limit of parsed values.
@@ -11,16 +11,13 @@ const LIMIT: u64 = 1 << 32;
 pub fn read_number(text: &str) -> Option<u32>
     ensures { result ≡ spec.number_of text.now }
 {
-    let value = number_value(text.as_bytes());
-    in_32_bits(value)
-}
-
-fn number_value(bytes: &[u8]) -> Option<u64>
-    ensures { result ≡ option_map (min (2 ^ 32)) (spec.number_value bytes.now) }
-{
-    match bytes {
+    let value = match text.as_bytes() {
         [b'0', b'x', digits @ ..] => digits_value(16, digits),
-        _ => digits_value(10, bytes),
+        digits => digits_value(10, digits),
+    };
+    match value {
+        Some(value) if value < LIMIT => Some(value as u32),
+        _ => None,
     }
 }
 
@@ -35,34 +32,12 @@ pub fn digits_value(base: u64, digits: &[u8]) -> Option<u64>
     }
     let mut value = 0;
     for byte in digits {
-        let digit = digit_value(*byte);
-        if digit >= base {
-            return None;
+        match char::from(*byte).to_digit(16) {
+            Some(digit) if u64::from(digit) < base => {
+                value = (value * base + u64::from(digit)).min(LIMIT);
+            }
+            _ => return None,
         }
-        value = (value * base + digit).min(LIMIT);
     }
     Some(value)
-}
-
-/// Returns 16 for any byte except a digit.
-fn digit_value(byte: u8) -> u64
-    ensures { result ≡ spec.digit_value byte }
-{
-    match byte {
-        b'0'..=b'9' => u64::from(byte - b'0'),
-        b'A'..=b'F' => u64::from(byte - b'A') + 10,
-        b'a'..=b'f' => u64::from(byte - b'a') + 10,
-        _ => 16,
-    }
-}
-
-/// Refuses `LIMIT`, the value of every larger number.
-fn in_32_bits(value: Option<u64>) -> Option<u32>
-    ensures { (exact : Option ℕ) → value ≡ option_map (min (2 ^ 32)) exact
-        → result ≡ option_and_then spec.in_32_bits exact }
-{
-    match value {
-        Some(value) if value < LIMIT => Some(value as u32),
-        _ => None,
-    }
 }

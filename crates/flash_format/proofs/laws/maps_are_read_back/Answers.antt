@@ -1,5 +1,5 @@
-use Rattle.flash_format.proofs.MapBytes.{maps_read_back}
+use Rattle.flash_format.proofs.MapBytes.{maps_decode}
 use Rattle.flash_format.proofs.laws.maps_are_read_back.Goals as goal
 
 pub returns : goal.returns
-returns c = maps_read_back
+returns c = maps_decode

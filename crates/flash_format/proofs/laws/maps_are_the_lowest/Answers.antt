@@ -1,6 +1,5 @@
-use Rattle.flash_format.proofs.MapBytes.{lowest_found}
 use Rattle.flash_format.proofs.MapLaws.{map_lowest}
 use Rattle.flash_format.proofs.laws.maps_are_the_lowest.Goals as goal
 
 pub returns : goal.returns
-returns c = record { lowest = map_lowest; found = lowest_found }
+returns c = map_lowest

@@ -1,36 +1,26 @@
-use Rattle.std.proofs.Common.{◌≡◌, ℕ, ◌+◌, ◌≤◌, List, ◌++◌, length, take, drop, replicate, ap, ◌∙◌, arith, length-append}
+use Rattle.std.proofs.Common.{◌≡◌, ℕ, ◌-◌, List, [], ◌++◌, length, take, replicate, refl, sym, ap, ◌∙◌, arith, append_assoc}
 use Rattle.std.specs.Option.{option_copied}
-use Rattle.std.proofs.lemmas.List.{take_at, drop_at, length-replicate}
+use Rattle.std.proofs.lemmas.List.{take_at, take-replicate}
 use Rattle.flash_format.specs.declared.head.Head.{Head}
 use Rattle.flash_format.specs.Head.{head_bytes}
-use Rattle.flash_format.specs.Made.{padded_name, hash_bytes, described_head}
-use Rattle.flash_format.specs.Splices.{splice}
-use Rattle.flash_format.proofs.EmptyEntryLaws.{length-head_bytes}
-use Rattle.flash_format.proofs.MadeLaws.{hash_as_long, length-padded}
-use Rattle.flash_format.proofs.PutLemmas.{then}
+use Rattle.flash_format.specs.Made.{hash_bytes, made_head, name_room}
 use Rattle.flash_format.proofs.meta.write_meta.Goals as goal
 
--- four consecutive writes
-in_a_row : (x y z v w : List ℕ) (head name hash gap : List ℕ) (p q r s : ℕ) → p ≡ length head → q ≡ p + length name → r ≡ q + length hash → s ≡ r + length gap → s ≤ length x
-    → y ≡ splice x 0 p head → z ≡ splice y p q name → v ≡ splice z q r hash → w ≡ splice v r s gap
-    → (s ≡ length (head ++ name ++ hash ++ gap)) × (take s w ≡ head ++ name ++ hash ++ gap) × (drop s w ≡ drop s x)
-in_a_row x y z v w head name hash gap p q r s to_p to_q to_r to_s room one two three four =
-    let named = then x y z head name 0 p q (omega arith) to_q (omega arith) one two in
-    let hashed = then x z v (head ++ name) hash 0 q r (omega (arith, length-append head name)) to_r (omega arith) named three in
-    let long : s ≡ length (head ++ name ++ hash ++ gap) = omega (arith, length-append head name, length-append (head ++ name) hash, length-append (head ++ name ++ hash) gap) in
-    let all = then x v w (head ++ name ++ hash) gap 0 r s (omega (arith, length-append head name, length-append (head ++ name) hash)) to_s room hashed four in
-    grind (arith, take_at, drop_at)
+-- consecutive pushes
+in_a_row : (b x y z v w head name nuls hash gap : List ℕ) → b ≡ [] → x ≡ b ++ head → y ≡ x ++ name → z ≡ y ++ nuls → v ≡ z ++ hash → w ≡ v ++ gap → w ≡ head ++ (name ++ nuls) ++ hash ++ gap
+in_a_row b x y z v w head name nuls hash gap none one two three four five = rw (five, four, three, two, one, none, append_assoc head name nuls) refl
 
-pub returns : goal.returns
-returns c =
+pub returns-clause-written : goal.returns-clause-written
+returns-clause-written c =
     let m = c.args.meta.now in
-    let hash = hash_bytes (option_copied m.digest) in
-    let head : c.write.result ≡ head_bytes (described_head m) = c.write.ensures.bytes ∙ ap (λ (h : Head). head_bytes h) c.head_of-head.ensures.head in
-    let one = rw head at c.put-at.ensures.puts in
-    let to_p : c.put-at.result ≡ length (head_bytes (described_head m)) = omega (arith, length-head_bytes (described_head m)) in
-    let to_q : c.put_name-at.result ≡ c.put-at.result + length (padded_name m.name.now) = omega (arith, length-padded m.name.now) in
-    let to_r : c.put_hash-at.result ≡ c.put_name-at.result + length hash = omega (arith, c.put_hash-at.ensures.end, hash_as_long (option_copied m.digest) c.head_of-head.ensures.digest) in
-    let to_s : c.fill.result ≡ c.put_hash-at.result + length (replicate {A = ℕ} m.gap 255) = omega (arith, length-replicate {A = ℕ} m.gap 255) in
-    let all = in_a_row c.args.out.now c.put-at.new.out c.put_name-at.new.out c.put_hash-at.new.out c.fill.new.out (head_bytes (described_head m)) (padded_name m.name.now) hash (replicate m.gap 255)
-    c.put-at.result c.put_name-at.result c.put_hash-at.result c.fill.result to_p to_q to_r to_s (omega arith) one c.put_name-at.ensures.puts c.put_hash-at.ensures.puts c.fill.ensures.puts in
-    grind arith
+    let name = m.name.now in
+    let d = option_copied m.digest in
+    let h : Head = made_head name m.kind d m.gap m.len in
+    let nuls = name_room (length name) - length name in
+    let head : c.write.result ≡ head_bytes h = c.write.ensures.bytes ∙ ap (λ (k : Head). head_bytes k) (grind arith) in
+    let zeros = ap (λ (k : ℕ). take k (replicate {A = ℕ} 4 0)) {x = c.meta_len-name_end.result - 24 - length name} (omega arith) ∙ take-replicate nuls 4 0 (omega arith) in
+    let items = in_a_row c.new-bytes.result.items _ _ _ _ _ (head_bytes h) name (replicate nuls 0) (hash_bytes d) (replicate m.gap 255) c.new-bytes.ensures (rw head at c.push_text.ensures.items) c.push_text-2.ensures.items
+    (c.push_text-3.ensures.items ∙ ap (λ (l : List ℕ). c.push_text-2.new.buffer.items ++ l) zeros) c.push_hash.ensures
+    (c.push_text-4.ensures.items ∙ ap (λ (l : List ℕ). c.push_hash.new.bytes.items ++ l) (take-replicate m.gap 63 255 (omega arith))) in
+    let copied : c.copy_from_slice.new.self ≡ c.push_text-4.new.buffer.items = c.copy_from_slice.ensures.after ∙ c.as_slice.ensures.value in
+    take_at c.copy_from_slice.new.self _ c.len-end.result (ap length copied ∙ sym c.len-end.ensures.value) ∙ copied ∙ items
