@@ -1,9 +1,9 @@
 //! The layout of a whole descriptor.
 
-ghost use Rattle.std.specs.Prelude.{◌≡◌, ◌≤◌, ◌<◌, ◌+◌, ◌*◌, ◌^◌, ◌⊎◌, ◌++◌, [], ℕ, length, map};
-ghost use Rattle.std.specs.Prelude.{vec_len, Some, None, suc, codes, OnOk, IfOk, IfErr, IsTrue};
+ghost use Rattle.std.specs.Prelude.{◌≡◌, ◌≤◌, ◌<◌, ◌+◌, ◌*◌, ◌^◌, ◌++◌, length};
+ghost use Rattle.std.specs.Prelude.{Some, None, suc, OnOk, IfOk, IfErr, IsTrue};
 ghost use Rattle.std.specs.Prelude.{nat_le};
-ghost use Rattle.std.specs.List.{list_all, list_any};
+ghost use Rattle.std.specs.List.{list_all};
 ghost use Rattle.std.specs.Result.{result_err};
 ghost use Rattle.fmd_lang.specs.Faults.{FailsWith};
 ghost use Rattle.fmd_lang.specs.Layout.{place_end, row_fault};

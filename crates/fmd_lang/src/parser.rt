@@ -1,9 +1,9 @@
 //! The parser. Each function returns a value and the next offset.
 
-ghost use Rattle.std.specs.Prelude.{◌≡◌, ◌≢◌, ◌≤◌, ◌<◌, ◌+◌, ◌⊎◌, ◌∷◌, ℕ, suc, length, true, false};
+ghost use Rattle.std.specs.Prelude.{◌≡◌, ◌≢◌, ◌≤◌, ◌<◌, ◌+◌, ◌∷◌, ℕ, suc, length, true, false};
 ghost use Rattle.std.specs.Prelude.{Some, None, Err, IfOk, IfErr, MatchOption, MatchResult};
 ghost use Rattle.std.specs.Result.{result_err};
-ghost use Rattle.fmd_lang.specs.Words.{words, words_after, kind_of};
+ghost use Rattle.fmd_lang.specs.Words.{words, words_after};
 ghost use Rattle.fmd_lang.specs.Tokens.{word_of, piece_end};
 ghost use Rattle.fmd_lang.specs.Faults.{Stage, depth_limit, fault_from, token_fault, FailsWith, start};
 ghost use Rattle.fmd_lang.specs.Faults.{past, at_sign, in_annotations, wanted_at, first_fault};
