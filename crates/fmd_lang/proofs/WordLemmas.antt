@@ -113,6 +113,6 @@ pub words_after-word : (text : List ℕ) (at n : ℕ) → at < length text → i
 unfolding words_after
 words_after-word text at n h blank comment len = elim (is_plain (slice_index text at)) as (λ v. is_plain (slice_index text at) ≡ v →
     words_after text at ≡ word at (slice_range text at (at + n)) ∷ words_after text (at + n)) [
-  | true ↦ λ plain. words_after-plain text at n h plain (grind (arith, nat_tests, here))
-  | false ↦ λ other. grind (arith, nat_tests, here, add-one)
-] refl
+      | true ↦ λ plain. words_after-plain text at n h plain (grind (arith, nat_tests, here))
+      | false ↦ λ other. grind (arith, nat_tests, here, add-one)
+    ] refl

@@ -3,7 +3,7 @@
 ghost use Rattle.std.specs.Prelude.{◌≡◌, ◌<◌, ◌+◌, ◌^◌, nat_eq};
 ghost use Rattle.std.specs.List.{position_or_len, prefix_len};
 ghost use Rattle.fmd_lang.specs.Words as spec;
-ghost use Rattle.fmd_lang.specs.Tokens.{IsFirst, piece_end};
+ghost use Rattle.fmd_lang.specs.ParserResults.{IsFirst, piece_end};
 
 /// The kind of a token, by the first byte.
 #[derive(Clone, Copy)]
