@@ -1,17 +1,15 @@
 -- Single tokens, expected and unexpected.
 use Rattle.std.proofs.lemmas.Bool.Decides.{nat_tests}
-use Rattle.std.proofs.Common.{Bool, true, false, ◌≡◌, ◌≢◌, ℕ, ◌<◌, ◌≤◌, List, [], ◌∷◌, ◌++◌, length, Some, None, Result, Ok, Err, refl, sym, ◌∙◌, ap, subst, arith, inl, inr, append_assoc}
-use Rattle.std.proofs.lemmas.List.{append-nil}
+use Rattle.std.proofs.Common.{Bool, true, false, ◌≡◌, ◌≢◌, ℕ, ◌<◌, ◌≤◌, List, [], ◌∷◌, ◌++◌, length, Some, Result, Ok, Err, refl, sym, ◌∙◌, ap, arith, inl, inr, append_assoc}
 use Rattle.fmd_lang.specs.Words.{Word, words_after, kind_of}
 use Rattle.fmd_lang.specs.Grammar.{One, Then, IsA, HasValue, annotation_flag}
-use Rattle.fmd_lang.specs.Faults.{Stage, Standing, in_annotations, next_standing, fault_from, wanted_at}
+use Rattle.fmd_lang.specs.Faults.{Stage, Standing, in_annotations, next_standing}
 use Rattle.fmd_lang.proofs.FormLemmas.{IsAnnotation, annotation-name}
 use Rattle.fmd_lang.specs.ParserResults.{Reads, Parses, IsNext, word_of, piece_end}
 use Rattle.fmd_lang.specs.declared.parser.Token.{Token}
 use Rattle.fmd_lang.specs.declared.word.Kind.{Kind}
 use Rattle.fmd_lang.specs.declared.word.Kind.TheVariants.{End, Name, Number}
 use Rattle.fmd_lang.specs.declared.fault.FmdFault.{FmdFault}
-use Rattle.fmd_lang.specs.declared.fault.FmdFault.TheVariants as faults
 
 -- ---- forms
 
@@ -28,10 +26,6 @@ reads-then {text = text} {to = to} p q = record {
 pub reads-as : {P Q : List Word → Type 0} {before after : Standing} {text : List ℕ} {from to : ℕ} →
     ((v : List Word) → P v → Q v) → Reads P before after text from to → Reads Q before after text from to
 reads-as wider p = record { ahead = p.ahead; front = p.front; split = p.split; form = wider p.front p.form; same = p.same }
-
-pub reads-all : {P : List Word → Type 0} {before after : Standing} {text : List ℕ} {from to : ℕ} →
-    Reads P before after text from to → words_after text to ≡ [] → P (words_after text from)
-reads-all {P = P} p none = subst P (sym (p.split ∙ ap (λ v. p.front ++ v) none ∙ append-nil p.front)) p.form
 
 -- ---- tokens
 
@@ -79,16 +73,6 @@ token-annotation {depth = depth} {token = token} {flag = flag} any next end know
     let stands : (b : Bool) → next_standing (in_annotations b) depth Name (Some flag) ≡ Some (in_annotations true, depth) =
     λ b. elim b as (λ b. next_standing (in_annotations b) depth Name (Some flag) ≡ Some (in_annotations true, depth)) [ true ↦ refl | false ↦ refl ] in
     token-takes (IsAnnotation flag) (in_annotations any) (in_annotations true, depth) Name next end name (λ e. cc) (rw known (stands any)) known
-
--- an unexpected token
-pub token-refuses : {text : List ℕ} {from depth : ℕ} {token : Token} (s : Stage) → IsNext text from depth token →
-    next_standing s depth token.kind (annotation_flag token.word.bytes.now) ≡ None →
-    fault_from (s, depth) (length text) (words_after text from) ≡ Some (faults.Expected token.word.place (wanted_at s depth token.kind))
-token-refuses {text = text} {depth = depth} {token = token} s next wrong = grind (arith, nat_tests)
-
-pub token-over : {text : List ℕ} {from depth : ℕ} {token : Token} → IsNext text from depth token → token.kind ≡ End →
-    words_after text from ≡ []
-token-over {token = token} next end = grind (arith, nat_tests)
 
 -- a token before a parsed part
 pub parses-after : {X : Type 0} {F : Word → Type 0} {before middle : Standing} {text : List ℕ} {from mid : ℕ}

@@ -93,3 +93,8 @@ first_fault text = if nat_lt text_limit (length text) then Some faults.TextTooLo
 abbrev pub FailsWith : {X : Type 0} → Option FmdFault → Result X FmdFault → Type 0
 FailsWith refusal (Ok x) = refusal ≡ None
 FailsWith refusal (Err fault) = (fault ≡ faults.Memory) ⊎ (refusal ≡ Some fault)
+
+-- the exact value or error, or an allocation failure
+abbrev pub Gives : {X Y : Type 0} → Result Y FmdFault → (X → Y) → Result X FmdFault → Type 0
+Gives exact value (Ok x) = exact ≡ Ok (value x)
+Gives exact value (Err fault) = (fault ≡ faults.Memory) ⊎ (exact ≡ Err fault)
