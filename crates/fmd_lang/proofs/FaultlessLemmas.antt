@@ -5,7 +5,7 @@ use Rattle.std.specs.Result.{result_err}
 use Rattle.std.proofs.lemmas.Bool.Decides.{nat_tests}
 use Rattle.std.proofs.lemmas.List.{append-nil}
 use Rattle.std.proofs.lemmas.List.Elements.{All-head, All-tail}
-use Rattle.fmd_lang.specs.Words.{Word, words, kind_of}
+use Rattle.fmd_lang.specs.Words.{words_after, Word, words, kind_of}
 use Rattle.fmd_lang.specs.Numbers.{number_at, literal_value}
 use Rattle.fmd_lang.specs.Tree.{Tree, section, Forest, none, some}
 use Rattle.fmd_lang.specs.ParserResults.{IsBody}
@@ -173,5 +173,5 @@ left (w ∷ ws) s depth end whole h =
     step s k flag depth w ws refl (All-head IsWhole w ws whole).0 refl own (rw stands behind)
 
 pub faultless-tree : (text : List ℕ) → first_fault text ≡ None → (t : Tree) × IsSection t (words text)
-unfolding first_fault words
+unfolding first_fault words_after
 faultless-tree text h = grind (arith, nat_tests, words_whole, cond-none, left, append-nil)

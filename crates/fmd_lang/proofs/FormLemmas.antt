@@ -1,6 +1,6 @@
 -- Annotations and sections, by token and by section.
 use Rattle.std.proofs.lemmas.Bool.Decides.{nat_tests}
-use Rattle.std.proofs.Common.{◌≡◌, ℕ, ◌<◌, Bool, true, false, List, [], ◌∷◌, ◌++◌, length, Some, None, option_map, refl, sym, ◌∙◌, ap, arith, append_assoc}
+use Rattle.std.proofs.Common.{◌≡◌, ℕ, ◌<◌, Bool, true, false, List, [], ◌∷◌, ◌++◌, length, Some, None, option_map, refl, sym, ◌∙◌, ap, arith, append_assoc, length-append}
 use Rattle.std.proofs.lemmas.List.{append-nil, map-append}
 use Rattle.std.proofs.lemmas.Slice.Eq.{bytes_eq-Decides}
 use Rattle.fmd_lang.specs.Faults.{token_fault}
@@ -30,9 +30,11 @@ flags-push (v ∷ ws) before flags flag w h is =
     let (f, known, rest) = and-then-some (annotation_flag v.bytes) (λ n. flags_with (bit_or before n) ws) flags h in
     rw known (flags-push ws (bit_or before f) flags flag w rest is)
 
-pub flags-snoc : (before flags flag : ℕ) (v : List Word) →
-    Then (λ ws. flags_with before ws ≡ Some flags) (One (IsAnnotation flag)) v → flags_with before v ≡ Some (bit_or flags flag)
-flags-snoc before flags flag v (front, back, split, all, (w, one, is)) = grind (arith, nat_tests, flags-push)
+pub flags-snoc : (any : Bool) (flags flag : ℕ) (v : List Word) →
+    Then (λ ws. (any ≡ true → 0 < length ws) × (flags_with 0 ws ≡ Some flags)) (One (IsAnnotation flag)) v →
+    (true ≡ true → 0 < length v) × (flags_with 0 v ≡ Some (bit_or flags flag))
+flags-snoc any flags flag v (front, back, split, (some, all), (w, one, is)) =
+    (λ e. omega (arith, ap length (split ∙ ap (λ b. front ++ b) one), length-append front (w ∷ [])), rw (split, one) (flags-push front 0 flags flag w all is))
 
 -- A test of all annotations holds for each annotation.
 pub each-annotation : (test : List ℕ × ℕ → Bool) → list_all test annotations ≡ true → (bytes : List ℕ) (flag : ℕ) →

@@ -10,4 +10,3 @@ pub mod WordLemmas
 pub mod RowLemmas
 pub mod NameLemmas
 pub mod LayoutLemmas
-pub mod PlaceLemmas

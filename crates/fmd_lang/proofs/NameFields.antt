@@ -11,7 +11,7 @@ use Rattle.std.proofs.lemmas.List.Sums.{take_while-cons}
 use Rattle.std.proofs.lemmas.List.Elements.{All-nil, All-cons, All-head, All-tail}
 use Rattle.flash_format.specs.Entry.{is_nul}
 use Rattle.flash_format.specs.Flashmap.{is_map_name, is_printing}
-use Rattle.fmd_lang.specs.Words.{Word, word, kind_of, is_blank, is_plain, words, words_from, without_comments}
+use Rattle.fmd_lang.specs.Words.{words_after, Word, word, kind_of, is_blank, is_plain, words, words_from, without_comments}
 use Rattle.fmd_lang.specs.Table.{field_of}
 use Rattle.fmd_lang.specs.Grammar.{IsA}
 use Rattle.fmd_lang.specs.declared.word.Kind.TheVariants.{End, Name}
@@ -63,7 +63,7 @@ all-behind P (w ∷ front) behind each = all-behind P front behind (All-tail P w
 
 pub first_name : (text : List ℕ) (first : Word) (rest : List Word) → words text ≡ first ∷ rest → IsA Name first →
     list_all is_plain first.bytes ≡ true
-unfolding words
+unfolding words_after
 first_name text first rest is named =
     let whole : All IsWhole (first ∷ rest) =
     subst (λ (ws : List Word). All IsWhole ws) is (words_whole 0 false (without_comments false text)) in

@@ -1,5 +1,5 @@
 -- Lemmas about options.
-use Rattle.std.proofs.Common.{◌≡◌, ◌≢◌, Option, Some, None, option_map, refl, Bool, true, false, cond}
+use Rattle.std.proofs.Common.{◌≡◌, ◌≢◌, Option, Some, None, refl, Bool, true, false, cond}
 use Rattle.std.specs.Option.{option_or, option_and_then, option_map_or}
 
 pub or-none : {A : Type 0} (a b : Option A) → option_or a b ≡ None → (a ≡ None) × (b ≡ None)
@@ -9,10 +9,6 @@ or-none (Some x) b h = cc
 pub or-other : {A : Type 0} {x : A} (a b : Option A) → a ≢ Some x → b ≢ Some x → option_or a b ≢ Some x
 or-other None b one other = other
 or-other (Some y) b one other = one
-
-pub map-none : {A B : Type 0} (f : A → B) (o : Option A) → option_map f o ≡ None → o ≡ None
-map-none f None h = refl
-map-none f (Some x) h = cc
 
 pub cond-none : {A : Type 0} (b : Bool) (x : A) (o : Option A) → cond b (Some x) o ≡ None → o ≡ None
 cond-none true x o h = cc

@@ -1,67 +1,78 @@
 -- The computed places are the only solution of the equations, unless a place is refused.
 use Rattle.std.proofs.lemmas.Bool.Decides.{nat_tests}
-use Rattle.std.proofs.Common.{◌≡◌, ℕ, ◌+◌, ◌-◌, ◌<◌, ◌≤◌, nat_le, true, IsTrue, List, [], ◌∷◌, ◌++◌, length, take, drop, get_or, add-one, Option, Some, None, Result, Ok, Err, IfOk, Vec, Global, refl, ◌∙◌, ap, arith}
+use Rattle.std.proofs.Common.{◌≡◌, ℕ, suc, nat_le, true, false, List, [], ◌∷◌, ◌++◌, length, Option, Some, None, Result, Ok, Err, refl, sym, ◌∙◌, ap, arith, append_assoc}
 use Rattle.std.specs.List.{list_all}
 use Rattle.std.proofs.lemmas.Bool.{le-leb}
-use Rattle.std.proofs.lemmas.List.{take_rest}
-use Rattle.std.proofs.Math.Seq.{drop-cons}
-use Rattle.fmd_lang.specs.Faults.{FailsWith}
-use Rattle.fmd_lang.specs.Layout.{place_of, places_of, place_end, IsPlaced, first_misfit, misfit_of, row_fault}
-use Rattle.fmd_lang.proofs.OptionLemmas.{or-none}
+use Rattle.std.proofs.lemmas.List.{append-nil}
+use Rattle.std.specs.Option.{option_map_or}
+use Rattle.fmd_lang.specs.declared.fault.FmdFault.TheVariants as faults
+use Rattle.fmd_lang.specs.Layout.{and_then, ambiguous_sibling, place_of, places_from, places_of, place_end, ArePlaced, IsPlaced}
 use Rattle.fmd_lang.specs.declared.fault.FmdFault.{FmdFault}
 use Rattle.fmd_lang.specs.declared.row.Sibling.{Sibling}
 use Rattle.fmd_lang.specs.declared.row.Place.{Place}
 
-abbrev pub make : ℕ → Option ℕ → Option ℕ → Sibling
+pub and_then-ok : {X Y : Type 0} (r : Result X FmdFault) (step : X → Result Y FmdFault) (y : Y) → and_then r step ≡ Ok y →
+    (x : X) × (r ≡ Ok x) × (step x ≡ Ok y)
+and_then-ok (Ok x) step y h = (x, refl, h)
+and_then-ok (Err fault) step y h = cc
+
+abbrev make : ℕ → Option ℕ → Option ℕ → Sibling
 make n o z = record { number = n; offset = o; size = z }
 
-pub fits : (parent from : ℕ) (p : Sibling) (q : Place) → misfit_of parent from p q ≡ None → (0 < q.size) × (place_end q ≤ parent)
-fits parent from p q h = (grind arith, grind arith)
+placed_one : (parent from n : ℕ) (o z : Option ℕ) (ps : List Sibling) (q : Place) →
+    place_of parent from (make n o z) ps ≡ Ok q → IsPlaced parent from (make n o z) ps q
+placed_one parent from n o None ps q h = grind (arith, nat_tests)
+placed_one parent from n o (Some s) ps q h = grind (arith, nat_tests)
 
-pub placed_one : (parent from n : ℕ) (o z : Option ℕ) (ps : List Sibling) →
-    misfit_of parent from (make n o z) (place_of parent from (make n o z) ps) ≡ None →
-    IsPlaced parent from (make n o z) ps (place_of parent from (make n o z) ps)
-placed_one parent from n o None ps h = grind (arith, nat_tests, fits)
-placed_one parent from n o (Some s) ps h = record { offset = refl; size = refl; fits = h }
+pub placed : (parent from : ℕ) (p : Sibling) (ps : List Sibling) (q : Place) → place_of parent from p ps ≡ Ok q →
+    IsPlaced parent from p ps q
+placed parent from p ps q h = placed_one parent from p.number p.offset p.size ps q h
 
-abbrev place : ℕ → ℕ → Place
-place start size = record { start = start; size = size }
+place-is : (parent from n : ℕ) (o z : Option ℕ) (ps : List Sibling) (q : Place) → IsPlaced parent from (make n o z) ps q →
+    place_of parent from (make n o z) ps ≡ Ok q
+place-is parent from n o None ps q is = grind (arith, nat_tests)
+place-is parent from n o (Some s) ps q is = grind (arith, nat_tests)
 
-same_place : (q r : Place) → q.start ≡ r.start → q.size ≡ r.size → q ≡ r
-same_place q r start size = ap (λ n. place n q.size) start ∙ ap (place r.start) size
+places-are : (ps : List Sibling) (parent from : ℕ) (qs made : List Place) → ArePlaced parent from ps qs →
+    places_from parent from ps made ≡ Ok (made ++ qs)
+places-are [] parent from qs made none = rw none (ap Ok (sym (append-nil made)))
+places-are (p ∷ ps) parent from [] made none = absurd none
+places-are (p ∷ ps) parent from (q ∷ qs) made (one, others) =
+    rw (place-is parent from p.number p.offset p.size ps q one)
+    (places-are ps parent (place_end q) qs (made ++ q ∷ []) others ∙ ap Ok (append_assoc made (q ∷ []) qs))
 
-pub place-is : (parent from n : ℕ) (o z : Option ℕ) (q : Place) (ps : List Sibling) →
-    IsPlaced parent from (make n o z) ps q → q ≡ place_of parent from (make n o z) ps
-place-is parent from n o None q ps placed = grind (arith, nat_tests, same_place)
-place-is parent from n o (Some s) q ps placed = grind (arith, nat_tests, same_place)
+are-placed : (ps : List Sibling) (parent from : ℕ) (made all : List Place) → places_from parent from ps made ≡ Ok all →
+    (qs : List Place) × (all ≡ made ++ qs) × ArePlaced parent from ps qs
+are-placed [] parent from made all h = ([], let same : made ≡ all = cc in sym same ∙ sym (append-nil made), refl)
+are-placed (p ∷ ps) parent from made all h =
+    let (q, one, rest) = and_then-ok (place_of parent from p ps) _ all h in
+    let (qs, same, others) = are-placed ps parent (place_end q) (made ++ q ∷ []) all rest in
+    (q ∷ qs, same ∙ append_assoc made (q ∷ []) qs, (placed parent from p ps q one, others))
 
-pub filled-inside : (ps : List Sibling) (parent from : ℕ) → first_misfit parent from ps (places_of parent from ps) ≡ None →
-    list_all (λ q. nat_le (place_end q) parent) (places_of parent from ps) ≡ true
-filled-inside [] parent from h = refl
-filled-inside (p ∷ ps) parent from h =
-    let q = place_of parent from p ps in
-    let (fine, others) = or-none (misfit_of parent from p q) (first_misfit parent (place_end q) ps (places_of parent (place_end q) ps)) h in
-    grind (arith, nat_tests, le-leb, fits, filled-inside ps parent (place_end q) others)
+unambiguous : {A : Type 0} (o : Option ℕ) (r : Result A FmdFault) (x : A) →
+    option_map_or (λ n. Err (faults.Ambiguous n)) o r ≡ Ok x → (o ≡ None) × (r ≡ Ok x)
+unambiguous None r x h = (refl, h)
+unambiguous (Some n) r x h = cc
 
-pub laid-inside : (parent : ℕ) (row : List Sibling) (r : Result (Vec Place Global) FmdFault) →
-    IfOk r (λ v. v.items ≡ places_of parent 0 row) → FailsWith (row_fault parent row) r →
-    IfOk r (λ v. IsTrue (list_all (λ q. nat_le (place_end q) parent) v.items))
-laid-inside parent row (Ok v) filled none = grind (arith, nat_tests, or-none, filled-inside)
-laid-inside parent row (Err fault) filled refused = tt
+pub valid-places : (parent : ℕ) (row : List Sibling) (places : List Place) → places_of parent row ≡ Ok places →
+    (ambiguous_sibling false row ≡ None) × ArePlaced parent 0 row places
+valid-places parent row places h =
+    let (clear, laid) = unambiguous (ambiguous_sibling false row) (places_from parent 0 row []) places h in
+    let (qs, same, are) = are-placed row parent 0 [] places laid in
+    (clear, rw same are)
 
--- the siblings `left` follow the accepted places `made`
-pub record IsLaid (parent from : ℕ) (row left : List Sibling) (made : List Place) : Type 0 where
-  pub fine : first_misfit parent 0 row (places_of parent 0 row) ≡ first_misfit parent from left (places_of parent from left)
-  pub places : places_of parent 0 row ≡ made ++ places_of parent from left
-  pub inside : from ≤ parent
+pub computed-places : (parent : ℕ) (row : List Sibling) (places : List Place) → ambiguous_sibling false row ≡ None →
+    ArePlaced parent 0 row places → places_of parent row ≡ Ok places
+computed-places parent row places clear are = rw clear (places-are row parent 0 places [] are)
 
--- The code sees the later siblings as a slice of the row.
-left-from : (row : List Sibling) (k : ℕ) (d : Sibling) → k < length row →
-    drop k row ≡ get_or row k d ∷ take (length row - (k + 1)) (drop (k + 1) row)
-left-from row k d there = rw (take_rest row (k + 1), drop-cons row k d there, add-one) refl
+pub length-placed : (ps : List Sibling) (parent from : ℕ) (qs : List Place) → ArePlaced parent from ps qs → length qs ≡ length ps
+length-placed [] parent from qs none = ap length none
+length-placed (p ∷ ps) parent from [] none = absurd none
+length-placed (p ∷ ps) parent from (q ∷ qs) (one, others) = ap suc (length-placed ps parent (place_end q) qs others)
 
-pub one-refused : {parent from : ℕ} {row : List Sibling} {made : List Place} {fault : FmdFault} (k : ℕ) (d : Sibling) →
-    IsLaid parent from row (drop k row) made → k < length row →
-    misfit_of parent from (get_or row k d) (place_of parent from (get_or row k d) (take (length row - (k + 1)) (drop (k + 1) row))) ≡ Some fault →
-    first_misfit parent 0 row (places_of parent 0 row) ≡ Some fault
-one-refused {row = row} k d laid there first = (rw (left-from row k d there) at laid).fine ∙ rw first refl
+pub placed-inside : (ps : List Sibling) (parent from : ℕ) (qs : List Place) → ArePlaced parent from ps qs →
+    list_all (λ q. nat_le (place_end q) parent) qs ≡ true
+placed-inside [] parent from qs none = rw none refl
+placed-inside (p ∷ ps) parent from [] none = absurd none
+placed-inside (p ∷ ps) parent from (q ∷ qs) (one, others) =
+    grind (arith, nat_tests, le-leb, placed-inside ps parent (place_end q) qs others)

@@ -1,45 +1,31 @@
 -- Single tokens, expected and unexpected.
 use Rattle.std.proofs.lemmas.Bool.Decides.{nat_tests}
-use Rattle.std.proofs.Common.{true, ◌≡◌, ◌≢◌, ℕ, ◌<◌, ◌≤◌, List, [], ◌∷◌, ◌++◌, length, Some, None, Result, Ok, Err, refl, sym, ◌∙◌, ap, subst, arith, inl, inr, append_assoc}
-use Rattle.std.proofs.lemmas.List.{append-nil}
+use Rattle.std.proofs.Common.{Bool, true, false, ◌≡◌, ◌≢◌, ℕ, ◌<◌, ◌≤◌, List, [], ◌∷◌, ◌++◌, length, Some, Result, Ok, Err, refl, sym, ◌∙◌, ap, arith, inl, inr, append_assoc}
 use Rattle.fmd_lang.specs.Words.{Word, words_after, kind_of}
 use Rattle.fmd_lang.specs.Grammar.{One, Then, IsA, HasValue, annotation_flag}
-use Rattle.fmd_lang.specs.Faults.{Stage, Standing, in_annotations, token_fault, next_standing, fault_from, wanted_at}
+use Rattle.fmd_lang.specs.Faults.{Stage, Standing, in_annotations, next_standing}
 use Rattle.fmd_lang.proofs.FormLemmas.{IsAnnotation, annotation-name}
-use Rattle.fmd_lang.specs.Tokens.{word_of, piece_end}
-use Rattle.fmd_lang.specs.ParserResults.{ParsesFront, Parses, IsNext}
+use Rattle.fmd_lang.specs.ParserResults.{Reads, Parses, IsNext, word_of, piece_end}
 use Rattle.fmd_lang.specs.declared.parser.Token.{Token}
 use Rattle.fmd_lang.specs.declared.word.Kind.{Kind}
 use Rattle.fmd_lang.specs.declared.word.Kind.TheVariants.{End, Name, Number}
 use Rattle.fmd_lang.specs.declared.fault.FmdFault.{FmdFault}
-use Rattle.fmd_lang.specs.declared.fault.FmdFault.TheVariants as faults
 
 -- ---- forms
 
--- an expected token
-pub reads-word : (F : Word → Type 0) (s : Stage) (after : Standing) (depth end : ℕ) (w : Word) (ws : List Word) (k : Kind) →
-    IsA k w → token_fault (kind_of w.bytes) depth w ≡ None → next_standing s depth k (annotation_flag w.bytes) ≡ Some after →
-    F w → ParsesFront (One F) (s, depth) after end (w ∷ ws) ws
-reads-word F s after depth end w ws k is own stands form =
-    record { front = w ∷ []; split = refl; form = (w, refl, form); same = rw (own, is, stands) refl }
-
-pub reads-then : {P Q : List Word → Type 0} {before middle after : Standing} {end : ℕ} {ws between behind : List Word} →
-    ParsesFront P before middle end ws between → ParsesFront Q middle after end between behind → ParsesFront (Then P Q) before after end ws behind
-reads-then {behind = behind} p q = record {
+pub reads-then : {P Q : List Word → Type 0} {before middle after : Standing} {text : List ℕ} {from mid to : ℕ} →
+    Reads P before middle text from mid → Reads Q middle after text mid to → Reads (Then P Q) before after text from to
+reads-then {text = text} {to = to} p q = record {
+  ahead = omega (arith, p.ahead, q.ahead);
   front = p.front ++ q.front;
-  split = p.split ∙ ap (λ v. p.front ++ v) q.split ∙ sym (append_assoc p.front q.front behind);
+  split = p.split ∙ ap (λ v. p.front ++ v) q.split ∙ sym (append_assoc p.front q.front (words_after text to));
   form = (p.front, q.front, refl, p.form, q.form);
   same = p.same ∙ q.same;
 }
 
-pub reads-as : {P Q : List Word → Type 0} {before after : Standing} {end : ℕ} {ws behind : List Word} →
-    ((v : List Word) → P v → Q v) →
-    ParsesFront P before after end ws behind → ParsesFront Q before after end ws behind
-reads-as wider p = record { front = p.front; split = p.split; form = wider p.front p.form; same = p.same }
-
-pub reads-all : {P : List Word → Type 0} {before after : Standing} {end : ℕ} {ws behind : List Word} →
-    ParsesFront P before after end ws behind → behind ≡ [] → P ws
-reads-all {P = P} p none = subst P (sym (p.split ∙ ap (λ v. p.front ++ v) none ∙ append-nil p.front)) p.form
+pub reads-as : {P Q : List Word → Type 0} {before after : Standing} {text : List ℕ} {from to : ℕ} →
+    ((v : List Word) → P v → Q v) → Reads P before after text from to → Reads Q before after text from to
+reads-as wider p = record { ahead = p.ahead; front = p.front; split = p.split; form = wider p.front p.form; same = p.same }
 
 -- ---- tokens
 
@@ -47,13 +33,26 @@ reads-all {P = P} p none = subst P (sym (p.split ∙ ap (λ v. p.front ++ v) non
 pub record Takes (F : Word → Type 0) (before after : Standing) (text : List ℕ) (from to : ℕ) : Type 0 where
   pub ahead : from < to
   pub inside : to ≤ length text
-  pub reads : ParsesFront (One F) before after (length text) (words_after text from) (words_after text to)
+  pub reads : Reads (One F) before after text from to
 
 pub token-takes : {text : List ℕ} {from depth to : ℕ} {token : Token} (F : Word → Type 0) (s : Stage) (after : Standing)
     (k : Kind) → IsNext text from depth token → to ≡ piece_end token.word → token.kind ≡ k → k ≢ End →
     next_standing s depth k (annotation_flag token.word.bytes.now) ≡ Some after → F (word_of token.word) →
     Takes F (s, depth) after text from to
-token-takes {text = text} {depth = depth} {token = token} F s after k next end kind some stands form = grind (arith, nat_tests, reads-word)
+token-takes {text = text} {depth = depth} {token = token} F s after k next end kind some stands form = elim next.first [
+  | inl over ↦ absurd (some (sym kind ∙ sym next.kind ∙ ap (λ w. kind_of w.bytes) over.1))
+  | inr first ↦ record {
+    ahead = omega (arith, first, end);
+    inside = omega (arith, first, end);
+    reads = record {
+      ahead = omega (arith, first, end);
+      front = word_of token.word ∷ [];
+      split = rw end first.0;
+      form = (word_of token.word, refl, form);
+      same = rw (first.0, next.clear, next.kind, kind, stands, end) refl;
+    };
+  }
+]
 
 pub token-mark : {text : List ℕ} {from depth to : ℕ} {token : Token} (s : Stage) (after : Standing) (k : Kind) →
     IsNext text from depth token → to ≡ piece_end token.word → token.kind ≡ k → k ≢ End →
@@ -66,30 +65,20 @@ pub token-number : {text : List ℕ} {from depth to : ℕ} {token : Token} {n : 
     Takes (HasValue n) (s, depth) after text from to
 token-number {token = token} {n = n} s after next end number stands = grind (arith, nat_tests, token-takes)
 
-pub token-annotation : {text : List ℕ} {from depth to : ℕ} {token : Token} {flag : ℕ} (s : Stage) → IsNext text from depth token →
+pub token-annotation : {text : List ℕ} {from depth to : ℕ} {token : Token} {flag : ℕ} (any : Bool) → IsNext text from depth token →
     to ≡ piece_end token.word → annotation_flag token.word.bytes.now ≡ Some flag →
-    next_standing s depth Name (Some flag) ≡ Some (in_annotations true, depth) →
-    Takes (IsAnnotation flag) (s, depth) (in_annotations true, depth) text from to
-token-annotation {depth = depth} {token = token} {flag = flag} s next end known stands =
+    Takes (IsAnnotation flag) (in_annotations any, depth) (in_annotations true, depth) text from to
+token-annotation {depth = depth} {token = token} {flag = flag} any next end known =
     let name = sym next.kind ∙ annotation-name token.word.bytes.now flag known in
-    token-takes (IsAnnotation flag) s (in_annotations true, depth) Name next end name (λ e. cc) (rw known stands) known
-
--- an unexpected token
-pub token-refuses : {text : List ℕ} {from depth : ℕ} {token : Token} (s : Stage) → IsNext text from depth token →
-    next_standing s depth token.kind (annotation_flag token.word.bytes.now) ≡ None →
-    fault_from (s, depth) (length text) (words_after text from) ≡ Some (faults.Expected token.word.place (wanted_at s depth token.kind))
-token-refuses {text = text} {depth = depth} {token = token} s next wrong = grind (arith, nat_tests)
-
-pub token-over : {text : List ℕ} {from depth : ℕ} {token : Token} → IsNext text from depth token → token.kind ≡ End →
-    words_after text from ≡ []
-token-over {token = token} next end = grind (arith, nat_tests)
+    let stands : (b : Bool) → next_standing (in_annotations b) depth Name (Some flag) ≡ Some (in_annotations true, depth) =
+    λ b. elim b as (λ b. next_standing (in_annotations b) depth Name (Some flag) ≡ Some (in_annotations true, depth)) [ true ↦ refl | false ↦ refl ] in
+    token-takes (IsAnnotation flag) (in_annotations any) (in_annotations true, depth) Name next end name (λ e. cc) (rw known (stands any)) known
 
 -- a token before a parsed part
 pub parses-after : {X : Type 0} {F : Word → Type 0} {before middle : Standing} {text : List ℕ} {from mid : ℕ}
     (P Q : X → List Word → Type 0) (after : Standing) (r : Result (X × ℕ) FmdFault) →
     ((x : X) (v : List Word) → Then (One F) (P x) v → Q x v) → Takes F before middle text from mid →
     Parses P middle after text mid r → Parses Q before after text from r
-parses-after P Q after (Ok (x, to)) wider word (ahead, reads) =
-    (omega (arith, word.ahead, ahead), reads-as (wider x) (reads-then word.reads reads))
+parses-after P Q after (Ok (x, to)) wider word reads = reads-as (wider x) (reads-then word.reads reads)
 parses-after P Q after (Err fault) wider word (inl memory) = inl memory
 parses-after P Q after (Err fault) wider word (inr same) = inr (word.reads.same ∙ same)

@@ -1,10 +1,10 @@
 -- The bytes of a table parse as a valid map.
 use Rattle.std.proofs.lemmas.Bool.Decides.{nat_tests}
-use Rattle.std.proofs.Common.{suc, ◌≡◌, inl, inr, ℕ, ◌+◌, ◌^◌, ◌<◌, ◌≤◌, nat_lt, true, All, List, [], ◌∷◌, ◌++◌, length, refl, sym, ◌∙◌, ap, subst, arith, rules}
+use Rattle.std.proofs.Common.{◌≡◌, inl, inr, ℕ, ◌+◌, ◌^◌, ◌<◌, ◌≤◌, nat_le, nat_lt, true, Ok, All, List, [], ◌∷◌, ◌++◌, length, refl, ◌∙◌, ap, subst, arith, rules}
 use Rattle.std.specs.Prelude.{Option, Some, None, unwrap_or}
 use Rattle.std.specs.Int.Bits.{bit_or}
 use Rattle.std.proofs.lemmas.Nat.{or_lt}
-use Rattle.std.proofs.lemmas.Bool.{ltb-true}
+use Rattle.std.proofs.lemmas.Bool.{leb-true, ltb-true}
 use Rattle.std.proofs.lemmas.List.Elements.{All-nil, All-cons, All-append}
 use Rattle.flash_format.specs.declared.flashmap.Area.{Area}
 use Rattle.flash_format.specs.Flashmap.{is_map_name}
@@ -13,14 +13,16 @@ use Rattle.flash_format.proofs.MapBytes.{maps_read_back}
 use Rattle.fmd_lang.specs.Words.{Word, words}
 use Rattle.fmd_lang.specs.Faults.{first_fault}
 use Rattle.fmd_lang.specs.LayoutFaults.{layout_fault}
-use Rattle.fmd_lang.specs.Tree.{Tree, section, Forest, none, some, section_count}
+use Rattle.fmd_lang.specs.Tree.{Tree, section, Forest, none, some}
 use Rattle.fmd_lang.specs.Grammar.{AreAnnotations, AreSections, IsSection, annotation_flag, flags_with}
-use Rattle.fmd_lang.specs.Layout.{place_end, sibling}
-use Rattle.fmd_lang.specs.Table.{field_of, AreasBelow, AreasOf, IsTable, section_area, table_bytes, table_head}
+use Rattle.fmd_lang.specs.Layout.{place_end, places_of, siblings}
+use Rattle.fmd_lang.specs.Table.{field_of, areas_below, areas_of, IsTable, section_area, table_bytes, table_head}
 use Rattle.fmd_lang.specs.declared.row.Place.{Place}
 use Rattle.fmd_lang.specs.declared.table.Table.{Table}
 use Rattle.fmd_lang.proofs.FaultlessTables.{Fits, few_areas, numbers_fit, offset_fits, size_fits}
-use Rattle.fmd_lang.proofs.RowLemmas.{fits}
+use Rattle.fmd_lang.proofs.RowLemmas.{and_then-ok, placed-inside, valid-places}
+use Rattle.std.specs.List.{list_all}
+use Rattle.std.specs.Cmp.{first_so, second_so}
 use Rattle.fmd_lang.proofs.NameFields.{all-behind, field_long, field_named, first_name}
 use Rattle.fmd_lang.proofs.FormLemmas.{each-annotation}
 use Rattle.fmd_lang.proofs.OptionLemmas.{and-then-some}
@@ -55,23 +57,30 @@ parts-are name flags offset given parts ws (a, b, split, named, (c, d, more, ann
 
 mutual
   -- if a section ends below 2^32, each area below fits into the fields
-  areas_fit : (t : Tree) (ws : List Word) (n at size : ℕ) (areas : List Area) → IsSection t ws → at + size < 2 ^ 32 →
-      AreasBelow n at size t areas → All IsAreaInBytes areas
-  areas_fit (section name flags offset given parts) ws n at size areas is small (clear, are) =
+  areas_fit : (t : Tree) (ws : List Word) (at size : ℕ) (areas new : List Area) → IsSection t ws → at + size < 2 ^ 32 →
+      All IsAreaInBytes areas → areas_below at size t areas ≡ Ok new → All IsAreaInBytes new
+  areas_fit (section name flags offset given parts) ws at size areas new is small so_far h =
       let (inner, sections) = parts-are name flags offset given parts ws is in
-      parts_fit parts inner (suc n) at size 0 areas sections small are
+      let row = siblings (length areas + 1) parts in
+      let (qs, placed, rest) = and_then-ok (places_of size row) (areas_of at parts areas) new h in
+      let inside = placed-inside row size 0 qs (valid-places size row qs placed).1 in
+      parts_fit parts inner at size areas new qs sections small inside so_far rest
 
-  parts_fit : (ts : Forest) (ws : List Word) (n at size from : ℕ) (areas : List Area) → AreSections ts ws →
-      at + size < 2 ^ 32 → AreasOf n at size from ts areas → All IsAreaInBytes areas
-  parts_fit none ws n at size from areas sections small are =
-      subst (λ (l : List Area). All IsAreaInBytes l) (sym are) (All-nil IsAreaInBytes)
-  parts_fit (some t ts) ws n at size from areas (front, rest, shape, one, others) small (q, below, after, is, here, inner, outer) =
-      let inside : place_end q ≤ size = (fits size from (sibling n t) q here.fits).1 in
-      subst (λ (l : List Area). All IsAreaInBytes l) (sym is)
-      (All-cons IsAreaInBytes (section_area at q t) (below ++ after)
-      (area_fits t front at q one (omega (arith, inside, small))) (All-append IsAreaInBytes below after
-      (areas_fit t front n (at + q.start) q.size below one (omega (arith, inside, small)) inner)
-      (parts_fit ts rest (n + section_count t) at size (place_end q) after others small outer)))
+  parts_fit : (ts : Forest) (ws : List Word) (at size : ℕ) (areas new : List Area) (qs : List Place) → AreSections ts ws →
+      at + size < 2 ^ 32 → list_all (λ q. nat_le (place_end q) size) qs ≡ true → All IsAreaInBytes areas →
+      areas_of at ts areas qs ≡ Ok new → All IsAreaInBytes new
+  parts_fit none ws at size areas new qs sections small inside so_far h =
+      let same : areas ≡ new = cc in subst (All IsAreaInBytes) same so_far
+  parts_fit (some t ts) ws at size areas new [] sections small inside so_far h =
+      let same : areas ≡ new = cc in subst (All IsAreaInBytes) same so_far
+  parts_fit (some t ts) ws at size areas new (q ∷ qs) (front, rest, shape, one, others) small inside so_far h =
+      let a = section_area at q t in
+      let (more, below, behind) = and_then-ok (areas_below (at + q.start) q.size t (areas ++ a ∷ [])) (λ l. areas_of at ts l qs) new h in
+      let ends : place_end q ≤ size = leb-true (place_end q) size (first_so (nat_le (place_end q) size) _ inside) in
+      let first = area_fits t front at q one (omega (arith, ends, small)) in
+      let all = areas_fit t front (at + q.start) q.size (areas ++ a ∷ []) more one (omega (arith, ends, small))
+      (All-append IsAreaInBytes areas (a ∷ []) so_far (All-cons IsAreaInBytes a [] first (All-nil IsAreaInBytes))) below in
+      parts_fit ts rest at size more new qs others small (second_so (nat_le (place_end q) size) _ inside) all behind
 
 -- ---- the table
 
@@ -99,5 +108,5 @@ table_read (section name flags offset given parts) text more table fine is laid 
       named = ap is_map_name called ∙ good;
       counted = refl;
       few = few_areas t table.size table.areas.items laid areas;
-      each = areas_fit t (words text) 0 0 table.size table.areas.items is (omega (arith, size)) areas;
+      each = areas_fit t (words text) 0 table.size [] table.areas.items is (omega (arith, size)) (All-nil IsAreaInBytes) areas;
     })

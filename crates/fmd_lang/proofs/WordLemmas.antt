@@ -1,12 +1,10 @@
 -- The tokens of a text, by byte.
 use Rattle.std.proofs.lemmas.Bool.Decides.{nat_tests}
-use Rattle.std.proofs.Common.{◌≡◌, ℕ, suc, ◌+◌, ◌-◌, ◌<◌, ◌≤◌, nat_eq, Bool, true, false, cond, List, [], ◌∷◌, length, drop, refl, sym, ◌∙◌, ap, arith, slice_index, slice_range, add-one}
+use Rattle.std.proofs.Common.{◌≡◌, ℕ, suc, ◌+◌, ◌-◌, ◌<◌, ◌≤◌, nat_eq, Bool, true, false, cond, List, [], ◌∷◌, length, drop, refl, sym, ◌∙◌, ap, arith, slice_index, slice_range, add-one, max}
 use Rattle.std.proofs.Math.Seq.{drop-cons}
 use Rattle.std.proofs.lemmas.List.{drop_all, drop-drop, length-drop, take_all}
-use Rattle.std.proofs.lemmas.Grind.{common_steps}
 use Rattle.std.proofs.lemmas.List.Sums.{take_while-cons}
 use Rattle.std.specs.List.{position_or_len, prefix_len, take_while}
-use Rattle.fmd_lang.specs.Tokens.{begins_word}
 use Rattle.fmd_lang.specs.Words.{words_from, without_comments, words_after, word, is_blank, is_plain}
 
 pub here : (text : List ℕ) (at : ℕ) → at < length text → drop at text ≡ slice_index text at ∷ drop (at + 1) text
@@ -50,7 +48,7 @@ comment-rest (b ∷ s) at = go (nat_eq b 10) refl (comment-rest s (suc at))
         rw (e, more) (rw shift at rest)
 
 pub words_after-comment : (text : List ℕ) (at : ℕ) → at < length text → nat_eq (slice_index text at) 35 ≡ true →
-    words_after text at ≡ words_after text (at + (1 + position_or_len (λ b. nat_eq b 10) (drop (at + 1) text)))
+    words_after text at ≡ words_after text (at + position_or_len (λ b. nat_eq b 10) (drop at text))
 unfolding words_after
 words_after-comment text at h comment = grind (arith, nat_tests, here, add-one, comment-rest, drop-drop)
 
@@ -99,22 +97,22 @@ begins b s at plain =
     let longer = take_while-cons is_plain b (without_comments false s) in
     grind (arith, nat_tests, add-one, row)
 
-pub words_after-plain : (text : List ℕ) (at : ℕ) → at < length text → is_plain (slice_index text at) ≡ true →
-    let end = at + 1 + prefix_len is_plain (drop (at + 1) text) in
-    words_after text at ≡ word at (slice_range text at end) ∷ words_after text end
+words_after-plain : (text : List ℕ) (at n : ℕ) → at < length text → is_plain (slice_index text at) ≡ true →
+    n ≡ suc (prefix_len is_plain (drop (at + 1) text)) →
+    words_after text at ≡ word at (slice_range text at (at + n)) ∷ words_after text (at + n)
 unfolding words_after
-words_after-plain text at h plain =
-    let rest = drop (at + 1) text in
-    let n = prefix_len is_plain rest in
-    let len : at + 1 + n - at ≡ suc n = omega arith in
-    let place : n + (at + 1) ≡ at + 1 + n = omega arith in
+words_after-plain text at n h plain len =
+    let more : at + n - at ≡ n = omega arith in
+    let place : prefix_len is_plain (drop (at + 1) text) + (at + 1) ≡ at + n = omega arith in
     grind (arith, here, begins, row, drop-drop)
 
-pub words_after-single : (text : List ℕ) (at : ℕ) → at < length text → is_plain (slice_index text at) ≡ false →
-    begins_word (slice_index text at) ≡ true →
-    words_after text at ≡ word at (slice_range text at (at + 1)) ∷ words_after text (at + 1)
+-- A token has at least one byte.
+pub words_after-word : (text : List ℕ) (at n : ℕ) → at < length text → is_blank (slice_index text at) ≡ false →
+    nat_eq (slice_index text at) 35 ≡ false → n ≡ max (prefix_len is_plain (drop at text)) 1 →
+    words_after text at ≡ word at (slice_range text at (at + n)) ∷ words_after text (at + n)
 unfolding words_after
-words_after-single text at h plain begins = grind (arith, nat_tests, here, add-one)
-
-pub over-word : (text : List ℕ) (at : ℕ) → at ≡ length text → word at (slice_range text at (length text)) ≡ word (length text) []
-over-word text at e = grind (arith, common_steps)
+words_after-word text at n h blank comment len = elim (is_plain (slice_index text at)) as (λ v. is_plain (slice_index text at) ≡ v →
+    words_after text at ≡ word at (slice_range text at (at + n)) ∷ words_after text (at + n)) [
+      | true ↦ λ plain. words_after-plain text at n h plain (grind (arith, nat_tests, here))
+      | false ↦ λ other. grind (arith, nat_tests, here, add-one)
+    ] refl

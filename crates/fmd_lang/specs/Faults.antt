@@ -4,7 +4,7 @@ use Rattle.std.specs.Prelude.{◌≡◌, ◌⊎◌, Result, Ok, Err, ℕ, suc, z
 use Rattle.std.specs.Prelude.{if◌then◌else◌, List, [], ◌∷◌, length, Option, Some, None}
 use Rattle.std.specs.Option.{option_map_or, option_or}
 use Rattle.std.specs.Result.{result_err}
-use Rattle.fmd_lang.specs.Words.{Word, word, words, kind_of}
+use Rattle.fmd_lang.specs.Words.{Word, word, words_after, kind_of}
 use Rattle.fmd_lang.specs.Numbers.{number_at, literal_value}
 use Rattle.fmd_lang.specs.Grammar.{annotation_flag}
 use Rattle.fmd_lang.specs.declared.word.Kind.{Kind}
@@ -77,15 +77,24 @@ abbrev pub fault_from : Standing → ℕ → List Word → Option FmdFault
 fault_from there end [] = fault_after there (word end []) (λ t. None)
 fault_from there end (w ∷ ws) = fault_after there w (λ t. fault_from t end ws)
 
+-- the first fault of a text's tokens from an offset on
+abbrev pub fault_at : List ℕ → ℕ → Standing → Option FmdFault
+fault_at text from there = fault_from there (length text) (words_after text from)
+
 -- the maximum length of a text, in bytes
 abbrev pub text_limit : ℕ
 text_limit = 1048576
 
 unfoldable pub first_fault : List ℕ → Option FmdFault
 first_fault text = if nat_lt text_limit (length text) then Some faults.TextTooLong
-    else fault_from (start, 0) (length text) (words text)
+    else fault_at text 0 (start, 0)
 
 -- success implies no fault; an error is the given fault, or an allocation failure
 abbrev pub FailsWith : {X : Type 0} → Option FmdFault → Result X FmdFault → Type 0
 FailsWith refusal (Ok x) = refusal ≡ None
 FailsWith refusal (Err fault) = (fault ≡ faults.Memory) ⊎ (refusal ≡ Some fault)
+
+-- the exact value or error, or an allocation failure
+abbrev pub Gives : {X Y : Type 0} → Result Y FmdFault → (X → Y) → Result X FmdFault → Type 0
+Gives exact value (Ok x) = exact ≡ Ok (value x)
+Gives exact value (Err fault) = (fault ≡ faults.Memory) ⊎ (exact ≡ Err fault)

@@ -1,9 +1,9 @@
 -- The places of sections. Relative offsets and omitted sizes are coreboot's rules
 -- (Documentation/lib/flashmap.md); conditions and results of omitted sizes are this project's own.
-use Rattle.std.specs.Prelude.{◌≡◌, ℕ, ◌+◌, ◌-◌, nat_eq, nat_lt, Bool, false, ◌&&◌, ◌||◌, not}
-use Rattle.std.specs.Prelude.{if◌then◌else◌, List, [], ◌∷◌, Option, Some, None, option_map}
-use Rattle.std.specs.Prelude.{unwrap_or, is_some, MatchOption}
-use Rattle.std.specs.Option.{option_or}
+use Rattle.std.specs.Prelude.{◌≡◌, ℕ, ◌+◌, ◌-◌, ◌<◌, ◌≤◌, nat_eq, nat_lt, Bool, false, ◌&&◌, ◌||◌}
+use Rattle.std.specs.Prelude.{not, if◌then◌else◌, List, [], ◌∷◌, ◌++◌, Option, Some, None, Result}
+use Rattle.std.specs.Prelude.{Ok, Err, unwrap_or, is_some, MatchOption}
+use Rattle.std.specs.Option.{option_map_or}
 use Rattle.fmd_lang.specs.Tree.{Tree, section, Forest, none, some, section_count}
 use Rattle.fmd_lang.specs.declared.row.Sibling.{Sibling}
 use Rattle.fmd_lang.specs.declared.row.Place.{Place}
@@ -24,18 +24,21 @@ abbrev pub sizes_ahead : List Sibling → ℕ
 sizes_ahead [] = 0
 sizes_ahead (p ∷ ps) = if is_some p.offset then 0 else unwrap_or p.size 0 + sizes_ahead ps
 
--- the fault of a place, if the previous sibling ends at `from`
-abbrev pub misfit_of : ℕ → ℕ → Sibling → Place → Option FmdFault
-misfit_of parent from p q = if nat_eq q.size 0 then Some (faults.EmptySection p.number)
-    else (if nat_lt q.start from then Some (faults.Overlap p.number)
-    else (if nat_lt parent (place_end q) then Some (faults.Outside p.number) else None))
-
 -- The place of a sibling after `from` and before `ps`. An omitted size extends the run to the
 -- bound.
 pub record IsPlaced (parent from : ℕ) (p : Sibling) (ps : List Sibling) (q : Place) : Type 0 where
   pub offset : q.start ≡ unwrap_or p.offset from
   pub size : MatchOption p.size (place_end q + sizes_ahead ps ≡ bound parent ps) (λ n. q.size ≡ n)
-  pub fits : misfit_of parent from p q ≡ None
+  pub not_empty : 0 < q.size
+  pub after : from ≤ q.start
+  pub inside : place_end q ≤ parent
+
+-- the places of a row, if the previous sibling ends at `from`
+abbrev pub ArePlaced : ℕ → ℕ → List Sibling → List Place → Type 0
+ArePlaced parent from [] qs = qs ≡ []
+ArePlaced parent from (p ∷ ps) [] = ⊥
+ArePlaced parent from (p ∷ ps) (q ∷ qs) =
+    IsPlaced parent from p ps q × ArePlaced parent (place_end q) ps qs
 
 -- the first sibling with the second omitted size of a run; the flag records an omitted size
 abbrev pub ambiguous_sibling : Bool → List Sibling → Option ℕ
@@ -44,25 +47,33 @@ ambiguous_sibling omitted (p ∷ ps) = let before = omitted && not (is_some p.of
     if before && not (is_some p.size) then Some p.number
     else ambiguous_sibling (before || not (is_some p.size)) ps
 
--- The computed place: an omitted size is the rest up to the bound, or 0.
-abbrev pub place_of : ℕ → ℕ → Sibling → List Sibling → Place
+-- ---- the computed places
+
+-- the result of two steps
+abbrev pub and_then : {X Y : Type 0} → Result X FmdFault → (X → Result Y FmdFault)
+    → Result Y FmdFault
+and_then (Ok x) step = step x
+and_then (Err fault) step = Err fault
+
+-- The place, or the fault: an omitted size is the rest up to the bound, or 0.
+abbrev pub place_of : ℕ → ℕ → Sibling → List Sibling → Result Place FmdFault
 place_of parent from p ps = let start = unwrap_or p.offset from in
-    record { start = start; size = unwrap_or p.size (bound parent ps - (start + sizes_ahead ps)) }
+    let size = unwrap_or p.size (bound parent ps - (start + sizes_ahead ps)) in
+    if nat_eq size 0 then Err (faults.EmptySection p.number)
+    else (if nat_lt start from then Err (faults.Overlap p.number)
+    else (if nat_lt parent (start + size) then Err (faults.Outside p.number)
+    else Ok (record { start = start; size = size })))
 
-abbrev pub places_of : ℕ → ℕ → List Sibling → List Place
-places_of parent from [] = []
-places_of parent from (p ∷ ps) =
-    place_of parent from p ps ∷ places_of parent (place_end (place_of parent from p ps)) ps
+-- the places of the siblings after `from`, added to `qs`
+abbrev pub places_from : ℕ → ℕ → List Sibling → List Place → Result (List Place) FmdFault
+places_from parent from [] qs = Ok qs
+places_from parent from (p ∷ ps) qs = and_then (place_of parent from p ps)
+    (λ q. places_from parent (place_end q) ps (qs ++ q ∷ []))
 
-abbrev pub first_misfit : ℕ → ℕ → List Sibling → List Place → Option FmdFault
-first_misfit parent from (p ∷ ps) (q ∷ qs) =
-    option_or (misfit_of parent from p q) (first_misfit parent (place_end q) ps qs)
-first_misfit parent from ps qs = None
-
--- the first fault of a row: omitted sizes precede places
-abbrev pub row_fault : ℕ → List Sibling → Option FmdFault
-row_fault parent ps = option_or (option_map faults.Ambiguous (ambiguous_sibling false ps))
-    (first_misfit parent 0 ps (places_of parent 0 ps))
+-- the places of a row, or the first fault: omitted sizes precede places
+abbrev pub places_of : ℕ → List Sibling → Result (List Place) FmdFault
+places_of parent ps = option_map_or (λ n. Err (faults.Ambiguous n)) (ambiguous_sibling false ps)
+    (places_from parent 0 ps [])
 
 -- sections as siblings, with preorder numbers from `n`
 abbrev pub sibling : ℕ → Tree → Sibling

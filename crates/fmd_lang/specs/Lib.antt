@@ -5,6 +5,5 @@ pub mod Grammar
 pub mod Faults
 pub mod Layout
 pub mod Table
-pub mod Tokens
 pub mod ParserResults
 pub mod LayoutFaults

@@ -13,20 +13,18 @@ plain_value (b ∷ x ∷ ds) = if nat_eq b 48 then (if nat_eq x 120 then digits_
     else digits_value 10 (b ∷ x ∷ ds)
 plain_value bytes = digits_value 10 bytes
 
--- the factor of a unit, or 1
-abbrev pub unit_value : ℕ → ℕ
-unit_value b = unwrap_or (lookup (nat_eq b) ((75, 1024) ∷ (77, 1048576) ∷ (71, 1073741824) ∷ [])) 1
-
-abbrev pub last_byte : List ℕ → ℕ
-last_byte bytes = slice_index bytes (length bytes - 1)
+-- the factor of the last byte, if a unit, or 1
+abbrev pub unit_of : List ℕ → ℕ
+unit_of text = let last = slice_index text (length text - 1) in
+    unwrap_or (lookup (nat_eq last) ((75, 1024) ∷ (77, 1048576) ∷ (71, 1073741824) ∷ [])) 1
 
 -- the bytes before the unit
 abbrev pub front_of : List ℕ → List ℕ
-front_of text = if nat_eq (unit_value (last_byte text)) 1 then text else take (length text - 1) text
+front_of text = if nat_eq (unit_of text) 1 then text else take (length text - 1) text
 
 -- the value of a number with at most a single unit
 unfoldable pub literal_value : List ℕ → Option ℕ
-literal_value text = option_map (λ n. n * unit_value (last_byte text)) (plain_value (front_of text))
+literal_value text = option_map (λ n. n * unit_of text) (plain_value (front_of text))
 
 -- the value below 2^32, or the fault
 abbrev pub number_at : ℕ → Option ℕ → Result ℕ FmdFault

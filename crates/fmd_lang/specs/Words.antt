@@ -41,9 +41,6 @@ words_from place inside (b ∷ bs) = let others = words_from (suc place) (is_pla
     if is_blank b then others else (if not (is_plain b) then word place (b ∷ []) ∷ others
     else (if inside then others else word place (take_while is_plain (b ∷ bs)) ∷ others))
 
-unfoldable pub words : List ℕ → List Word
-words text = words_from 0 false (without_comments false text)
-
 abbrev pub marks : List (ℕ × Kind)
 marks = (40, OpenParen) ∷ (41, CloseParen) ∷ (64, At) ∷ (123, OpenBrace) ∷ (125, CloseBrace) ∷ []
 
@@ -56,3 +53,6 @@ kind_of (b ∷ bs) = unwrap_or (lookup (nat_eq b) marks)
 -- the tokens from an offset on, outside any token or comment
 unfoldable pub words_after : List ℕ → ℕ → List Word
 words_after text at = words_from at false (without_comments false (drop at text))
+
+abbrev pub words : List ℕ → List Word
+words text = words_after text 0

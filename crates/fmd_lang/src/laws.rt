@@ -1,6 +1,6 @@
 //! Laws of the definitions: each contract is a law.
 
-ghost use Rattle.std.specs.Prelude.{◌≡◌, ◌≢◌, ℕ, List, ◌++◌, Some, None};
+ghost use Rattle.std.specs.Prelude.{◌≡◌, ◌≢◌, ◌↔◌, ℕ, List, ◌++◌, Some, None, Ok, false};
 ghost use Rattle.flash_format.specs.Laws.{IsReadAsMap};
 ghost use Rattle.fmd_lang.specs.Table.{table_bytes, table_head, IsTable};
 ghost use Rattle.fmd_lang.specs.Tree.{Tree};
@@ -8,7 +8,10 @@ ghost use Rattle.fmd_lang.specs.Words.{words};
 ghost use Rattle.fmd_lang.specs.Grammar.{IsSection};
 ghost use Rattle.fmd_lang.specs.Faults.{first_fault};
 ghost use Rattle.fmd_lang.specs.declared.fault.Expected.{Expected};
-ghost use Rattle.fmd_lang.specs.LayoutFaults.{layout_fault, parent_fault};
+ghost use Rattle.fmd_lang.specs.LayoutFaults.{layout_fault};
+ghost use Rattle.fmd_lang.specs.Layout.{ambiguous_sibling, places_of, ArePlaced};
+ghost use Rattle.fmd_lang.specs.declared.row.Sibling.{Sibling};
+ghost use Rattle.fmd_lang.specs.declared.row.Place.{Place};
 
 use crate::fault::FmdFault;
 use crate::table::Table;
@@ -30,9 +33,11 @@ pub fn faultless_texts_have_a_tree(text: &[u8])
     ensures { (t : Tree) × IsSection t (words text.now) }
 {}
 
-/// A valid layout has no fault below any parent.
-pub fn laid_sections_have_no_fault(table: &Table)
-    ensures { (t : Tree) → IsTable t table.now → parent_fault 0 table.now.size t ≡ None }
+/// Valid places are the computed ones, and have no fault.
+pub fn laid_sections_have_no_fault()
+    ensures { (parent : ℕ) (row : List Sibling) (places : List Place)
+        → (ambiguous_sibling false row ≡ None) × ArePlaced parent 0 row places
+        ↔ (places_of parent row ≡ Ok places) }
 {}
 
 /// A tree has at most one table.

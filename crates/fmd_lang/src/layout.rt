@@ -1,14 +1,9 @@
 //! The layout of a whole descriptor.
 
-ghost use Rattle.std.specs.Prelude.{◌≡◌, ◌≤◌, ◌<◌, ◌+◌, ◌*◌, ◌^◌, ◌⊎◌, ◌++◌, [], ℕ, length, map};
-ghost use Rattle.std.specs.Prelude.{vec_len, Some, None, suc, codes, OnOk, IfOk, IfErr, IsTrue};
-ghost use Rattle.std.specs.Prelude.{nat_le};
-ghost use Rattle.std.specs.List.{list_all, list_any};
-ghost use Rattle.std.specs.Result.{result_err};
-ghost use Rattle.fmd_lang.specs.Faults.{FailsWith};
-ghost use Rattle.fmd_lang.specs.Layout.{place_end, row_fault};
-ghost use Rattle.fmd_lang.specs.declared.section.Section.{out-Section};
-ghost use Rattle.fmd_lang.specs.Tree.{section_count, size_of, names, names_of, view, views};
+ghost use Rattle.std.specs.Prelude.{◌≡◌, ◌≤◌, ◌<◌, ◌+◌, ◌*◌, ◌^◌, length};
+ghost use Rattle.std.specs.Prelude.{Some, None, Ok, IfOk};
+ghost use Rattle.fmd_lang.specs.Faults.{FailsWith, Gives};
+ghost use Rattle.fmd_lang.specs.Tree.{section_count, names, names_of, view, views};
 ghost use Rattle.fmd_lang.specs.Layout as spec;
 ghost use Rattle.fmd_lang.specs.Table.{area_limit, areas_below, IsTable};
 ghost use Rattle.fmd_lang.specs.Table as spec_table;
@@ -17,7 +12,7 @@ ghost use Rattle.fmd_lang.specs.LayoutFaults.{layout_fault};
 
 use crate::fault::FmdFault;
 use crate::names::{check_names_of, field_of};
-use crate::row::{Place, Sibling, lay_row};
+use crate::row::{Sibling, lay_row};
 use crate::section::Section;
 use crate::table::Table;
 use flash_format::{Area, FmapHead};
@@ -28,31 +23,25 @@ use std::alloc::Global;
 #[tactic(auto, unfolding(crate::specs::LayoutFaults::layout_fault))]
 pub fn lay_out(alloc: Global, root: &Section) -> Result<Table, FmdFault>
     ensures table { IfOk result (λ table. IsTable (view root.now) table) }
-    ensures few { IfOk result (λ table. length table.areas.items ≤ area_limit) }
     ensures refused { FailsWith (layout_fault (view root.now)) result }
 {
     check_names_of(alloc, root)?;
-    let size = root_size(root)?;
+    let size = match root.size {
+        None => return Err(FmdFault::Ambiguous { section: 0 }),
+        Some(0) => return Err(FmdFault::EmptySection { section: 0 }),
+        Some(size) => size,
+    };
     let mut areas = Vec::new(alloc);
     push_areas(alloc, root, 0, size, &mut areas)?;
-    check_fmap(&areas)?;
+    if (fmap_size(&areas) as usize) < FmapHead::LENGTH + Area::LENGTH * areas.len() {
+        return Err(FmdFault::FmapTooSmall);
+    }
     Ok(Table {
         base: u64::from(root.offset.unwrap_or(0)),
         size,
         name: field_of(&root.name),
         areas,
     })
-}
-
-fn root_size(root: &Section) -> Result<u32, FmdFault>
-    ensures size { IfOk result (λ size. size_of (view root.now) ≡ Some size) }
-    ensures fault { faults.size_fault (size_of (view root.now)) ≡ result_err result }
-{
-    match root.size {
-        None => Err(FmdFault::Ambiguous { section: 0 }),
-        Some(0) => Err(FmdFault::EmptySection { section: 0 }),
-        Some(size) => Ok(size),
-    }
 }
 
 /// Pushes the areas below section number `areas.len()`, which begins at `at`.
@@ -65,14 +54,11 @@ fn push_areas(
 ) -> Result<(), FmdFault>
     requires count { length areas.old.items + section_count (view section.now) ≤ area_limit + 1 }
     requires inside { at + size < 2 ^ 32 }
-    ensures ok { OnOk result (areas.new.items ≡ areas.old.items
-        ++ areas_below (length areas.old.items) at size (view section.now)) }
-    ensures count { OnOk result
-        (length areas.new.items + 1 ≡ length areas.old.items + section_count (view section.now)) }
-    ensures refused { FailsWith
-        (faults.parent_fault (length areas.old.items) size (view section.now)) result }
+    ensures { Gives (areas_below at size (view section.now) areas.old.items) (λ _. areas.new.items)
+        result }
 {
-    let places = places(alloc, section, areas.len(), size)?;
+    let row = siblings(alloc, areas.len() + 1, &section.parts)?;
+    let places = lay_row(alloc, size, &row)?;
     for (index, part) in section.parts.iter().enumerate() {
         let place = places[index];
         let start = at + place.start;
@@ -88,29 +74,10 @@ fn push_areas(
     Ok(())
 }
 
-fn places(
-    alloc: Global,
-    section: &Section,
-    number: usize,
-    size: u32,
-) -> Result<Vec<Place>, FmdFault>
-    requires { number + section_count (view section.now) ≤ area_limit + 1 }
-    ensures ok { IfOk result (λ row. row.items ≡ spec.places_of size 0
-        (spec.siblings (suc number) (views (out-Section section.now).parts.items))) }
-    ensures len { IfOk result (λ r. length r.items ≡ length (out-Section section.now).parts.items) }
-    ensures inside { IfOk result (λ r. IsTrue (list_all (λ q. nat_le (place_end q) size) r.items)) }
-    ensures refused { FailsWith (row_fault size
-        (spec.siblings (suc number) (views (out-Section section.now).parts.items))) result }
-{
-    let row = siblings(alloc, number + 1, &section.parts)?;
-    lay_row(alloc, size, &row)
-}
-
 /// Returns siblings, numbered from `first` in preorder.
 fn siblings(alloc: Global, first: usize, parts: &[Section]) -> Result<Vec<Sibling>, FmdFault>
     requires { first + length (names_of (views parts.now)) < 2 ^ 64 }
-    ensures ok { IfOk result (λ row. row.items ≡ spec.siblings first (views parts.now)) }
-    ensures err { IfErr result (λ fault. fault ≡ FmdFault.Memory) }
+    ensures { Gives (Ok (spec.siblings first (views parts.now))) (λ row. row.items) result }
 {
     let mut row = Vec::new(alloc);
     let mut number = first;
@@ -135,16 +102,6 @@ fn count(section: &Section) -> usize
         all += count(part);
     }
     all
-}
-
-fn check_fmap(areas: &[Area]) -> Result<(), FmdFault>
-    requires { length areas.now ≤ area_limit }
-    ensures { faults.table_fault areas.now ≡ result_err result }
-{
-    if (fmap_size(areas) as usize) < FmapHead::LENGTH + Area::LENGTH * areas.len() {
-        return Err(FmdFault::FmapTooSmall);
-    }
-    Ok(())
 }
 
 /// Returns the size of the area FMAP, or 0.

@@ -1,12 +1,11 @@
-ghost use Rattle.std.specs.Prelude.{◌≡◌, ◌≤◌, ◌+◌, ◌⊎◌, ◌++◌, [], None, Some, codes, map, length};
-ghost use Rattle.std.specs.Prelude.{OnOk, IfOk, IfErr};
+ghost use Rattle.std.specs.Prelude.{◌≡◌, ◌+◌, ◌++◌, [], None, Some, codes, map};
+ghost use Rattle.std.specs.Prelude.{Ok, OnOk, IfErr};
 ghost use Rattle.std.specs.List.{list_any};
 ghost use Rattle.std.specs.Str.{bytes_eq};
-ghost use Rattle.std.specs.Result.{result_err};
 ghost use Rattle.fmd_lang.specs.Tree.{names, view};
-ghost use Rattle.fmd_lang.specs.LayoutFaults.{areas_fault, names_fault, duplicate};
+ghost use Rattle.fmd_lang.specs.LayoutFaults.{names_fault, duplicate};
 ghost use Rattle.fmd_lang.specs.Table.{field_of};
-ghost use Rattle.fmd_lang.specs.Faults.{FailsWith};
+ghost use Rattle.fmd_lang.specs.Faults.{FailsWith, Gives};
 
 use crate::fault::FmdFault;
 use crate::section::Section;
@@ -41,15 +40,20 @@ fn check_names(alloc: Global, names: &[&[u8]]) -> Result<(), FmdFault>
     if let Some(section) = first_duplicate(alloc, names)? {
         return Err(FmdFault::Duplicate { section });
     }
-    match names {
-        [_, parts @ ..] => check_parts(parts),
-        [] => Err(FmdFault::NoFmap),
+    let [_, parts @ ..] = names else {
+        return Err(FmdFault::NoFmap);
+    };
+    if !has_fmap(parts) {
+        return Err(FmdFault::NoFmap);
     }
+    if parts.len() > AREA_LIMIT {
+        return Err(FmdFault::TooManyAreas);
+    }
+    Ok(())
 }
 
 fn first_duplicate(alloc: Global, names: &[&[u8]]) -> Result<Option<usize>, FmdFault>
-    ensures ok { IfOk result (λ found. found ≡ duplicate 0 [] (map (λ r. r.now) names.now)) }
-    ensures err { IfErr result (λ fault. fault ≡ FmdFault.Memory) }
+    ensures { Gives (Ok (duplicate 0 [] (map (λ r. r.now) names.now))) (λ found. found) result }
 {
     let mut seen = BTreeSet::new(alloc);
     for (number, name) in names.iter().enumerate() {
@@ -58,18 +62,6 @@ fn first_duplicate(alloc: Global, names: &[&[u8]]) -> Result<Option<usize>, FmdF
         }
     }
     Ok(None)
-}
-
-fn check_parts(parts: &[&[u8]]) -> Result<(), FmdFault>
-    ensures { areas_fault (map (λ r. r.now) parts.now) ≡ result_err result }
-{
-    if !has_fmap(parts) {
-        return Err(FmdFault::NoFmap);
-    }
-    if parts.len() > AREA_LIMIT {
-        return Err(FmdFault::TooManyAreas);
-    }
-    Ok(())
 }
 
 fn has_fmap(names: &[&[u8]]) -> bool

@@ -1,15 +1,13 @@
 //! The parser. Each function returns a value and the next offset.
 
-ghost use Rattle.std.specs.Prelude.{◌≡◌, ◌≢◌, ◌≤◌, ◌<◌, ◌+◌, ◌⊎◌, ◌∷◌, ℕ, suc, length, true, false};
-ghost use Rattle.std.specs.Prelude.{Some, None, Err, IfOk, IfErr, MatchOption, MatchResult};
-ghost use Rattle.std.specs.Result.{result_err};
-ghost use Rattle.fmd_lang.specs.Words.{words, words_after, kind_of};
-ghost use Rattle.fmd_lang.specs.Tokens.{word_of, piece_end};
-ghost use Rattle.fmd_lang.specs.Faults.{Stage, depth_limit, fault_from, token_fault, FailsWith, start};
-ghost use Rattle.fmd_lang.specs.Faults.{past, at_sign, in_annotations, wanted_at, first_fault};
-ghost use Rattle.fmd_lang.specs.Grammar.{One, HasValue, HaveFlags, IsA, IsOffset, IsSize};
-ghost use Rattle.fmd_lang.specs.Grammar.{AreAnnotations, AreSections, IsSection, Until, flags_with};
-ghost use Rattle.fmd_lang.specs.ParserResults.{Parses, IsNext, IsBody};
+ghost use Rattle.std.specs.Prelude.{◌≡◌, ◌≤◌, ◌<◌, ◌+◌, ◌∷◌, suc, length, true, false};
+ghost use Rattle.std.specs.Prelude.{Some, None, Err, IfOk, IfErr};
+ghost use Rattle.fmd_lang.specs.Words.{words};
+ghost use Rattle.fmd_lang.specs.Faults.{Stage, depth_limit, fault_at, FailsWith, start};
+ghost use Rattle.fmd_lang.specs.Faults.{past, at_sign, in_annotations, first_fault};
+ghost use Rattle.fmd_lang.specs.Grammar.{IsName, One, HasValue, HaveFlags, IsOffset, IsSize};
+ghost use Rattle.fmd_lang.specs.Grammar.{AreAnnotations, AreSections, IsSection, Until};
+ghost use Rattle.fmd_lang.specs.ParserResults.{Parses, IsNext, IsBody, word_of, piece_end};
 ghost use Rattle.fmd_lang.specs.Tree.{view, views};
 ghost use Rattle.fmd_lang.specs.Grammar as grammar;
 ghost use Rattle.fmd_lang.specs.declared.word.Kind.TheVariants.{CloseBrace, CloseParen, Name};
@@ -47,14 +45,6 @@ pub fn parse(alloc: Global, text: &[u8]) -> Result<Section, FmdFault>
     if text.len() > TEXT_LIMIT {
         return Err(FmdFault::TextTooLong);
     }
-    tree(alloc, text)
-}
-
-fn tree(alloc: Global, text: &[u8]) -> Result<Section, FmdFault>
-    ensures tree { IfOk result (λ t. IsSection (view t) (words_after text.now 0)) }
-    ensures refused { FailsWith
-        (fault_from (start, 0) (length text.now) (words_after text.now 0)) result }
-{
     let (tree, to) = root(alloc, text)?;
     let token = peek(text, to, 0)?;
     match token.kind {
@@ -81,9 +71,7 @@ fn section(
     depth: u32,
 ) -> Result<(Section, usize), FmdFault>
     requires inside { piece_end name.now ≤ length text.now }
-    requires name { IsA Name (word_of name.now)
-        × (token_fault Name depth (word_of name.now) ≡ None) }
-    requires depth { depth ≤ depth_limit }
+    requires name { IsName name.now.bytes.now (word_of name.now) }
     ensures { Parses (λ t ws. IsSection (view t) (word_of name.now ∷ ws)) (past 0, depth)
         (past 4, depth) text.now (piece_end name.now) result }
 {
@@ -92,7 +80,7 @@ fn section(
     let (size, at) = size(text, at, depth)?;
     let (parts, to) = body(alloc, text, at, depth)?;
     let section = Section {
-        name: copied(alloc, name.bytes)?,
+        name: name.bytes.to_vec(alloc)?,
         flags,
         offset,
         size,
@@ -108,9 +96,8 @@ fn body(
     from: usize,
     depth: u32,
 ) -> Result<(Vec<Section>, usize), FmdFault>
-    requires depth { depth ≤ depth_limit }
-    ensures { Parses (λ v. IsBody (views v.items)) (past 3, depth)
-        (past 4, depth) text.now from result }
+    ensures { Parses (λ v. IsBody (views v.items)) (past 3, depth) (past 4, depth) text.now from
+        result }
 {
     let token = peek(text, from, depth)?;
     match token.kind {
@@ -152,53 +139,32 @@ fn annotations(text: &[u8], from: usize, depth: u32) -> Result<(u16, usize), Fmd
 {
     let token = peek(text, from, depth)?;
     match token.kind {
-        Kind::OpenParen => first_annotation(text, token.word.end(), depth),
+        Kind::OpenParen => listed_annotations(text, token.word.end(), depth),
         _ => Ok((0, from)),
     }
 }
 
-fn first_annotation(text: &[u8], from: usize, depth: u32) -> Result<(u16, usize), FmdFault>
+/// Parses annotations, up to `)`.
+fn listed_annotations(text: &[u8], from: usize, depth: u32) -> Result<(u16, usize), FmdFault>
     ensures { Parses (λ flags. Until CloseParen (HaveFlags flags)) (in_annotations false, depth)
         (past 1, depth) text.now from result }
 {
-    let token = peek(text, from, depth)?;
-    match annotation_flag(token.word.bytes) {
-        Some(flag) => more_annotations(text, token.word.end(), depth, flag),
-        None => expected(token.word.place, Expected::Annotation),
-    }
-}
-
-/// Parses further annotations, up to `)`.
-fn more_annotations(
-    text: &[u8],
-    from: usize,
-    depth: u32,
-    first: u16,
-) -> Result<(u16, usize), FmdFault>
-    ensures { Parses (λ flags. Until CloseParen (λ ws. flags_with first ws ≡ Some flags))
-        (in_annotations true, depth) (past 1, depth) text.now from result }
-{
-    let mut flags = first;
+    let mut flags = 0;
     let mut at = from;
+    let mut any = false;
     loop {
         let token = peek(text, at, depth)?;
-        if let Kind::CloseParen = token.kind {
-            return Ok((flags, token.word.end()));
-        }
-        match annotation_flag(token.word.bytes) {
-            Some(flag) => flags |= flag,
-            None => return expected(token.word.place, after_annotation(token.kind)),
-        }
+        let Some(flag) = annotation_flag(token.word.bytes) else {
+            return match token.kind {
+                _ if !any => expected(token.word.place, Expected::Annotation),
+                Kind::CloseParen => Ok((flags, token.word.end())),
+                Kind::Name => expected(token.word.place, Expected::Annotation),
+                _ => expected(token.word.place, Expected::CloseParen),
+            };
+        };
+        flags |= flag;
+        any = true;
         at = token.word.end();
-    }
-}
-
-fn after_annotation(kind: Kind) -> Expected
-    ensures { (depth : ℕ) → result ≡ wanted_at (in_annotations true) depth kind }
-{
-    match kind {
-        Kind::Name => Expected::Annotation,
-        _ => Expected::CloseParen,
     }
 }
 
@@ -247,31 +213,27 @@ fn size(text: &[u8], from: usize, depth: u32) -> Result<(Option<u32>, usize), Fm
     }
 }
 
+/// Returns the token at an offset, or the lexical fault.
 fn peek<'t>(text: &'t [u8], from: usize, depth: u32) -> Result<Token<'t>, FmdFault>
     ensures next { IfOk result (λ token. IsNext text.now from depth token) }
-    ensures refused { IfErr result (λ fault. (s : Stage)
-        → fault_from (s, depth) (length text.now) (words_after text.now from) ≡ Some fault) }
+    ensures refused { IfErr result (λ fault. (s : Stage) → fault_at text.now from (s, depth) ≡ Some fault) }
 {
     let word = next_word(text, from);
     let kind = word.kind();
-    let value = value_of(&word, kind, depth)?;
-    Ok(Token { word, kind, value })
-}
-
-/// Returns the value of a number, or the lexical fault.
-fn value_of(word: &Word<'_>, kind: Kind, depth: u32) -> Result<Option<u32>, FmdFault>
-    requires { IsA kind (word_of word.now) }
-    ensures value { IfOk result (λ value.
-        MatchOption value (kind ≢ Number) (λ n. HasValue n (word_of word.now))) }
-    ensures fault { token_fault kind depth (word_of word.now) ≡ result_err result }
-{
     let at = word.place;
     match kind {
         Kind::Bad => Err(FmdFault::BadByte { at }),
-        Kind::Number => Ok(Some(read_number(at, word.bytes)?)),
         Kind::Name if word.bytes.len() > NAME_LIMIT => Err(FmdFault::NameTooLong { at }),
         Kind::OpenBrace if depth >= DEPTH_LIMIT => Err(FmdFault::TooDeep),
-        _ => Ok(None),
+        Kind::Number => {
+            let value = Some(read_number(at, word.bytes)?);
+            Ok(Token { word, kind, value })
+        }
+        _ => Ok(Token {
+            word,
+            kind,
+            value: None,
+        }),
     }
 }
 
@@ -279,10 +241,4 @@ fn expected<T>(at: usize, what: Expected) -> Result<T, FmdFault>
     ensures { result ≡ Err (FmdFault.Expected at what) }
 {
     Err(FmdFault::Expected { at, what })
-}
-
-fn copied(alloc: Global, bytes: &[u8]) -> Result<Vec<u8>, FmdFault>
-    ensures { MatchResult result (λ v. v.items ≡ bytes.now) (λ fault. fault ≡ FmdFault.Memory) }
-{
-    Ok(bytes.to_vec(alloc)?)
 }

@@ -1,4 +1,4 @@
-ghost use Rattle.std.specs.Prelude.{◌≡◌, ◌≤◌, ◌<◌, ◌⊎◌, length, OnOk, IfOk, IfErr};
+ghost use Rattle.std.specs.Prelude.{◌≡◌, ◌<◌, length, IfOk};
 ghost use Rattle.fmd_lang.specs.Faults.{FailsWith};
 ghost use Rattle.fmd_lang.specs.LayoutFaults.{count_fault};
 ghost use Rattle.fmd_lang.specs.Table.{table_bytes};

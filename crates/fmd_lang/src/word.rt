@@ -1,11 +1,9 @@
 //! The lexer of descriptors.
 
-ghost use Rattle.std.specs.Prelude.{◌≡◌, ◌≤◌, ◌<◌, ◌+◌, ◌^◌, ◌∷◌, length, nat_eq, true, false};
-ghost use Rattle.std.specs.Prelude.{slice_index, slice_range, IsTrue};
+ghost use Rattle.std.specs.Prelude.{◌≡◌, ◌<◌, ◌+◌, ◌^◌, nat_eq};
 ghost use Rattle.std.specs.List.{position_or_len, prefix_len};
-ghost use Rattle.fmd_lang.specs.Words.{words_after, word};
 ghost use Rattle.fmd_lang.specs.Words as spec;
-ghost use Rattle.fmd_lang.specs.Tokens.{begins_word, IsFirst, piece_end};
+ghost use Rattle.fmd_lang.specs.ParserResults.{IsFirst, piece_end};
 
 /// The kind of a token, by the first byte.
 #[derive(Clone, Copy)]
@@ -36,65 +34,36 @@ pub struct Word<'t> {
 pub fn next_word<'t>(text: &'t [u8], from: usize) -> Word<'t>
     ensures { IsFirst text.now from result }
 {
-    let place = skip_blanks(text, from);
-    if place == text.len() {
-        return Word {
-            place,
-            bytes: &text[place..],
-        };
-    }
-    let end = word_end(text, place);
-    Word {
-        place,
-        bytes: &text[place..end],
-    }
-}
-
-/// Returns the start of the next token, or the length.
-fn skip_blanks(text: &[u8], from: usize) -> usize
-    ensures inside { result ≤ length text.now }
-    ensures same { words_after text.now from ≡ words_after text.now result }
-    ensures word { result < length text.now
-        → (from ≤ result) × IsTrue (begins_word (slice_index text.now result)) }
-{
-    let mut at = from;
-    while at < text.len() {
-        let byte = text[at];
+    let mut place = from;
+    while place < text.len() {
+        let byte = text[place];
         if is_blank(byte) {
-            at += 1;
+            place += 1;
         } else if byte == b'#' {
-            at += 1 + comment_len(&text[at + 1..]);
+            place += comment_len(&text[place..]);
         } else {
-            return at;
+            let len = plain_len(&text[place..]).max(1);
+            return Word {
+                place,
+                bytes: &text[place..place + len],
+            };
         }
     }
-    text.len()
+    Word {
+        place: text.len(),
+        bytes: &[],
+    }
 }
 
 /// Counts the bytes before the first line feed.
 fn comment_len(bytes: &[u8]) -> usize
-    ensures short { result ≤ length bytes.now }
-    ensures len { result ≡ position_or_len (λ b. nat_eq b 10) bytes.now }
+    ensures { result ≡ position_or_len (λ b. nat_eq b 10) bytes.now }
 {
     bytes.iter().take_while(|byte| **byte != b'\n').count()
 }
 
-fn word_end(text: &[u8], place: usize) -> usize
-    requires { (place < length text.now) × IsTrue (begins_word (slice_index text.now place)) }
-    ensures inside { (place < result) × (result ≤ length text.now) }
-    ensures word { words_after text.now place
-        ≡ word place (slice_range text.now place result) ∷ words_after text.now result }
-{
-    if is_plain(text[place]) {
-        place + 1 + plain_len(&text[place + 1..])
-    } else {
-        place + 1
-    }
-}
-
 fn plain_len(bytes: &[u8]) -> usize
-    ensures short { result ≤ length bytes.now }
-    ensures len { result ≡ prefix_len spec.is_plain bytes.now }
+    ensures { result ≡ prefix_len spec.is_plain bytes.now }
 {
     bytes.iter().take_while(|byte| is_plain(**byte)).count()
 }

@@ -1,4 +1,4 @@
-use Rattle.fmd_lang.proofs.PlaceLemmas.{one-table}
+use Rattle.fmd_lang.proofs.LayoutLemmas.{one-table}
 use Rattle.fmd_lang.proofs.laws.one_table.Goals as goal
 
 pub returns : goal.returns

@@ -15,5 +15,5 @@ loop-part-preserved c =
     rw (c.in_ok-push.ensures.items, c.count-number.ensures)
     (sibling-pushed c.loop-part.row.items c.loop-part.number _ c.args.parts.now c.part-item.result c.loop-part.invariant c.loop-part-test.true c.part-item.is)
 
-pub returns-clause-ok : goal.returns-clause-ok
-returns-clause-ok c = grind (arith, nat_tests, drop_all, append-nil)
+pub returns : goal.returns
+returns c = grind (arith, nat_tests, drop_all, append-nil)

@@ -6,8 +6,8 @@ use Rattle.std.proofs.lemmas.List.{drop_all}
 use Rattle.fmd_lang.proofs.NameLemmas.{has, no_name, duplicate-at, has-more}
 use Rattle.fmd_lang.proofs.names.first_duplicate.Goals as goal
 
-pub returns-then-not-branch-clause-ok : goal.returns-then-not-branch-clause-ok
-returns-then-not-branch-clause-ok c = grind (arith, common_steps, no_name, not-false, duplicate-at)
+pub returns-then-not-branch : goal.returns-then-not-branch
+returns-then-not-branch c = grind (arith, common_steps, no_name, not-false, duplicate-at)
 
 pub loop-number-preserved : goal.loop-number-preserved
 loop-number-preserved c =
@@ -23,5 +23,5 @@ loop-number-preserved c =
 pub loop-number-init : goal.loop-number-init
 loop-number-init c = (λ q. search rules, refl)
 
-pub returns-clause-ok : goal.returns-clause-ok
-returns-clause-ok c = grind (arith, nat_tests, drop_all)
+pub returns : goal.returns
+returns c = grind (arith, nat_tests, drop_all)

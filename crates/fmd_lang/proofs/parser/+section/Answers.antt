@@ -1,13 +1,12 @@
 use Rattle.std.proofs.lemmas.Bool.Decides.{nat_tests}
-use Rattle.std.proofs.Common.{◌≡◌, ◌<◌, suc, length, ◌∷◌, [], sym, refl, rules, arith, inr, add-one, ◌++◌}
+use Rattle.std.proofs.Common.{◌≡◌, suc, ◌∷◌, [], refl, rules, arith, inr, add-one, ◌++◌}
 use Rattle.fmd_lang.specs.Faults.{past}
-use Rattle.fmd_lang.specs.Tokens.{word_of, piece_end}
-use Rattle.fmd_lang.specs.ParserResults.{IsBody}
+use Rattle.fmd_lang.specs.ParserResults.{IsBody, word_of, piece_end}
 use Rattle.fmd_lang.specs.Grammar.{AreSections, Until}
 use Rattle.fmd_lang.specs.Tree.{Tree, view, views}
 use Rattle.fmd_lang.specs.declared.section.Section.TheFolds.{fold-roll-Section}
 use Rattle.fmd_lang.specs.declared.word.Kind.TheVariants.{CloseBrace, Name, OpenBrace}
-use Rattle.fmd_lang.proofs.FormLemmas.{name-short, section-opens, sections-snoc}
+use Rattle.fmd_lang.proofs.FormLemmas.{section-opens, sections-snoc}
 use Rattle.fmd_lang.proofs.StepLemmas.{parses-after, reads-as, reads-then, token-mark, token-takes}
 use Rattle.fmd_lang.proofs.parser.+section.Goals as goal
 
@@ -19,18 +18,11 @@ body-returns-in-OpenBrace t c =
 
 pub section-returns : goal.section-returns
 section-returns t c =
-    let name = c.args.name.now in
-    let w = word_of name in
-    let flags = c.in_ok-flags.ensures in
-    let sized = reads-then c.in_ok-size.ensures.1 c.in_ok-parts.ensures.1 in
-    let parts = reads-then flags.1 (reads-then c.in_ok-offset.ensures.1 sized) in
-    let short : length c.in_ok-copied.field-0.items < 32 =
-    rw c.in_ok-copied.ensures (name-short c.args.depth w c.requires.name.1) in
-    rw (← c.end.ensures) (
-      omega (arith, flags.0, c.in_ok-offset.ensures.0, c.in_ok-size.ensures.0, c.in_ok-parts.ensures.0),
-      reads-as (λ v h. rw (fold-roll-Section Tree _)
-          (w ∷ [], v, refl, (w, refl, (c.requires.name.0, sym c.in_ok-copied.ensures, short)), h)) parts,
-    )
+    let w = word_of c.args.name.now in
+    let sized = reads-then c.in_ok-size.ensures c.in_ok-parts.ensures in
+    let parts = reads-then c.in_ok-flags.ensures (reads-then c.in_ok-offset.ensures sized) in
+    rw (← c.end.ensures) (reads-as (λ v h. rw (fold-roll-Section Tree _)
+    (w ∷ [], v, refl, (w, refl, rw (c.in_ok-to_vec.ensures.items_if_clones_equal (λ x y e. e)) c.requires.name), h)) parts)
 
 pub sections-returns-in-CloseBrace : goal.sections-returns-in-CloseBrace
 sections-returns-in-CloseBrace t c = grind (arith, nat_tests, add-one, token-mark, reads-then)
@@ -42,10 +34,7 @@ sections-loop-parts-preserved t c =
     let w = word_of token.word in
     let word =
     token-takes {to = piece_end token.word} (λ x. x ≡ w) (past 4) (past 0, suc c.args.depth) Name next refl c.in-Name.is (λ e. cc) refl refl in
-    let part = rw add-one at c.in_ok-part-in-Name.ensures.1 in
+    let part = rw add-one at c.in_ok-part-in-Name.ensures in
     let one = reads-as (section-opens w (view c.in_ok-part-in-Name.part)) (reads-then word.reads part) in
-    let parts : c.push.new.self.items ≡ c.loop-parts.parts.items ++ c.in_ok-part-in-Name.part ∷ [] = search rules in (
-      omega (arith, c.loop-parts.invariant.0, word.ahead, c.in_ok-part-in-Name.ensures.0),
-      rw parts (reads-as (sections-snoc c.loop-parts.parts.items c.in_ok-part-in-Name.part)
-          (reads-then c.loop-parts.invariant.1 one)),
-    )
+    let parts : c.push.new.self.items ≡ c.loop-parts.parts.items ++ c.in_ok-part-in-Name.part ∷ [] = search rules in
+    rw parts (reads-as (sections-snoc c.loop-parts.parts.items c.in_ok-part-in-Name.part) (reads-then c.loop-parts.invariant one))

@@ -9,5 +9,5 @@ pub returns-in-OpenParen : goal.returns-in-OpenParen
 returns-in-OpenParen c =
     let word =
     token-mark (past 0) (in_annotations false, c.args.depth) OpenParen c.in_ok-token.ensures.next c.end.ensures c.in-OpenParen.is (λ e. cc) refl in
-    parses-after (λ flags. Until CloseParen (HaveFlags flags)) AreAnnotations _ c.first_annotation.result
-    (λ flags v h. inr h) word c.first_annotation.ensures
+    parses-after (λ flags. Until CloseParen (HaveFlags flags)) AreAnnotations _ c.listed_annotations.result
+    (λ flags v h. inr h) word c.listed_annotations.ensures

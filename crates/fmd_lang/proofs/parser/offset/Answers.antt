@@ -1,4 +1,4 @@
-use Rattle.std.proofs.Common.{refl, arith}
+use Rattle.std.proofs.Common.{refl}
 use Rattle.fmd_lang.specs.Faults.{at_sign, past}
 use Rattle.fmd_lang.specs.declared.word.Kind.TheVariants.{At}
 use Rattle.fmd_lang.proofs.StepLemmas.{reads-then, token-mark}
@@ -7,4 +7,4 @@ use Rattle.fmd_lang.proofs.parser.offset.Goals as goal
 pub returns-in_ok-value-in-At : goal.returns-in_ok-value-in-At
 returns-in_ok-value-in-At c =
     let word = token-mark (past 1) (at_sign, c.args.depth) At c.in_ok-token.ensures.next c.end.ensures c.in-At.is (λ e. cc) refl in
-    (omega (arith, word.ahead, c.in_ok-value-in-At.ensures.0), reads-then word.reads c.in_ok-value-in-At.ensures.1)
+    reads-then word.reads c.in_ok-value-in-At.ensures

@@ -1,9 +1,7 @@
-use Rattle.std.proofs.Common.{refl, arith}
+use Rattle.std.proofs.Common.{refl}
 use Rattle.fmd_lang.specs.Faults.{past}
 use Rattle.fmd_lang.proofs.StepLemmas.{token-number}
 use Rattle.fmd_lang.proofs.parser.size.Goals as goal
 
 pub returns-in-Some : goal.returns-in-Some
-returns-in-Some c =
-    let word = token-number (past 2) (past 3, c.args.depth) c.in_ok-token.ensures.next c.end.ensures c.in-Some.is refl in
-    (omega (arith, word.ahead), word.reads)
+returns-in-Some c = (token-number (past 2) (past 3, c.args.depth) c.in_ok-token.ensures.next c.end.ensures c.in-Some.is refl).reads
