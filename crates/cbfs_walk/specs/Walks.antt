@@ -21,8 +21,7 @@ reads_over n = 1 + n / 3840
 
 -- a read of n bytes at q, from `at` on, which needs a call
 abbrev pub IsLoad : {F : Type 0} → Pages F → ℕ → ℕ → ℕ → Type 0
-IsLoad p at q n =
-    (at ≤ q) × (n ≤ 256) × (q + n ≤ length p.device.content) × (Covers p.held q n → ⊥)
+IsLoad p at q n = (at ≤ q) × (n ≤ 256) × (q + n ≤ length p.device.content) × (Covers p.held q n → ⊥)
 
 -- Ordered reads between two positions of a region, with the number of faults. A call loads at least
 -- 3840 bytes for later reads. So the distance between a load before these reads and a load after
@@ -69,9 +68,7 @@ answer_of rest c = answer_by rest c.at
     (present c.head rest (Ok (record { content = c.head.offset; span = c.span })))
 
 unfoldable pub answer_at : List ℕ → ℕ → StepResult
-answer_at x at =
-    let rest = drop at x in
-    refused_or (λ fault. Err fault) (shape_fault_at x at)
+answer_at x at = let rest = drop at x in refused_or (λ fault. Err fault) (shape_fault_at x at)
     (if length rest == 0 then Ok steps.End else answer_by rest at (entry rest))
 
 -- a walk returns the cell at its position

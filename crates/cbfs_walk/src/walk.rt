@@ -139,8 +139,7 @@ fn answer_at<F: Flash>(paged: &mut Paged<F>, region: Region, at: u64) -> Result<
     requires reach { Reaches region at paged.old.device }
     requires aligned { at % 64 ≡ 0 }
 
-    ensures after
-        { HasReadBy by_device (reads_at region.size at result) paged.old paged.new result }
+    ensures after { HasReadBy by_device (reads_at region.size at result) paged.old paged.new result }
     ensures cell { GivesCell region.size at result }
     ensures answer { AnswersAs paged.old region WalkFault.Device result (λ x. answer_at x at) }
 {
