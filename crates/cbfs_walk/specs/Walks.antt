@@ -1,5 +1,5 @@
 -- Walks over the cells of a region, and ordered reads.
-use Rattle.std.specs.Prelude.{◌≡◌, ◌⊎◌, ◌*◌, ◌≤◌, ℕ, ◌+◌, ◌-◌, ◌/◌, List, Result, length, drop, Option, Some, None, Ok, Err, ◌==◌, if◌then◌else◌, ⊤}
+use Rattle.std.specs.Prelude.{◌≡◌, ◌⊎◌, ◌*◌, ◌≤◌, ℕ, ◌+◌, ◌-◌, ◌/◌, List, Result, length, drop, Option, Some, None, Ok, Err, ◌==◌, if◌then◌else◌, ⊤, IfOk}
 use Rattle.flash_device.specs.Device.{refusals}
 use Rattle.flash_device.specs.Pages.{Pages, Covers, HasRead, OnHonestIn, Returns}
 use Rattle.flash_device.specs.Regions.{Range}
@@ -40,6 +40,12 @@ pub record Passes {F : Type 0} (region : Range) (at end refused : ℕ)
 -- such reads by a call that fails if a read fails
 abbrev pub HasPassed : {F T E : Type 0} → Range → ℕ → ℕ → Pages F → Pages F → Result T E → Type 0
 HasPassed region at end old new result = Passes region at end (refusals result) old new
+
+-- such reads; on an honest device, a success's value is what `Is` says of the region's bytes
+pub record ReadsIn {F T E : Type 0} (region : Range) (at end : ℕ) (old new : Pages F)
+    (result : Result T E) (Is : List ℕ → T → Type 0) : Type 0 where
+  pub passed : HasPassed region at end old new result
+  pub value : OnHonestIn old.device region (λ x. IfOk result (Is x))
 
 abbrev pub StepResult : Type 0
 StepResult = Result Step WalkFault

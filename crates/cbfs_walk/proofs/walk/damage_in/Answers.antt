@@ -13,10 +13,10 @@ returns-then-not-branch-clause-passes g c = Passes-within c.in_ok-has_name_end.e
 pub returns-in_err-are_well_formed-clause-passes : goal.returns-in_err-are_well_formed-clause-passes
 returns-in_err-are_well_formed-clause-passes g c =
     rw (err_from_is_err_and c.from_residual-in_err-are_well_formed.result c.from_residual-in_err-are_well_formed.ensures.1).1
-    (Passes-then c.in_ok-has_name_end.ensures.passes c.in_err-are_well_formed.ensures.passes (omega arith) (omega arith) (omega arith))
+    (Passes-then c.in_ok-has_name_end.ensures.passes c.in_err-are_well_formed.ensures.passed (omega arith) (omega arith) (omega arith))
 
 pub returns-then-not-branch-2-clause-passes : goal.returns-then-not-branch-2-clause-passes
-returns-then-not-branch-2-clause-passes g c = Passes-then c.in_ok-has_name_end.ensures.passes c.in_ok-are_well_formed.ensures.passes (omega arith) (omega arith) (omega arith)
+returns-then-not-branch-2-clause-passes g c = Passes-then c.in_ok-has_name_end.ensures.passes c.in_ok-are_well_formed.ensures.passed (omega arith) (omega arith) (omega arith)
 
 pub returns-clause-passes : goal.returns-clause-passes
-returns-clause-passes g c = Passes-then c.in_ok-has_name_end.ensures.passes c.in_ok-are_well_formed.ensures.passes (omega arith) (omega arith) (omega arith)
+returns-clause-passes g c = Passes-then c.in_ok-has_name_end.ensures.passes c.in_ok-are_well_formed.ensures.passed (omega arith) (omega arith) (omega arith)
