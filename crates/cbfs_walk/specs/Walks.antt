@@ -5,6 +5,8 @@ use Rattle.flash_device.specs.Pages.{Pages, Covers, HasRead, OnHonestIn, Returns
 use Rattle.flash_device.specs.Regions.{Range}
 use Rattle.flash_format.specs.Head.{head_of}
 use Rattle.flash_format.specs.Entry.{Entry, absent, damaged, cell, entry, present}
+use Rattle.flash_format.specs.declared.head.DamageKind.{DamageKind}
+use Rattle.std.specs.Option.{option_map_or}
 use Rattle.cbfs_walk.specs.Cells.{IsCellIn, cell_in}
 use Rattle.cbfs_walk.specs.Shapes.{shape_fault_at, refused_or}
 use Rattle.cbfs_walk.specs.declared.cell.Cell.{Cell}
@@ -12,8 +14,6 @@ use Rattle.cbfs_walk.specs.declared.walk.Step.{Step}
 use Rattle.cbfs_walk.specs.declared.walk.Step.TheVariants as steps
 use Rattle.cbfs_walk.specs.declared.walk.WalkFault.{WalkFault}
 use Rattle.cbfs_walk.specs.declared.walk.WalkFault.TheVariants as faults
-use Rattle.std.specs.Option.{option_map_or}
-use Rattle.flash_format.specs.declared.head.DamageKind.{DamageKind}
 
 -- device calls for n bytes in ordered reads of at most 256 bytes: one, and another per 3840 bytes
 abbrev pub reads_over : ℕ → ℕ
@@ -68,10 +68,13 @@ answer_by rest at (damaged kind) = Err (faults.Damaged at kind)
 answer_by rest at (cell span) =
     Ok (steps.Cell (record { at = at; head = head_of rest; span = span }))
 
--- the result after the checks of the head, given the bytes from the cell on
-abbrev pub answer_of : List ℕ → Cell → StepResult
-answer_of rest c = answer_by rest c.at
-    (present c.head rest (Ok (record { content = c.head.offset; span = c.span })))
+abbrev pub entry_or : Option DamageKind → ℕ → Entry
+entry_or fault span = option_map_or damaged fault (cell span)
+
+-- the entry after the checks of the head, given the bytes from the cell on
+abbrev pub checked_entry : List ℕ → Cell → Entry
+checked_entry rest c =
+    present c.head rest (Ok (record { content = c.head.offset; span = c.span }))
 
 unfoldable pub answer_at : List ℕ → ℕ → StepResult
 answer_at x at = let rest = drop at x in refused_or (λ fault. Err fault) (shape_fault_at x at)
@@ -114,6 +117,3 @@ EndsWalk _ = ⊤
 abbrev pub reads_at : ℕ → ℕ → StepResult → ℕ
 reads_at size at (Ok (steps.Cell c)) = reads_over c.span
 reads_at size at _ = reads_over (size - at)
-
-abbrev pub entry_or : Option DamageKind → ℕ → Entry
-entry_or fault span = option_map_or damaged fault (cell span)
