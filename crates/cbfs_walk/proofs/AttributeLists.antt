@@ -14,7 +14,7 @@ use Rattle.flash_format.proofs.AttributeSteps.{attribute_len, attributes_end, at
 use Rattle.flash_device.specs.Regions.{Range, LiesIn, bytes_in}
 use Rattle.cbfs_walk.specs.Cells.{cell_in}
 use Rattle.cbfs_walk.specs.Walks.{StandsIn}
-use Rattle.cbfs_walk.specs.AttrWalks.{AttrWalking, attr_walk_of, attributes_left, first_head, after_first, listed_in}
+use Rattle.cbfs_walk.specs.AttrWalks.{AttrWalking, attr_walk_of, attributes_left, first_head, after_first, next_attribute}
 use Rattle.cbfs_walk.specs.declared.cell.Cell.{Cell}
 use Rattle.cbfs_walk.specs.declared.attribute_walk.Listed as declared
 use Rattle.cbfs_walk.specs.declared.attribute_walk.Listed.TheVariants.{End, Malformed}
@@ -25,11 +25,11 @@ use Rattle.cbfs_walk.proofs.CutLaws.{standing, standing_good, cell_head, cell_pa
 -- ---- reads at a position
 
 listed_by : (x : List ℕ) (at end : ℕ) (h : AttrHead) → at + 8 ≤ end → end ≤ length x → h ≡ attr_head_of (slice_range x at (at + 8))
-    → cond (is_unused h.tag) End (cond (has_bad_len h (end - at)) Malformed (listed.Attribute h)) ≡ listed_in (slice_range x at end)
+    → cond (is_unused h.tag) End (cond (has_bad_len h (end - at)) Malformed (listed.Attribute h)) ≡ next_attribute (slice_range x at end)
 listed_by x at end h room inside e = grind (arith, common_steps, attr_head_of-take, le-ltb, length-range, range-take)
 
 pub listed_tested : (r : Range) (image : List ℕ) (at end : ℕ) (h : AttrHead) (unused bad : Bool) → LiesIn r image → end ≤ r.size → 8 ≤ end - at → h ≡ attr_head_of (slice_range (bytes_in r image) at (at + 8))
-    → unused ≡ is_unused h.tag → bad ≡ has_bad_len h (end - at) → cond unused End (cond bad Malformed (listed.Attribute h)) ≡ listed_in (slice_range (bytes_in r image) at end)
+    → unused ≡ is_unused h.tag → bad ≡ has_bad_len h (end - at) → cond unused End (cond bad Malformed (listed.Attribute h)) ≡ next_attribute (slice_range (bytes_in r image) at end)
 listed_tested r image at end h unused bad lies inside room head is_unused_is is_bad = grind (arith, common_steps, length-region, listed_by)
 
 -- ---- the rest
@@ -51,7 +51,7 @@ pub record Goes (y : List ℕ) (h : AttrHead) : Type 0 where
   pub inside : h.len ≤ length y
   pub all : attributes y ≡ option_map (λ others. attribute y ∷ others) (attributes (drop h.len y))
 
-pub goes : (y : List ℕ) (h : AttrHead) → listed.Attribute h ≡ listed_in y → Goes y h
+pub goes : (y : List ℕ) (h : AttrHead) → listed.Attribute h ≡ next_attribute y → Goes y h
 goes y h e =
     let v = inverted (ends_list y) (is_malformed y) (attr_head_of y) h e in
     let len = attribute_len y v.1 in
@@ -64,10 +64,10 @@ goes y h e =
       all = attributes_more y v.0 v.1 ∙ ap (λ k. option_map (λ others. attribute y ∷ others) (attributes (drop k y))) n;
     }
 
-pub goes_end : (y : List ℕ) → End ≡ listed_in y → attributes y ≡ Some []
+pub goes_end : (y : List ℕ) → End ≡ next_attribute y → attributes y ≡ Some []
 goes_end y e = attributes_end y (inverted_end (ends_list y) (is_malformed y) (attr_head_of y) e)
 
-pub goes_malformed : (y : List ℕ) → Malformed ≡ listed_in y → attributes y ≡ None
+pub goes_malformed : (y : List ℕ) → Malformed ≡ next_attribute y → attributes y ≡ None
 goes_malformed y e = let v = inverted_malformed (ends_list y) (is_malformed y) (attr_head_of y) e in attributes_malformed y v.0 v.1
 
 -- well-formed attributes
@@ -122,7 +122,7 @@ GivesListed x k a all End = (None ≡ first_head all) × (attributes_left x (rec
 GivesListed x k a all Malformed = ⊥
 
 pub walk_step : (r : Range) (image : List ℕ) (k : Cell) (a p q : ℕ) (w : AttrWalking) (l : declared.Listed) → LiesIn r image → w.cell.at + w.cell.head.offset ≤ r.size → w ≡ record { cell = k; at = a }
-    → p ≡ k.at + a → q ≡ k.at + k.head.offset → l ≡ listed_in (slice_range (bytes_in r image) p q)
+    → p ≡ k.at + a → q ≡ k.at + k.head.offset → l ≡ next_attribute (slice_range (bytes_in r image) p q)
     → (all : List Attribute) → attributes_left (bytes_in r image) w ≡ Some all → GivesListed (bytes_in r image) k a all l
 walk_step r image k a p q w l lies room view from to is all left = go l is
   where
@@ -140,7 +140,7 @@ walk_step r image k a p q w l lies room view from to is all left = go l is
     none_left : attributes_left x (record { cell = k; at = k.head.offset }) ≡ Some []
     none_left = ap (λ n. attributes (take n (drop (k.at + k.head.offset) x))) {x = k.at + k.head.offset - (k.at + k.head.offset)} {y = 0} (omega arith) ∙ attributes_end [] refl
 
-    go : (m : declared.Listed) → m ≡ listed_in (slice_range x p q) → GivesListed x k a all m
+    go : (m : declared.Listed) → m ≡ next_attribute (slice_range x p q) → GivesListed x k a all m
     go (listed.Attribute h) is =
         let g = goes (slice_range x p q) h is in
         let on = goes_on (slice_range x p q) h all g here in

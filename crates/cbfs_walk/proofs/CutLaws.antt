@@ -1,5 +1,5 @@
 -- A walk's result, against the region's cut.
-use Rattle.std.proofs.Common.{◌≡◌, ℕ, ◌+◌, ◌<◌, ◌≤◌, Bool, true, false, cond, List, [], ◌∷◌, length, drop, Some, None, Result, Ok, Err, refl, sym, ap, subst, ◌∙◌, arith, eqb, length-take, length-drop, not, ◌&&◌}
+use Rattle.std.proofs.Common.{◌≡◌, ℕ, ◌+◌, ◌%◌, ◌<◌, ◌≤◌, Bool, true, false, cond, List, [], ◌∷◌, length, drop, Some, None, Result, Ok, Err, refl, sym, ap, subst, ◌∙◌, arith, eqb, length-take, length-drop, not, ◌&&◌}
 use Rattle.std.specs.Prelude.{slice_range, is_some}
 use Rattle.std.proofs.lemmas.List.{drop-drop}
 use Rattle.std.proofs.lemmas.Grind.{common_steps}
@@ -13,11 +13,11 @@ use Rattle.flash_format.specs.Cut.{after, cut}
 use Rattle.flash_format.proofs.CutSteps.{cell_is, cut_empty, cut_step, cut_cell}
 use Rattle.flash_format.proofs.EntryLaws.{from_head, present_by}
 use Rattle.flash_format.proofs.Fronts.{head_of-take, range-take}
-use Rattle.flash_device.specs.Regions.{bytes_in}
+use Rattle.flash_device.specs.Regions.{Range, LiesIn, bytes_in}
 use Rattle.cbfs_walk.specs.Cells.{IsCellIn, cell_in}
 use Rattle.cbfs_walk.specs.Shapes.{has_bad_size, is_absent, refused_or}
 use Rattle.cbfs_walk.specs.Walks.{answer_at, answer_by, StandsIn}
-use Rattle.cbfs_walk.specs.Laws.{GoesOn, WalksFollowTheCut, CellsStandInTheirImage}
+use Rattle.cbfs_walk.specs.Laws.{GoesOn, CellBytes}
 use Rattle.cbfs_walk.specs.declared.cell.Cell.{Cell}
 use Rattle.cbfs_walk.specs.declared.walk.Step.TheVariants as steps
 use Rattle.cbfs_walk.specs.declared.walk.WalkFault.TheVariants as walk
@@ -31,7 +31,7 @@ none_first at e z = grind (arith, common_steps)
 pub cut_at : (x : List ℕ) (at span : ℕ) → 0 < length (drop at x) → entry (drop at x) ≡ cell span → cut (drop at x) ≡ after (slice_range x at (at + span) ∷ []) (cut (drop (at + span) x))
 cut_at x at span some is = cut_cell (drop at x) span some is ∙ ap (λ c. after (c ∷ []) (cut (drop span (drop at x)))) (sym (range_is x at span)) ∙ ap (λ l. after (slice_range x at (at + span) ∷ []) (cut l)) (drop-drop span at x)
 
-pub walks_follow : WalksFollowTheCut
+pub walks_follow : (x : List ℕ) (at : ℕ) → at ≤ length x → at % 64 ≡ 0 → GoesOn x at (answer_at x at)
 unfolding answer_at
 walks_follow x at inside aligned = go (has_bad_size (length x)) (eqb at 0 && is_absent (entry x)) (eqb (length (drop at x)) 0) refl refl refl
   where
@@ -71,7 +71,7 @@ cell_len x size c len is = ap length (range_is x c.at c.span) ∙ omega (arith, 
 pub cell_part : (x : List ℕ) (c : Cell) (a b : ℕ) → b ≤ c.span → slice_range (cell_in x c) a b ≡ slice_range x (c.at + a) (c.at + b)
 cell_part x c a b le = ap (λ l. slice_range l a b) (range_is x c.at c.span) ∙ range-take (drop c.at x) c.span a b le ∙ range-drop x c.at a b
 
-pub cells_stand : CellsStandInTheirImage
+pub cells_stand : (region : Range) (image : List ℕ) (c : Cell) → LiesIn region image → IsCellIn region.size c → StandsIn (bytes_in region image) c → CellBytes region image c
 cells_stand region image c lies is stands =
     let x = bytes_in region image in
     let head = cell_head x c (standing x c stands) is.positive in

@@ -1,6 +1,6 @@
 -- The digest of a content, and the first hash attribute.
 use Rattle.std.proofs.lemmas.Grind.{common_steps}
-use Rattle.std.proofs.Common.{◌≡◌, ℕ, ◌+◌, ◌-◌, ◌<◌, ◌≤◌, true, false, cond, IsTrue, List, ◌++◌, take, drop, length, Option, Some, None, Ok, sym, ap, ◌∙◌, arith, ltb, le_refl}
+use Rattle.std.proofs.Common.{◌≡◌, ℕ, ◌+◌, ◌-◌, ◌<◌, ◌≤◌, true, false, cond, IsTrue, List, ◌++◌, take, drop, length, Option, Some, None, Result, Ok, ◌⊎◌, sym, ap, ◌∙◌, arith, ltb, le_refl}
 use Rattle.std.specs.Prelude.{slice_range, IfSome, option_and_then}
 use Rattle.std.proofs.lemmas.Bool.{lt-ltb, le-ltb}
 use Rattle.byteorder.specs.Endian.{big_number}
@@ -10,23 +10,25 @@ use Rattle.flash_format.specs.declared.digest.Algorithm.{Algorithm}
 use Rattle.flash_format.specs.declared.digest.Digest.{Digest}
 use Rattle.flash_format.specs.declared.head.Head.{Head}
 use Rattle.flash_format.specs.Head.{be32}
-use Rattle.flash_format.specs.Entry.{data_of, HASH}
 use Rattle.flash_format.specs.Components.{cell_attributes, cell_content}
 use Rattle.std.proofs.lemmas.List.{take-append-drop}
 use Rattle.flash_device.specs.Pages.{Pages}
 use Rattle.flash_device.specs.Regions.{Range, LiesIn, bytes_in}
 use Rattle.cbfs_walk.specs.Walks.{Passes, StandsIn}
 use Rattle.cbfs_walk.specs.Cells.{IsComponentIn, cell_in, attributes_start, content_start, content_end}
-use Rattle.cbfs_walk.specs.AttrWalks.{IsAttrOf, Placed, searched_to}
-use Rattle.cbfs_walk.specs.Hashes.{hashed_by, digest_by, stored_digest, comparison, state_by, hash_state, content_at, hash_state_in, IsUncompared}
+use Rattle.cbfs_walk.specs.AttrWalks.{IsAttrOf, attributes_in, searched_to}
+use Rattle.cbfs_walk.specs.Hashes.{hashed_by, digest_by, stored_digest, comparison, hash_state, content_at}
 use Rattle.cbfs_walk.specs.declared.cell.Cell.{Cell}
 use Rattle.cbfs_walk.specs.declared.hashes.HashState.{HashState}
+use Rattle.cbfs_walk.specs.declared.hashes.HashState.TheVariants as states
+use Rattle.flash_format.specs.declared.attribute.AttrHead.{AttrHead}
+use Rattle.flash_device.specs.declared.flash.FlashFault.{FlashFault}
 use Rattle.flash_format.specs.Made.{algorithm, algorithm_row, algorithm_numbered, digest_with, digest_bytes, digest_len}
 use Rattle.cbfs_walk.proofs.Parts.{length-region, range-inner, range-take, range-after, length-range}
 use Rattle.cbfs_walk.proofs.ReadSequences.{Passes-then}
 use Rattle.cbfs_walk.proofs.Checks.{checks_give}
 use Rattle.cbfs_walk.proofs.CutLaws.{standing, cell_head, cell_part}
-use Rattle.cbfs_walk.proofs.AttributeScans.{data_found, Scanning, told_before, scanning_more}
+use Rattle.cbfs_walk.proofs.AttributeScans.{attributes_found, Scanning, told_before, scanning_more}
 
 -- ---- a hasher of adjacent pieces
 
@@ -103,25 +105,23 @@ length-hashed a bytes = grind (arith, common_steps, length-sha256, length-sha512
 -- ---- the first hash attribute
 
 -- in a component of the region
-pub state_found : (r : Range) (image : List ℕ) (c : Cell) (state : HashState) → LiesIn r image → IsComponentIn r.size c → StandsIn (bytes_in r image) c → state ≡ hash_state_in (bytes_in r image) c
-    → state ≡ hash_state (cell_attributes (cell_in (bytes_in r image) c)) (cell_content (cell_in (bytes_in r image) c))
-state_found r image c state lies is stands told =
+pub state_found : (r : Range) (image : List ℕ) (c : Cell) → LiesIn r image → IsComponentIn r.size c → StandsIn (bytes_in r image) c
+    → hash_state (attributes_in (bytes_in r image) c) (content_at (bytes_in r image) c) ≡ hash_state (cell_attributes (cell_in (bytes_in r image) c)) (cell_content (cell_in (bytes_in r image) c))
+state_found r image c lies is stands =
     let x = bytes_in r image in
     let k = checks_give (r.size - c.at) c.head c.span is.checks in
-    let inside : c.at + c.head.offset ≤ length x = omega (arith, length-region r image lies, k.room, k.inside) in
     let head = cell_head x c (standing x c stands) k.positive in
     let content : cell_content (cell_in x c) ≡ content_at x c =
     ap (λ (h : Head). slice_range (cell_in x c) h.offset (h.offset + h.len)) head ∙ cell_part x c c.head.offset (c.head.offset + c.head.len) k.fits in
-    told ∙ ap (λ d. state_by d (content_at x c)) (data_found HASH x c inside stands is.used)
-    ∙ ap (state_by (data_of HASH (cell_attributes (cell_in x c)))) (sym content)
+    ap (λ all. hash_state all (content_at x c)) (attributes_found r image c lies is stands) ∙ ap (hash_state (cell_attributes (cell_in x c))) (sym content)
 
 -- reads of attributes and digest end before the content
-pub read_to_content : {F : Type 0} {r : Range} {refused : ℕ} {old mid new : Pages F} (c : Cell) (tag : ℕ) (o : Option Placed) (found : Placed) → o ≡ Some found → IfSome o (IsAttrOf c tag)
+pub read_to_content : {F : Type 0} {r : Range} {refused : ℕ} {old mid new : Pages F} (c : Cell) (tag : ℕ) (o : Option (ℕ × AttrHead)) (found : ℕ × AttrHead) → o ≡ Some found → IfSome o (IsAttrOf c tag)
     → Passes r (attributes_start c) (searched_to c (Ok o)) 0 old mid → Passes r (found.0 + 8) (found.0 + 8 + (found.1.len - 8)) refused mid new → Passes r (attributes_start c) (content_start c) refused old new
 read_to_content c tag o found is attribute first second =
     let there = (rw is at attribute).attribute in
     Passes-then (rw is at first) second (le_refl _) (omega arith) (omega (arith, there.inside, there.head))
 
--- a comparison never results in an uncompared state
-pub compared_is_told : (stored computed : Digest) (state : HashState) → state ≡ comparison stored computed → IsUncompared state → ⊥
-compared_is_told stored computed state is = grind (arith, common_steps)
+-- a comparison results in no other state
+pub compared : (stored computed : Digest) (state : HashState) → state ≡ comparison stored computed → (let result : Result HashState FlashFault = Ok state in (result ≡ Ok states.Absent) ⊎ (result ≡ Ok states.Unsupported)) → ⊥
+compared stored computed state is = grind (arith, common_steps)

@@ -1,13 +1,14 @@
 -- The first component with a name.
 use Rattle.std.proofs.Common.{arith}
 use Rattle.std.proofs.lemmas.Grind.{common_steps}
+use Rattle.std.specs.Prelude.{Contains}
 use Rattle.std.proofs.Common.{◌≡◌, ℕ, Bool, true, false, cond, List, [], ◌∷◌, ◌++◌, Option, Some, None, Ok, refl, sym, subst, ◌∙◌, ap, All}
 use Rattle.std.specs.Str.{bytes_eq}
 use Rattle.std.proofs.lemmas.List.Elements.{All-nil, All-cons, All-head, All-tail, All-contains}
 use Rattle.std.proofs.lemmas.Slice.Eq.{bytes_eq-Decides}
 use Rattle.flash_format.specs.Components.{Component, components}
 use Rattle.cbfs_walk.specs.Search.{IsFirstOf, first_named, component_in}
-use Rattle.cbfs_walk.specs.Laws.{FoundIsFirst, FirstIsFound, ListedIsFound}
+use Rattle.cbfs_walk.specs.Shapes.{shape_fault}
 
 abbrev IsOther : List ℕ → Component → Type 0
 IsOther name c = bytes_eq c.name name ≡ false
@@ -51,15 +52,15 @@ same_name name = (bytes_eq-Decides name name).1 refl
 
 -- ---- in a region
 
-pub first_found : FirstIsFound
+pub first_found : (x name : List ℕ) (c : Component) → shape_fault x ≡ None → IsFirstOf name (components x) c → component_in x name ≡ Ok (Some c)
 unfolding component_in
 first_found x name c good is = grind (arith, common_steps, first_is)
 
-pub found_first : FoundIsFirst
+pub found_first : (x name : List ℕ) (c : Component) → component_in x name ≡ Ok (Some c) → IsFirstOf name (components x) c
 unfolding component_in
 found_first x name c found = grind (arith, common_steps, is_first)
 
-pub listed_found : ListedIsFound
+pub listed_found : (x : List ℕ) (c : Component) → shape_fault x ≡ None → Contains (components x) c → (d : Component) × (component_in x c.name ≡ Ok (Some d))
 unfolding component_in
 listed_found x c good listed = go (first_named c.name (components x)) refl
   where

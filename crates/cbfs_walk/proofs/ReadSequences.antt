@@ -1,6 +1,6 @@
 -- Consecutive reads.
 use Rattle.std.proofs.lemmas.Grind.{common_steps}
-use Rattle.std.proofs.Common.{◌≡◌, ◌⊎◌, inl, inr, ⊎_elim, ℕ, ◌+◌, ◌-◌, ◌*◌, ◌<◌, ◌≤◌, Result, Ok, Err, ◌∙◌, refl, sym, subst, arith, le_refl}
+use Rattle.std.proofs.Common.{◌≡◌, ◌⊎◌, inl, inr, ⊎_elim, ℕ, ◌+◌, ◌-◌, ◌*◌, ◌<◌, ◌≤◌, Result, Ok, Err, refl, sym, subst, arith, le_refl}
 use Rattle.std.specs.Prelude.{IfOk, OnOk, length}
 use Rattle.flash_device.specs.Device.{refusals}
 use Rattle.flash_device.specs.Pages.{Pages, HasAnswered, HasSeen}

@@ -1,22 +1,19 @@
 -- A walk's result at a position, by the entry.
-use Rattle.std.proofs.Common.{◌≡◌, ℕ, ◌-◌, ◌%◌, ◌<◌, ◌≤◌, Some, true, false, ◌&&◌, ◌⊎◌, inl, inr, List, length, drop, Ok, Err, refl, sym, ap, ◌∙◌, arith, eqb, length-drop, le_refl}
-use Rattle.std.specs.Prelude.{IfOk, IsErrOf}
+use Rattle.std.proofs.Common.{◌≡◌, ℕ, ◌-◌, ◌%◌, ◌<◌, ◌≤◌, Some, true, false, ◌&&◌, ◌⊎◌, List, length, drop, Ok, Err, refl, sym, ap, ◌∙◌, arith, eqb, length-drop, le_refl}
+use Rattle.std.specs.Prelude.{IfOk, Option, None}
 use Rattle.std.proofs.lemmas.Bool.{and_right}
 use Rattle.std.proofs.lemmas.Grind.{common_steps}
 use Rattle.flash_format.specs.declared.head.Head.{Head}
-use Rattle.flash_format.specs.declared.head.Extent.{Extent}
 use Rattle.flash_format.specs.declared.head.DamageKind.{DamageKind}
-use Rattle.flash_format.specs.Head.{head_of, is_free, extent_of}
-use Rattle.flash_format.specs.Entry.{Entry, absent, damaged, cell, entry, front, present, component}
+use Rattle.flash_format.specs.Entry.{Entry, absent, entry, front}
 use Rattle.flash_format.proofs.CutSteps.{front_some}
-use Rattle.flash_format.proofs.EntryLaws.{present_by}
 use Rattle.flash_device.specs.Device.{fault_count}
 use Rattle.flash_device.specs.Pages.{Pages, HasRead}
 use Rattle.flash_device.specs.Regions.{Range}
 use Rattle.flash_device.proofs.WindowLemmas.{HasRead-within}
 use Rattle.cbfs_walk.specs.declared.cell.Cell.{Cell}
 use Rattle.cbfs_walk.specs.Cells.{PassesChecks, content_start}
-use Rattle.cbfs_walk.specs.Walks.{Passes, reads_over, StepResult, Walking, EndsWalk, by_device, GivesCell, walk_after, answer_by, answer_of, answer_at, reads_at}
+use Rattle.cbfs_walk.specs.Walks.{Passes, reads_over, StepResult, Walking, EndsWalk, by_device, GivesCell, walk_after, answer_by, entry_or, checked_entry, answer_at, reads_at}
 use Rattle.cbfs_walk.proofs.Checks.{checks_give, entry_present}
 use Rattle.cbfs_walk.proofs.ReadSequences.{Passes-then}
 use Rattle.cbfs_walk.specs.Shapes.{has_bad_size, is_absent}
@@ -46,31 +43,25 @@ answer_absent x at size len good is first = grind (arith, common_steps)
 
 -- ---- checked heads
 
-cell_given : (x : List ℕ) (c : Cell) → c.head ≡ head_of x → Ok (steps.Cell c) ≡ answer_by x c.at (cell c.span)
-cell_given x c head = ap (λ (h : Head). Ok (steps.Cell (record { at = c.at; head = h; span = c.span }))) head
+-- by the first failed check after the checks of the head
+abbrev pub step_of : Cell → Option DamageKind → StepResult
+step_of c None = Ok (steps.Cell c)
+step_of c (Some kind) = Err (faults.Damaged c.at kind)
 
-pub answer_free : (x : List ℕ) (c : Cell) → c.head ≡ head_of x → true ≡ is_free c.head → Ok (steps.Cell c) ≡ answer_of x c
-answer_free x c head free = cell_given x c head ∙ ap (answer_by x c.at) (sym (present_by true c.head x (record { content = c.head.offset; span = c.span }) (sym free)))
-
-pub answer_damaged : (x : List ℕ) (c : Cell) (kind : DamageKind) → false ≡ is_free c.head → ((span : ℕ) → damaged kind ≡ component c.head x span) → Err (faults.Damaged c.at kind) ≡ answer_of x c
-answer_damaged x c kind used told = ap (answer_by x c.at) (told c.span ∙ sym (present_by false c.head x (record { content = c.head.offset; span = c.span }) (sym used)))
-
-pub answer_whole : (x : List ℕ) (c : Cell) → c.head ≡ head_of x → false ≡ is_free c.head → ((span : ℕ) → cell span ≡ component c.head x span) → Ok (steps.Cell c) ≡ answer_of x c
-answer_whole x c head used told = cell_given x c head ∙ ap (answer_by x c.at) (told c.span ∙ sym (present_by false c.head x (record { content = c.head.offset; span = c.span }) (sym used)))
-
-present_some : (h : Head) (x : List ℕ) (e : Extent) → is_absent (present h x (Ok e)) ≡ false
-present_some h x e = grind (arith, common_steps)
-
-pub answer_cell : (x : List ℕ) (at size : ℕ) (h : Head) (e : Extent) (a : StepResult) → length x ≡ size → false ≡ has_bad_size size → at < size → Some h ≡ front (drop at x) → Ok e ≡ extent_of h (size - at)
-    → (h ≡ head_of (drop at x) → IsErrOf a faults.Device ⊎ (a ≡ answer_of (drop at x) (record { at = at; head = h; span = e.span }))) → IsErrOf a faults.Device ⊎ (a ≡ answer_at x at)
-answer_cell x at size h e a len good inside head checks told = go (told (front_some (drop at x) h (sym head)).2)
+pub answer_checked : (x : List ℕ) (size : ℕ) (c : Cell) (damage : Option DamageKind) → length x ≡ size → false ≡ has_bad_size size → c.at < size → Some c.head ≡ front (drop c.at x)
+    → PassesChecks size c → entry_or damage c.span ≡ checked_entry (drop c.at x) c → step_of c damage ≡ answer_at x c.at
+answer_checked x size c damage len good inside head is told = go damage ∙ answer_entry x c.at size _ len good inside (told ∙ whole) (and_right (eqb c.at 0) _ (some damage))
   where
-    there : present h (drop at x) (Ok e) ≡ entry (drop at x)
-    there = entry_present (drop at x) h (size - at) (Ok e) head (omega (arith, length-drop at x, len)) checks
+    whole : checked_entry (drop c.at x) c ≡ entry (drop c.at x)
+    whole = entry_present (drop c.at x) c.head (size - c.at) _ head (omega (arith, length-drop c.at x, len)) (sym is)
 
-    go : IsErrOf a faults.Device ⊎ (a ≡ answer_of (drop at x) (record { at = at; head = h; span = e.span })) → IsErrOf a faults.Device ⊎ (a ≡ answer_at x at)
-    go (inl device) = inl device
-    go (inr is) = inr (is ∙ answer_entry x at size (present h (drop at x) (Ok e)) len good inside there (and_right (eqb at 0) (is_absent (present h (drop at x) (Ok e))) (present_some h (drop at x) e)))
+    some : (d : Option DamageKind) → is_absent (entry_or d c.span) ≡ false
+    some None = refl
+    some (Some kind) = refl
+
+    go : (d : Option DamageKind) → step_of c d ≡ answer_by (drop c.at x) c.at (entry_or d c.span)
+    go None = ap (λ (h : Head). Ok (steps.Cell (record { at = c.at; head = h; span = c.span }))) (front_some (drop c.at x) c.head (sym head)).2
+    go (Some kind) = refl
 
 pub cell_reads : {F : Type 0} (r : Range) (c : Cell) (old mid new : Pages F) (a : StepResult) → PassesChecks r.size c → IfOk a (λ step. step ≡ steps.Cell c)
     → Passes r c.at c.at 0 old mid → Passes r c.at (content_start c) (fault_count by_device a) mid new → HasRead (reads_at r.size c.at a) (fault_count by_device a) old new

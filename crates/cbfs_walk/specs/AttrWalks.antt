@@ -1,12 +1,10 @@
 -- Attribute lists.
-use Rattle.std.specs.Prelude.{ℕ, ◌+◌, ◌-◌, ◌/◌, ◌≤◌, ◌≡◌, false, min, List, length, drop, slice_get, slice_range, Option, Some, None, Result, Ok, Err, option_map, zero, suc, pred, [], ◌∷◌, ⊤, ◌==◌, if◌then◌else◌}
+use Rattle.std.specs.Prelude.{ℕ, ◌+◌, ◌-◌, ◌/◌, ◌≤◌, ◌≡◌, false, min, List, length, drop, slice_get, slice_range, Option, Some, None, Result, Ok, Err, option_map, zero, suc, pred, [], ◌∷◌, ⊤, ◌||◌, if◌then◌else◌}
 use Rattle.flash_format.specs.declared.attribute.AttrHead.{AttrHead}
-use Rattle.flash_format.specs.Entry.{Attribute, attributes, is_unused, least_len, attr_head_of, ends_list, is_malformed, name_end}
+use Rattle.flash_format.specs.Entry.{Attribute, attribute, attributes, is_unused, least_len, attr_head_of, ends_list, is_malformed, name_end}
 use Rattle.flash_device.specs.declared.flash.FlashFault.{FlashFault}
 use Rattle.cbfs_walk.specs.Cells.{content_start, attributes_start}
 use Rattle.cbfs_walk.specs.declared.cell.Cell.{Cell}
-use Rattle.std.specs.Option.{option_map_or}
-use Rattle.flash_format.specs.Head.{be32}
 use Rattle.cbfs_walk.specs.declared.attribute_walk.Listed.{Listed}
 use Rattle.cbfs_walk.specs.declared.attribute_walk.Listed.TheVariants as listed
 
@@ -52,50 +50,39 @@ first_head all = option_map head_of_attribute (slice_get all 0)
 abbrev pub after_first : List Attribute → List Attribute
 after_first all = drop 1 all
 
-abbrev pub listed_in : List ℕ → Listed
-listed_in x =
-    if ends_list x then listed.End
+-- what a list begins with
+abbrev pub next_attribute : List ℕ → Listed
+next_attribute x = if ends_list x then listed.End
     else (if is_malformed x then listed.Malformed else listed.Attribute (attr_head_of x))
 
 abbrev pub IsListedAttribute : ℕ → ℕ → Listed → Type 0
-IsListedAttribute at end (listed.Attribute h) = IsAttrIn at end h
+IsListedAttribute at end (listed.Attribute head) = IsAttrIn at end head
 IsListedAttribute at end _ = ⊤
 
 -- ---- the first attribute with a tag
 
--- position in the region, and head
-abbrev pub Placed : Type 0
-Placed = ℕ × AttrHead
+-- up to the list's end or first malformed attribute; the first `skip` bytes belong to the previous
+-- attribute
+unfoldable pub formed_after : ℕ → List ℕ → List Attribute
+formed_after skip [] = []
+formed_after (suc skip) (b ∷ rest) = formed_after skip rest
+formed_after zero (b ∷ rest) = let x = b ∷ rest in if ends_list x || is_malformed x then []
+    else attribute x ∷ formed_after (pred (attr_head_of x).len) rest
 
--- the attribute if its tag matches, otherwise the later result
-abbrev pub by_tag : ℕ → ℕ → Listed → (ℕ → Option Placed) → Option Placed
-by_tag tag at (listed.Attribute h) later = if h.tag == tag then Some (at, h) else later h.len
-by_tag tag at _ later = None
+-- a component's attributes in the region, up to the first malformed one
+abbrev pub attributes_in : List ℕ → Cell → List Attribute
+attributes_in x c = formed_after 0 (slice_range x (attributes_start c) (content_start c))
 
--- the first `skip` bytes belong to the previous attribute
-unfoldable pub first_after : ℕ → ℕ → ℕ → List ℕ → Option Placed
-first_after skip tag at [] = None
-first_after (suc skip) tag at (b ∷ rest) = first_after skip tag (at + 1) rest
-first_after zero tag at (b ∷ rest) =
-    by_tag tag at (listed_in (b ∷ rest)) (λ len. first_after (pred len) tag (at + 1) rest)
-
-abbrev pub first_in : ℕ → ℕ → List ℕ → Option Placed
-first_in tag at x = first_after 0 tag at x
-
-abbrev pub first_attribute : List ℕ → Cell → ℕ → Option Placed
-first_attribute x c tag =
-    first_in tag (attributes_start c) (slice_range x (attributes_start c) (content_start c))
-
-pub record IsAttrOf (c : Cell) (tag : ℕ) (found : Placed) : Type 0 where
+-- a position in the region, and the head there
+pub record IsAttrOf (c : Cell) (tag : ℕ) (found : ℕ × AttrHead) : Type 0 where
   pub low : attributes_start c ≤ found.0
   pub attribute : IsAttrIn found.0 (content_start c) found.1
   pub has : found.1.tag ≡ tag
 
+abbrev pub data_at : List ℕ → ℕ × AttrHead → List ℕ
+data_at x found = slice_range x (found.0 + 8) (found.0 + found.1.len)
+
 -- the end of a search: the attribute, or the content
-abbrev pub searched_to : Cell → Result (Option Placed) FlashFault → ℕ
+abbrev pub searched_to : Cell → Result (Option (ℕ × AttrHead)) FlashFault → ℕ
 searched_to c (Ok (Some found)) = found.0
 searched_to c _ = content_start c
-
--- an attribute's first value, or 0
-abbrev pub value_in : List ℕ → Option Placed → ℕ
-value_in x found = option_map_or (λ (it : Placed). be32 (it.0 + 8) x) found 0

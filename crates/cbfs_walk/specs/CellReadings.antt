@@ -21,9 +21,7 @@ reading_of refuse read x at = refused_or refuse (shape_fault_at x at) (read at (
 
 -- `read` is defined cell by cell
 abbrev pub ReadsCells : {A : Type 0} → (ℕ → Cut → A) → (List ℕ → Cell → A → A) → Type 0
-ReadsCells read each =
-    (at : ℕ) (c : List ℕ) (k : Cut)
-    → read at (after (c ∷ []) k)
+ReadsCells read each = (at : ℕ) (c : List ℕ) (k : Cut) → read at (after (c ∷ []) k)
     ≡ each c (record { at = at; head = head_of c; span = length c }) (read (at + length c) k)
 
 abbrev pub by_answer : {A : Type 0} → (WalkFault → A) → (ℕ → Cut → A) → (List ℕ → Cell → A → A)

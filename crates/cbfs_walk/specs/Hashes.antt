@@ -1,8 +1,8 @@
 -- Digests in hash attributes (`struct cbfs_file_attr_hash`): a big-endian `enum vb2_hash_algorithm`
 -- of vboot, and a digest of FIPS 180-4. This project's rules: supported algorithms and attribute
 -- lengths.
-use Rattle.std.specs.Prelude.{ℕ, ◌+◌, List, length, slice_range, Option, Some, None, nat_lt, if◌then◌else◌, ⊤}
-use Rattle.std.specs.Option.{option_and_then, option_map, option_map_or}
+use Rattle.std.specs.Prelude.{ℕ, ◌+◌, List, length, slice_range, Option, Some, None, nat_lt, if◌then◌else◌}
+use Rattle.std.specs.Option.{option_and_then, option_map_or}
 use Rattle.std.specs.Str.{bytes_eq}
 use Rattle.sha2.specs.Sha256.{sha256}
 use Rattle.sha2.specs.Sha512.{sha512}
@@ -18,7 +18,6 @@ use Rattle.cbfs_walk.specs.declared.cell.Cell.{Cell}
 use Rattle.cbfs_walk.specs.declared.hashes.HashState.{HashState}
 use Rattle.cbfs_walk.specs.declared.hashes.HashState.TheVariants.{Absent, Valid, Invalid, Unsupported}
 use Rattle.cbfs_walk.specs.Cells.{content_start, content_end}
-use Rattle.cbfs_walk.specs.AttrWalks.{Placed, first_attribute}
 
 -- ---- digests
 
@@ -43,30 +42,13 @@ abbrev pub comparison : Digest → Digest → HashState
 comparison stored computed =
     if bytes_eq (digest_bytes stored) (digest_bytes computed) then Valid stored else Invalid stored
 
--- by the data of a hash attribute, if any
-abbrev pub state_by : Option (List ℕ) → List ℕ → HashState
-state_by None content = Absent
-state_by (Some contents) content = option_map_or
-    (λ stored. comparison stored (hashed_by (algorithm stored) content))
-    (stored_digest contents) Unsupported
-
 -- by the first hash attribute
 abbrev pub hash_state : List Attribute → List ℕ → HashState
-hash_state all content = state_by (data_of HASH all) content
+hash_state all content = option_map_or (λ contents. option_map_or
+    (λ stored. comparison stored (hashed_by (algorithm stored) content))
+    (stored_digest contents) Unsupported) (data_of HASH all) Absent
 
 -- ---- in a region
 
-abbrev pub data_at : List ℕ → Placed → List ℕ
-data_at x found = slice_range x (found.0 + 8) (found.0 + found.1.len)
-
 abbrev pub content_at : List ℕ → Cell → List ℕ
 content_at x c = slice_range x (content_start c) (content_end c)
-
-abbrev pub hash_state_in : List ℕ → Cell → HashState
-hash_state_in x c = state_by (option_map (data_at x) (first_attribute x c HASH)) (content_at x c)
-
--- a state without a comparison
-abbrev pub IsUncompared : HashState → Type 0
-IsUncompared (Valid digest) = ⊥
-IsUncompared (Invalid digest) = ⊥
-IsUncompared _ = ⊤

@@ -36,16 +36,12 @@ found_or found otherwise = option_map_or (λ c. Ok (Some c)) found otherwise
 
 -- the first component with the name, or the end of the cells
 unfoldable pub component_in : List ℕ → List ℕ → Found
-component_in x name =
-    refused_or (λ fault. Err fault) (shape_fault x)
-    (found_or (first_named name (components x))
-    (not_found (place_after 0 (cut x).cells) (cut x).end))
-
-abbrev pub cell_of : Component → Cell
-cell_of c = record { at = c.at; head = head_of c.bytes; span = length c.bytes }
+component_in x name = refused_or (λ fault. Err fault) (shape_fault x) (found_or
+    (first_named name (components x)) (not_found (place_after 0 (cut x).cells) (cut x).end))
 
 abbrev pub found_cell : Found → Result (Option Cell) WalkFault
-found_cell found = result_map_both (option_map cell_of) (λ fault. fault) found
+found_cell found = result_map_both (option_map (λ (c : Component).
+    record { at = c.at; head = head_of c.bytes; span = length c.bytes })) (λ fault. fault) found
 
 abbrev pub find_reads : ℕ → Result (Option Cell) WalkFault → ℕ
 find_reads size (Ok (Some c)) = (c.at + c.span) / 16

@@ -14,10 +14,8 @@ is_absent _ = false
 
 -- an invalid size, or no entry at the region's start
 abbrev pub shape_fault_at : List ℕ → ℕ → Option WalkFault
-shape_fault_at x at =
-    if has_bad_size (length x) then Some faults.RegionShape
-    else if at == 0 && is_absent (entry x) then Some faults.NotCbfs
-    else None
+shape_fault_at x at = if has_bad_size (length x) then Some faults.RegionShape
+    else if at == 0 && is_absent (entry x) then Some faults.NotCbfs else None
 
 abbrev pub shape_fault : List ℕ → Option WalkFault
 shape_fault x = shape_fault_at x 0

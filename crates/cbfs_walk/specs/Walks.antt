@@ -1,10 +1,12 @@
 -- Walks over the cells of a region, and ordered reads.
-use Rattle.std.specs.Prelude.{◌≡◌, ◌⊎◌, ◌*◌, ◌≤◌, ℕ, ◌+◌, ◌-◌, ◌/◌, List, Result, length, drop, Option, Some, None, Ok, Err, ◌==◌, if◌then◌else◌, ⊤}
+use Rattle.std.specs.Prelude.{◌≡◌, ◌⊎◌, ◌*◌, ◌≤◌, ℕ, ◌+◌, ◌-◌, ◌/◌, List, Result, length, drop, Option, Some, None, Ok, Err, ◌==◌, if◌then◌else◌, ⊤, IfOk}
 use Rattle.flash_device.specs.Device.{refusals}
 use Rattle.flash_device.specs.Pages.{Pages, Covers, HasRead, OnHonestIn, Returns}
 use Rattle.flash_device.specs.Regions.{Range}
 use Rattle.flash_format.specs.Head.{head_of}
 use Rattle.flash_format.specs.Entry.{Entry, absent, damaged, cell, entry, present}
+use Rattle.flash_format.specs.declared.head.DamageKind.{DamageKind}
+use Rattle.std.specs.Option.{option_map_or}
 use Rattle.cbfs_walk.specs.Cells.{IsCellIn, cell_in}
 use Rattle.cbfs_walk.specs.Shapes.{shape_fault_at, refused_or}
 use Rattle.cbfs_walk.specs.declared.cell.Cell.{Cell}
@@ -12,8 +14,6 @@ use Rattle.cbfs_walk.specs.declared.walk.Step.{Step}
 use Rattle.cbfs_walk.specs.declared.walk.Step.TheVariants as steps
 use Rattle.cbfs_walk.specs.declared.walk.WalkFault.{WalkFault}
 use Rattle.cbfs_walk.specs.declared.walk.WalkFault.TheVariants as faults
-use Rattle.std.specs.Option.{option_map_or}
-use Rattle.flash_format.specs.declared.head.DamageKind.{DamageKind}
 
 -- device calls for n bytes in ordered reads of at most 256 bytes: one, and another per 3840 bytes
 abbrev pub reads_over : ℕ → ℕ
@@ -21,8 +21,7 @@ reads_over n = 1 + n / 3840
 
 -- a read of n bytes at q, from `at` on, which needs a call
 abbrev pub IsLoad : {F : Type 0} → Pages F → ℕ → ℕ → ℕ → Type 0
-IsLoad p at q n =
-    (at ≤ q) × (n ≤ 256) × (q + n ≤ length p.device.content) × (Covers p.held q n → ⊥)
+IsLoad p at q n = (at ≤ q) × (n ≤ 256) × (q + n ≤ length p.device.content) × (Covers p.held q n → ⊥)
 
 -- Ordered reads between two positions of a region, with the number of faults. A call loads at least
 -- 3840 bytes for later reads. So the distance between a load before these reads and a load after
@@ -41,6 +40,12 @@ pub record Passes {F : Type 0} (region : Range) (at end refused : ℕ)
 -- such reads by a call that fails if a read fails
 abbrev pub HasPassed : {F T E : Type 0} → Range → ℕ → ℕ → Pages F → Pages F → Result T E → Type 0
 HasPassed region at end old new result = Passes region at end (refusals result) old new
+
+-- such reads; on an honest device, a success's value is what `Is` says of the region's bytes
+pub record ReadsIn {F T E : Type 0} (region : Range) (at end : ℕ) (old new : Pages F)
+    (result : Result T E) (Is : List ℕ → T → Type 0) : Type 0 where
+  pub passed : HasPassed region at end old new result
+  pub value : OnHonestIn old.device region (λ x. IfOk result (Is x))
 
 abbrev pub StepResult : Type 0
 StepResult = Result Step WalkFault
@@ -63,15 +68,16 @@ answer_by rest at (damaged kind) = Err (faults.Damaged at kind)
 answer_by rest at (cell span) =
     Ok (steps.Cell (record { at = at; head = head_of rest; span = span }))
 
--- the result after the checks of the head, given the bytes from the cell on
-abbrev pub answer_of : List ℕ → Cell → StepResult
-answer_of rest c = answer_by rest c.at
-    (present c.head rest (Ok (record { content = c.head.offset; span = c.span })))
+abbrev pub entry_or : Option DamageKind → ℕ → Entry
+entry_or fault span = option_map_or damaged fault (cell span)
+
+-- the entry after the checks of the head, given the bytes from the cell on
+abbrev pub checked_entry : List ℕ → Cell → Entry
+checked_entry rest c =
+    present c.head rest (Ok (record { content = c.head.offset; span = c.span }))
 
 unfoldable pub answer_at : List ℕ → ℕ → StepResult
-answer_at x at =
-    let rest = drop at x in
-    refused_or (λ fault. Err fault) (shape_fault_at x at)
+answer_at x at = let rest = drop at x in refused_or (λ fault. Err fault) (shape_fault_at x at)
     (if length rest == 0 then Ok steps.End else answer_by rest at (entry rest))
 
 -- a walk returns the cell at its position
@@ -111,6 +117,3 @@ EndsWalk _ = ⊤
 abbrev pub reads_at : ℕ → ℕ → StepResult → ℕ
 reads_at size at (Ok (steps.Cell c)) = reads_over c.span
 reads_at size at _ = reads_over (size - at)
-
-abbrev pub entry_or : Option DamageKind → ℕ → Entry
-entry_or fault span = option_map_or damaged fault (cell span)

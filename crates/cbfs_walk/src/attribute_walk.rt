@@ -1,13 +1,14 @@
 //! Attributes of components.
-ghost use Rattle.std.specs.Prelude.{◌≡◌, ℕ, ◌+◌, ◌-◌, ◌/◌, ◌≤◌, min, false, List, slice_range, IfOk, Some, None, is_some};
+ghost use Rattle.std.specs.Prelude.{◌≡◌, ℕ, ◌+◌, ◌<◌, ◌≤◌, false, List, slice_range, IfOk, Some, None, is_some};
+ghost use Rattle.std.specs.Option.{option_map};
 ghost use Rattle.flash_format.specs.Head.{is_free, be32};
-ghost use Rattle.flash_format.specs.Entry.{Attribute, attributes, COMPRESSION, name_end};
+ghost use Rattle.flash_format.specs.Entry.{Attribute, attributes, data_of};
 ghost use Rattle.flash_format.specs.Components.{cell_attributes, packing};
 ghost use Rattle.flash_device.specs.Pages.{HasAnswered, OnHonestIn, ReadsAs, IfFound};
 ghost use Rattle.flash_device.specs.Regions.{Reaches};
-ghost use Rattle.cbfs_walk.specs.Walks.{HasPassed, reads_over, StandsIn, ReadsCellAs};
+ghost use Rattle.cbfs_walk.specs.Walks.{HasPassed, ReadsIn, reads_over, StandsIn, ReadsCellAs};
 ghost use Rattle.cbfs_walk.specs.Cells.{IsCellOn, IsComponentIn, attributes_start, cell_in};
-ghost use Rattle.cbfs_walk.specs.AttrWalks.{place_in_region, attr_walk_of, attr_moved, attr_reads, IsAttrIn, attributes_left, first_head, after_first, IsListedAttribute, listed_in, IsAttrOf, first_attribute, searched_to, value_in};
+ghost use Rattle.cbfs_walk.specs.AttrWalks.{place_in_region, attr_walk_of, attr_moved, attr_reads, IsAttrIn, attributes_left, first_head, after_first, next_attribute, IsListedAttribute, attributes_in, IsAttrOf, data_at, searched_to};
 
 use crate::cell::{Cell, content_fits};
 use crate::names::name_end;
@@ -94,8 +95,7 @@ pub fn packing<F: Flash>(
 
     ensures after { HasAnswered (reads_over cell.now.head.offset) paged.old paged.new result }
 
-    ensures value { ReadsAs paged.old region result
-        (λ x. value_in x (first_attribute x cell.now COMPRESSION)) }
+    ensures value { ReadsAs paged.old region result (λ x. packing (attributes_in x cell.now)) }
     ensures packing { ReadsCellAs paged.old region cell.now result
         (λ x. packing (cell_attributes x)) }
 {
@@ -116,10 +116,10 @@ pub fn first_attribute<F: Flash>(
 ) -> Result<Option<(u64, AttrHead)>, FlashFault>
     requires { IsCellOn IsComponentIn region cell.now paged.old.device }
 
-    ensures passes { HasPassed region (attributes_start cell.now)
-        (searched_to cell.now result) paged.old paged.new result }
     ensures attribute { IfFound result (IsAttrOf cell.now tag) }
-    ensures first { ReadsAs paged.old region result (λ x. first_attribute x cell.now tag) }
+    ensures first { ReadsIn region (attributes_start cell.now) (searched_to cell.now result)
+        paged.old paged.new result (λ x found.
+        option_map (data_at x) found ≡ data_of tag (attributes_in x cell.now)) }
 {
     content_fits(cell, region);
     let end = cell.at + u64::from(cell.head.offset);
@@ -147,9 +147,8 @@ pub fn are_well_formed<F: Flash>(
     requires reach { Reaches region end paged.old.device }
     requires order { from ≤ end }
 
-    ensures passes { HasPassed region from end paged.old paged.new result }
-    ensures formed { ReadsAs paged.old region result
-        (λ x. is_some (attributes (slice_range x from end))) }
+    ensures { ReadsIn region from end paged.old paged.new result
+        (λ x formed. formed ≡ is_some (attributes (slice_range x from end))) }
 {
     let mut at = from;
     loop {
@@ -177,11 +176,10 @@ fn listed_at<F: Flash>(
     requires reach { Reaches region end paged.old.device }
     requires order { at ≤ end }
 
-    ensures after { HasAnswered (min 1 ((end - at) / 8)) paged.old paged.new result }
     ensures passes { HasPassed region at at paged.old paged.new result }
-    ensures none { at ≡ end → (result ≡ Ok Listed.End) × (paged.new ≡ paged.old) }
-    ensures attribute { IfOk result (λ listed. IsListedAttribute at end listed) }
-    ensures listed { ReadsAs paged.old region result (λ x. listed_in (slice_range x at end)) }
+    ensures few { end < at + 8 → (result ≡ Ok Listed.End) × (paged.new ≡ paged.old) }
+    ensures attribute { IfOk result (IsListedAttribute at end) }
+    ensures listed { ReadsAs paged.old region result (λ x. next_attribute (slice_range x at end)) }
 {
     if end - at < 8 {
         return Ok(Listed::End);
@@ -201,8 +199,7 @@ fn listed_at<F: Flash>(
 pub fn value_at<F: Flash>(paged: &mut Paged<F>, region: Region, at: u64) -> Result<u32, FlashFault>
     requires { Reaches region (at + 4) paged.old.device }
 
-    ensures passes { HasPassed region at at paged.old paged.new result }
-    ensures value { ReadsAs paged.old region result (λ x. be32 at x) }
+    ensures { ReadsIn region at at paged.old paged.new result (λ x value. value ≡ be32 at x) }
 {
     let mut bytes = [0; 4];
     read_in(paged, region, at, &mut bytes)?;

@@ -1,13 +1,14 @@
 //! Digests of contents.
-ghost use Rattle.std.specs.Prelude.{◌≡◌, ◌+◌, ◌≤◌, slice_range, IfOk};
+ghost use Rattle.std.specs.Prelude.{◌≡◌, ◌⊎◌, ◌+◌, ◌≤◌, slice_range};
 ghost use Rattle.flash_format.specs.declared.digest.Digest.TheVariants as digests;
 ghost use Rattle.flash_format.specs.Components.{cell_attributes, cell_content};
 ghost use Rattle.flash_format.specs.Made.{algorithm};
-ghost use Rattle.flash_device.specs.Pages.{HasAnswered, HasRead, OnHonestIn, ReadsAs};
+ghost use Rattle.flash_device.specs.Pages.{HasAnswered, HasRead, ReadsAs};
 ghost use Rattle.flash_device.specs.Regions.{Reaches};
-ghost use Rattle.cbfs_walk.specs.Walks.{HasPassed, reads_over, ReadsCellAs};
+ghost use Rattle.cbfs_walk.specs.Walks.{ReadsIn, reads_over, ReadsCellAs};
 ghost use Rattle.cbfs_walk.specs.Cells.{IsCellOn, IsComponentIn, PassesChecks, content_start, content_end};
-ghost use Rattle.cbfs_walk.specs.Hashes.{hashed_by, stored_digest, comparison, hash_state, content_at, hash_state_in, IsUncompared};
+ghost use Rattle.cbfs_walk.specs.AttrWalks.{attributes_in};
+ghost use Rattle.cbfs_walk.specs.Hashes.{hashed_by, stored_digest, comparison, hash_state, content_at};
 
 use crate::attribute_walk::{first_attribute, value_at};
 use crate::cell::{Cell, content_fits};
@@ -42,10 +43,11 @@ pub fn check_hash<F: Flash>(
     requires { IsCellOn IsComponentIn region cell.now paged.old.device }
 
     ensures after { HasAnswered (reads_over cell.now.span) paged.old paged.new result }
-    ensures unread { IfOk result (λ state. IsUncompared state
-        → HasRead (reads_over cell.now.head.offset) 0 paged.old paged.new) }
+    ensures unread { (result ≡ Ok HashState.Absent) ⊎ (result ≡ Ok HashState.Unsupported)
+        → HasRead (reads_over cell.now.head.offset) 0 paged.old paged.new }
 
-    ensures value { ReadsAs paged.old region result (λ x. hash_state_in x cell.now) }
+    ensures value { ReadsAs paged.old region result
+        (λ x. hash_state (attributes_in x cell.now) (content_at x cell.now)) }
     ensures state { ReadsCellAs paged.old region cell.now result
         (λ x. hash_state (cell_attributes x) (cell_content x)) }
 {
@@ -72,9 +74,8 @@ fn stored_digest<F: Flash>(
     requires reach { Reaches region (at + n) paged.old.device }
     requires least { 4 ≤ n }
 
-    ensures passes { HasPassed region at (at + n) paged.old paged.new result }
-    ensures stored { ReadsAs paged.old region result
-        (λ x. stored_digest (slice_range x at (at + n))) }
+    ensures { ReadsIn region at (at + n) paged.old paged.new result
+        (λ x stored. stored ≡ stored_digest (slice_range x at (at + n))) }
 {
     let number = value_at(paged, region, at)?;
     let Some(algorithm) = Algorithm::numbered(number) else {
@@ -97,10 +98,8 @@ fn content_digest<F: Flash>(
 ) -> Result<Digest, FlashFault>
     requires { IsCellOn PassesChecks region cell.now paged.old.device }
 
-    ensures passes { HasPassed region (content_start cell.now) (content_end cell.now)
-        paged.old paged.new result }
-    ensures digest { ReadsAs paged.old region result
-        (λ x. hashed_by (algorithm stored.now) (content_at x cell.now)) }
+    ensures { ReadsIn region (content_start cell.now) (content_end cell.now) paged.old paged.new
+        result (λ x digest. digest ≡ hashed_by (algorithm stored.now) (content_at x cell.now)) }
 {
     match stored {
         Digest::Sha256(_) => Ok(Digest::Sha256(hash_content::<F, Sha256>(paged, region, cell)?)),
@@ -125,10 +124,8 @@ fn hash_content<F: Flash, D: sha2::Digest>(
 ) -> Result<D::Output, FlashFault>
     requires { IsCellOn PassesChecks region cell.now paged.old.device }
 
-    ensures passes { HasPassed region (content_start cell.now) (content_end cell.now)
-        paged.old paged.new result }
-    ensures digest { OnHonestIn paged.old.device region (λ x.
-        IfOk result (D.digest_of (content_at x cell.now))) }
+    ensures { ReadsIn region (content_start cell.now) (content_end cell.now) paged.old paged.new
+        result (λ x. D.digest_of (content_at x cell.now)) }
 {
     content_fits(cell, region);
     let mut hasher = D::new();

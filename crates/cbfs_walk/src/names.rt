@@ -1,12 +1,11 @@
 //! Names of components.
 ghost use Rattle.std.specs.Prelude.{◌≡◌, ◌+◌, ◌≤◌, false, length, take, drop, IfOk};
-ghost use Rattle.std.specs.List.{before_first, list_any};
+ghost use Rattle.std.specs.List.{before_first};
 ghost use Rattle.std.specs.Str.{bytes_eq};
 ghost use Rattle.flash_format.specs.Entry.{name_field, name_end, is_terminated, is_nul};
 ghost use Rattle.flash_format.specs.Components.{cell_name};
-ghost use Rattle.flash_device.specs.Pages.{HasAnswered, OnHonestIn, ReadsAs};
-ghost use Rattle.flash_device.specs.Regions.{Reaches};
-ghost use Rattle.cbfs_walk.specs.Walks.{HasPassed, StandsIn, ReadsCellAs};
+ghost use Rattle.flash_device.specs.Pages.{HasAnswered, OnHonestIn};
+ghost use Rattle.cbfs_walk.specs.Walks.{ReadsIn, StandsIn, ReadsCellAs};
 ghost use Rattle.cbfs_walk.specs.Cells.{IsCellOn, IsComponentIn, cell_in};
 
 use crate::cell::{Cell, content_fits};
@@ -61,26 +60,24 @@ pub fn name_is<F: Flash>(
     }
     // The name and its NUL.
     let bytes = piece_in(paged, region, cell.at + 24, name.len() + 1)?;
-    Ok(shows_text(bytes, name))
+    Ok(&bytes[..text_len(bytes)] == name)
 }
 
 /// Returns whether the first 256 bytes of the name field include a NUL.
 pub fn has_name_end<F: Flash>(
     paged: &mut Paged<F>,
     region: Region,
-    at: u64,
-    head: &Head,
+    cell: &Cell,
 ) -> Result<bool, FlashFault>
-    requires reach { Reaches region (at + name_end head.now) paged.old.device }
-    requires order { 24 ≤ name_end head.now }
+    requires { IsCellOn IsComponentIn region cell.now paged.old.device }
 
-    ensures passes { HasPassed region (at + 24) (at + 24) paged.old paged.new result }
-    ensures ends { ReadsAs paged.old region result
-        (λ x. is_terminated (name_field head.now (drop at x))) }
+    ensures { ReadsIn region (cell.now.at + 24) (cell.now.at + 24) paged.old paged.new result
+        (λ x ends. ends ≡ is_terminated (name_field cell.now.head (drop cell.now.at x))) }
 {
-    let n = name_room(head).min(256);
-    let bytes = piece_in(paged, region, at + 24, n)?;
-    Ok(has_nul(bytes))
+    content_fits(cell, region);
+    let n = name_room(&cell.head).min(256);
+    let bytes = piece_in(paged, region, cell.at + 24, n)?;
+    Ok(bytes.contains(&0))
 }
 
 /// Returns the end of a component's name field, relative to the entry.
@@ -99,18 +96,6 @@ fn name_room(head: &Head) -> usize
     ensures { result + 24 ≡ name_end head.now }
 {
     name_end(head) as usize - 24
-}
-
-fn has_nul(bytes: &[u8]) -> bool
-    ensures { result ≡ list_any is_nul bytes.now }
-{
-    bytes.iter().any(|b| *b == 0)
-}
-
-fn shows_text(bytes: &[u8], text: &[u8]) -> bool
-    ensures { result ≡ bytes_eq (before_first is_nul bytes.now) text.now }
-{
-    &bytes[..text_len(bytes)] == text
 }
 
 fn text_len(bytes: &[u8]) -> usize

@@ -1,16 +1,14 @@
 //! The walk over cells.
-ghost use Rattle.std.specs.Prelude.{◌≡◌, ◌⊎◌, ℕ, ◌+◌, ◌-◌, ◌*◌, ◌/◌, ◌%◌, ◌<◌, ◌≤◌, None, IsSome, IfOk, IfSome, IsErrOf, drop};
-ghost use Rattle.flash_format.specs.Entry.{front, component, name_end};
-ghost use Rattle.flash_format.specs.Head.{head_of};
-ghost use Rattle.flash_device.specs.Device.{fault_count};
-ghost use Rattle.flash_device.specs.Pages.{OnHonestIn, Returns, HasReadBy, ReadsAs, AnswersAs};
+ghost use Rattle.std.specs.Prelude.{◌≡◌, ◌⊎◌, ◌*◌, ◌/◌, ◌%◌, ◌≤◌, None, IsSome, IfSome, IsErrOf, drop};
+ghost use Rattle.flash_format.specs.Entry.{front};
+ghost use Rattle.flash_device.specs.Pages.{OnHonestIn, HasReadBy, AnswersAs};
 ghost use Rattle.flash_device.specs.Regions.{LiesOn, Reaches};
 ghost use Rattle.cbfs_walk.specs.Cells.{IsCellOn, PassesChecks, content_start};
-ghost use Rattle.cbfs_walk.specs.Walks.{entry_or, by_device, walk_of, walk_after, answer_at, answer_of, GivesCell, reads_at, HasPassed, Passes};
+ghost use Rattle.cbfs_walk.specs.Walks.{by_device, walk_of, walk_after, answer_at, entry_or, checked_entry, GivesCell, reads_at, ReadsIn};
 ghost use Rattle.cbfs_walk.specs.Shapes.{has_bad_size};
 
 use crate::attribute_walk::are_well_formed;
-use crate::cell::Cell;
+use crate::cell::{Cell, content_fits};
 use crate::names::{has_name_end, name_end};
 use crate::region_reads::read_in;
 use flash_device::{Flash, FlashFault, Paged};
@@ -139,8 +137,7 @@ fn answer_at<F: Flash>(paged: &mut Paged<F>, region: Region, at: u64) -> Result<
     requires reach { Reaches region at paged.old.device }
     requires aligned { at % 64 ≡ 0 }
 
-    ensures after
-        { HasReadBy by_device (reads_at region.size at result) paged.old paged.new result }
+    ensures after { HasReadBy by_device (reads_at region.size at result) paged.old paged.new result }
     ensures cell { GivesCell region.size at result }
     ensures answer { AnswersAs paged.old region WalkFault.Device result (λ x. answer_at x at) }
 {
@@ -156,35 +153,18 @@ fn answer_at<F: Flash>(paged: &mut Paged<F>, region: Region, at: u64) -> Result<
         None => Ok(Step::Tail(at)),
         Some(head) => match head.check(left) {
             Err(kind) => Err(WalkFault::Damaged { at, kind }),
-            Ok(extent) => cell_at(
-                paged,
-                region,
-                &Cell {
+            Ok(extent) => {
+                let cell = Cell {
                     at,
                     head,
                     span: extent.span,
-                },
-            ),
+                };
+                match damage_in(paged, region, &cell)? {
+                    Some(kind) => Err(WalkFault::Damaged { at, kind }),
+                    None => Ok(Step::Cell(cell)),
+                }
+            }
         },
-    }
-}
-
-fn cell_at<F: Flash>(paged: &mut Paged<F>, region: Region, cell: &Cell) -> Result<Step, WalkFault>
-    requires { IsCellOn PassesChecks region cell.now paged.old.device }
-
-    ensures passes { Passes region cell.now.at (content_start cell.now)
-        (fault_count by_device result) paged.old paged.new }
-    ensures cell { Returns result (Step.Cell cell.now) }
-    ensures answer { OnHonestIn paged.old.device region
-        (λ x. cell.now.head ≡ head_of (drop cell.now.at x)
-        → IsErrOf result WalkFault.Device ⊎ (result ≡ answer_of (drop cell.now.at x) cell.now)) }
-{
-    if cell.head.is_free() {
-        return Ok(Step::Cell(*cell));
-    }
-    match damage_in(paged, region, cell.at, &cell.head)? {
-        Some(kind) => Err(WalkFault::Damaged { at: cell.at, kind }),
-        None => Ok(Step::Cell(*cell)),
     }
 }
 
@@ -195,8 +175,7 @@ fn front_at<F: Flash>(
 ) -> Result<Option<Head>, FlashFault>
     requires { Reaches region at paged.old.device }
 
-    ensures passes { HasPassed region at at paged.old paged.new result }
-    ensures head { ReadsAs paged.old region result (λ x. front (drop at x)) }
+    ensures { ReadsIn region at at paged.old paged.new result (λ x head. head ≡ front (drop at x)) }
 {
     if region.size() - at < 24 {
         return Ok(None);
@@ -206,25 +185,26 @@ fn front_at<F: Flash>(
     Ok(Head::read(&bytes))
 }
 
-/// Returns the first failed check after the checks of the head.
+/// Returns the first failed check of a component after the checks of its head. Free space has none.
 fn damage_in<F: Flash>(
     paged: &mut Paged<F>,
     region: Region,
-    at: u64,
-    head: &Head,
+    cell: &Cell,
 ) -> Result<Option<DamageKind>, FlashFault>
-    requires reach { Reaches region (at + head.now.offset) paged.old.device }
-    requires name { (24 ≤ name_end head.now) × (name_end head.now ≤ head.now.offset) }
+    requires { IsCellOn PassesChecks region cell.now paged.old.device }
 
-    ensures passes { HasPassed region at (at + head.now.offset) paged.old paged.new result }
-    ensures damage { OnHonestIn paged.old.device region (λ x. IfOk result (λ damage.
-        (span : ℕ) → entry_or damage span ≡ component head.now (drop at x) span)) }
+    ensures { ReadsIn region cell.now.at (content_start cell.now) paged.old paged.new result
+        (λ x damage. entry_or damage cell.now.span ≡ checked_entry (drop cell.now.at x) cell.now) }
 {
-    if !has_name_end(paged, region, at, head)? {
+    content_fits(cell, region);
+    if cell.head.is_free() {
+        return Ok(None);
+    }
+    if !has_name_end(paged, region, cell)? {
         return Ok(Some(DamageKind::Name));
     }
-    let from = at + u64::from(name_end(head));
-    if !are_well_formed(paged, region, from, at + u64::from(head.offset))? {
+    let from = cell.at + u64::from(name_end(&cell.head));
+    if !are_well_formed(paged, region, from, cell.at + u64::from(cell.head.offset))? {
         return Ok(Some(DamageKind::AttrLength));
     }
     Ok(None)

@@ -1,20 +1,29 @@
-use Rattle.std.proofs.Common.{arith, le_refl}
+use Rattle.std.proofs.Common.{arith, le_refl, ap, ◌∙◌}
+use Rattle.std.specs.Option.{option_map_or}
+use Rattle.flash_format.specs.Head.{be32}
+use Rattle.flash_format.specs.Components.{packing}
 use Rattle.flash_device.proofs.DeviceLemmas.{honest_still}
 use Rattle.cbfs_walk.proofs.ReadSequences.{Passes-answers, Passes-then, IfOk-to}
-use Rattle.cbfs_walk.proofs.AttributeScans.{packing_found}
+use Rattle.cbfs_walk.proofs.AttributeScans.{attributes_found, value_is}
 use Rattle.cbfs_walk.proofs.attribute_walk.packing.Goals as goal
 
 pub returns-in-Some-clause-after : goal.returns-in-Some-clause-after
 returns-in-Some-clause-after g c =
     let attribute = rw c.in-Some.is at c.in_ok-at.ensures.attribute in
-    Passes-answers (Passes-then (rw c.in-Some.is at c.in_ok-at.ensures.passes) c.value_at.ensures.passes (le_refl _) (omega arith) (le_refl _)) (omega (arith, attribute.attribute.inside, attribute.attribute.head))
+    Passes-answers (Passes-then (rw c.in-Some.is at c.in_ok-at.ensures.first.passed) c.value_at.ensures.passed (le_refl _) (omega arith) (le_refl _)) (omega (arith, attribute.attribute.inside, attribute.attribute.head))
+
+pub returns-in-Some-clause-value : goal.returns-in-Some-clause-value
+returns-in-Some-clause-value g c = λ h.
+    let calls = c.first_attribute.ensures.first.passed.read.device in
+    let told = rw c.in-Some.is at (c.in_ok-at.ensures.first.value h) in
+    IfOk-to _ _ _ (value_is _ c.args.cell.now _ (rw c.in-Some.is at c.in_ok-at.ensures.attribute) ∙ ap (λ o. option_map_or (be32 0) o 0) told)
+    (rw (calls.unchanged h) at (c.value_at.ensures.value (honest_still calls.calls.same_honesty h)))
+
+pub returns-in-None-clause-value : goal.returns-in-None-clause-value
+returns-in-None-clause-value g c = λ h. ap (λ o. option_map_or (be32 0) o 0) (rw c.in-None.is at (c.in_ok-at.ensures.first.value h))
 
 pub returns-in-Some-clause-packing : goal.returns-in-Some-clause-packing
-returns-in-Some-clause-packing g c = λ h stands.
-    let calls = c.first_attribute.ensures.passes.read.device in
-    let found = packing_found c.args.region _ c.args.cell.now _ c.requires.region.inside c.requires.cell stands (rw c.in-Some.is at c.in_ok-at.ensures.attribute) (rw c.in-Some.is at (c.in_ok-at.ensures.first h)) in
-    IfOk-to _ _ _ found (rw (calls.unchanged h) at (c.value_at.ensures.value (honest_still calls.calls.same_honesty h)))
+returns-in-Some-clause-packing g c = λ h stands. IfOk-to _ _ _ (ap packing (attributes_found c.args.region _ c.args.cell.now c.requires.region.inside c.requires.cell stands)) (returns-in-Some-clause-value g c h)
 
 pub returns-in-None-clause-packing : goal.returns-in-None-clause-packing
-returns-in-None-clause-packing g c = λ h stands.
-    packing_found c.args.region _ c.args.cell.now _ c.requires.region.inside c.requires.cell stands tt (rw c.in-None.is at (c.in_ok-at.ensures.first h))
+returns-in-None-clause-packing g c = λ h stands. returns-in-None-clause-value g c h ∙ ap packing (attributes_found c.args.region _ c.args.cell.now c.requires.region.inside c.requires.cell stands)

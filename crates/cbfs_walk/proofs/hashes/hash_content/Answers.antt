@@ -9,17 +9,18 @@ use Rattle.cbfs_walk.proofs.hashes.hash_content.Goals as goal
 pub piece_in-requires-clause-reach : goal.piece_in-requires-clause-reach
 piece_in-requires-clause-reach g c = record { region = lies_still c.loop-at.invariant c.requires.region; inside = search rules }
 
-pub returns-in_err-bytes-clause-passes : goal.returns-in_err-bytes-clause-passes
-returns-in_err-bytes-clause-passes g c =
-    rw (err_from_is_err_and c.from_residual.result c.from_residual.ensures.1).1 (Passes-within (scanned c.loop-at.invariant (rw c.in_err-bytes.was at c.piece_in.follows.holds-at-none)) (omega arith) (omega arith))
+pub returns-in_err-bytes : goal.returns-in_err-bytes
+returns-in_err-bytes g c =
+    let passed = Passes-within (scanned c.loop-at.invariant (rw c.in_err-bytes.was at c.piece_in.follows.holds-at-none)) (omega arith) (omega arith) in
+    rw (err_from_is_err_and c.from_residual.result c.from_residual.ensures.1).1 (record { passed = passed; value = λ h. tt })
 
 pub loop-at-preserved : goal.loop-at-preserved
 loop-at-preserved g c =
     let passes = rw c.in_ok-bytes.was at c.piece_in.follows.holds-at-none in
     taking_more g.D.Digest.holds c.args.region _ _ c.loop-at.at c.min-n.result _ _ _ c.loop-at.hasher c.update.new.self _ c.loop-at.invariant (omega (arith, c.min-n.ensures, c.loop-at-test.true)) passes c.in_ok-bytes.ensures.read c.update.ensures
 
-pub returns-clause-passes : goal.returns-clause-passes
-returns-clause-passes g c = Passes-within c.loop-at.invariant.passed (omega arith) (omega (arith, c.loop-at.invariant.high))
-
-pub returns-clause-digest : goal.returns-clause-digest
-returns-clause-digest g c = grind (arith, common_steps, content_taken)
+pub returns : goal.returns
+returns g c = record {
+  passed = Passes-within c.loop-at.invariant.passed (omega arith) (omega (arith, c.loop-at.invariant.high));
+  value = grind (arith, common_steps, content_taken);
+}

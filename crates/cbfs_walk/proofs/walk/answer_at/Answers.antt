@@ -1,4 +1,4 @@
-use Rattle.std.proofs.Common.{refl, ap, ◌∙◌, ◌-◌, arith, inr, eqb, ◌&&◌, true, false, ◌<◌, ◌≡◌, rules}
+use Rattle.std.proofs.Common.{refl, Ok, Err, Some, None, ap, ◌∙◌, ◌-◌, arith, inr, eqb, ◌&&◌, true, false, ◌<◌, ◌≡◌, rules}
 use Rattle.std.proofs.lemmas.Grind.{common_steps}
 use Rattle.std.proofs.lemmas.Bool.{and_left, and_right}
 use Rattle.flash_format.specs.Head.{extent_of}
@@ -7,7 +7,10 @@ use Rattle.flash_device.proofs.DeviceLemmas.{honest_still}
 use Rattle.cbfs_walk.specs.Shapes.{has_bad_size}
 use Rattle.cbfs_walk.proofs.Parts.{length-region, length-rest}
 use Rattle.cbfs_walk.proofs.Checks.{checked_extent, entry_absent, entry_present}
-use Rattle.cbfs_walk.proofs.StepResults.{answer_shape, answer_end, answer_absent, answer_entry, answer_cell, cell_reads, cell_gives}
+use Rattle.cbfs_walk.proofs.StepResults.{answer_shape, answer_end, answer_absent, answer_entry, answer_checked, cell_reads, cell_gives}
+use Rattle.cbfs_walk.specs.declared.walk.Step.TheVariants as steps
+use Rattle.cbfs_walk.specs.declared.walk.WalkFault.TheVariants as faults
+use Rattle.std.proofs.lemmas.Result.{err_from_is_err_and}
 use Rattle.cbfs_walk.proofs.walk.answer_at.Goals as goal
 
 pub returns-then-has_bad_size-clause-answer : goal.returns-then-has_bad_size-clause-answer
@@ -24,33 +27,50 @@ returns-in-None-2-clause-answer g c = λ h.
     let len = length-region c.args.region c.args.paged.now.device.content c.requires.reach.region.inside in
     let inside : c.args.at < c.args.region.size = grind (arith, common_steps) in
     let later : (eqb c.args.at 0 && true) ≡ false = and_left (eqb c.args.at 0) true (grind (arith, common_steps)) in
-    inr (answer_entry _ c.args.at _ absent len (c.if-has_bad_size.ensures ∙ ap has_bad_size c.size.ensures) inside (entry_absent _ (rw c.in-None.is at (c.in_ok-front_at.ensures.head h))) later)
+    inr (answer_entry _ c.args.at _ absent len (c.if-has_bad_size.ensures ∙ ap has_bad_size c.size.ensures) inside (entry_absent _ (rw c.in-None.is at (c.in_ok-front_at.ensures.value h))) later)
 
 pub returns-in-Err-clause-answer : goal.returns-in-Err-clause-answer
 returns-in-Err-clause-answer g c = λ h.
     let image = c.args.paged.now.device.content in
     let inside : c.args.at < c.args.region.size = grind (arith, common_steps) in
-    let here = entry_present _ c.in-Some.head _ _ (rw c.in-Some.is at (c.in_ok-front_at.ensures.head h)) (length-rest c.args.region image c.args.at c.requires.reach.region.inside)
+    let here = entry_present _ c.in-Some.head _ _ (rw c.in-Some.is at (c.in_ok-front_at.ensures.value h)) (length-rest c.args.region image c.args.at c.requires.reach.region.inside)
     (c.in-Err.ensures ∙ ap (λ n. extent_of c.in-Some.head (n - c.args.at)) c.size-3.ensures) in
     inr (answer_entry _ c.args.at _ (damaged c.in-Err.kind) (length-region c.args.region image c.requires.reach.region.inside) (c.if-has_bad_size.ensures ∙ ap has_bad_size c.size.ensures) inside here (and_right _ _ refl))
 
-pub cell_at-requires : goal.cell_at-requires
-cell_at-requires g c = record { region = search rules; cell = checked_extent _ _ c.in-Ok.extent (c.in-Ok.ensures ∙ ap (λ n. extent_of c.in-Some.head (n - c.args.at)) c.size-3.ensures) }
+pub damage_in-requires : goal.damage_in-requires
+damage_in-requires g c = record { region = search rules; cell = checked_extent _ _ c.in-Ok.extent (c.in-Ok.ensures ∙ ap (λ n. extent_of c.in-Some.head (n - c.args.at)) c.size-3.ensures) }
 
-pub returns-in-Ok-clause-after : goal.returns-in-Ok-clause-after
-returns-in-Ok-clause-after g c =
-    cell_reads c.args.region (record { at = c.args.at; head = c.in-Some.head; span = c.in-Ok.extent.span }) _ _ _ c.cell_at.result
-    (checked_extent _ _ c.in-Ok.extent (c.in-Ok.ensures ∙ ap (λ n. extent_of c.in-Some.head (n - c.args.at)) c.size-3.ensures)) c.cell_at.ensures.cell c.in_ok-front_at.ensures.passes c.cell_at.ensures.passes
+pub returns-in_err-kind-in-Ok-clause-after : goal.returns-in_err-kind-in-Ok-clause-after
+returns-in_err-kind-in-Ok-clause-after g c =
+    let checks = checked_extent _ _ c.in-Ok.extent (c.in-Ok.ensures ∙ ap (λ n. extent_of c.in-Some.head (n - c.args.at)) c.size-3.ensures) in
+    let told = err_from_is_err_and c.from_residual-in_err-kind-in-Ok.result c.from_residual-in_err-kind-in-Ok.ensures.1 in
+    rw (told.1, told.2) (cell_reads c.args.region (record { at = c.args.at; head = c.in-Some.head; span = c.in-Ok.extent.span }) _ _ _ (Err faults.Device) checks tt c.in_ok-front_at.ensures.passed c.in_err-kind-in-Ok.ensures.passed)
 
-pub returns-in-Ok-clause-cell : goal.returns-in-Ok-clause-cell
-returns-in-Ok-clause-cell g c =
-    cell_gives c.args.region.size (record { at = c.args.at; head = c.in-Some.head; span = c.in-Ok.extent.span }) c.cell_at.result
-    (checked_extent _ _ c.in-Ok.extent (c.in-Ok.ensures ∙ ap (λ n. extent_of c.in-Some.head (n - c.args.at)) c.size-3.ensures)) (c.if-has_bad_size.ensures ∙ ap has_bad_size c.size.ensures) c.requires.aligned c.requires.reach.inside c.cell_at.ensures.cell
+pub returns-in-Some-2-clause-after : goal.returns-in-Some-2-clause-after
+returns-in-Some-2-clause-after g c =
+    let checks = checked_extent _ _ c.in-Ok.extent (c.in-Ok.ensures ∙ ap (λ n. extent_of c.in-Some.head (n - c.args.at)) c.size-3.ensures) in
+    cell_reads c.args.region (record { at = c.args.at; head = c.in-Some.head; span = c.in-Ok.extent.span }) _ _ _ (Err (faults.Damaged c.args.at c.in-Some-2.kind)) checks tt c.in_ok-front_at.ensures.passed c.in_ok-kind-in-Ok.ensures.passed
 
-pub returns-in-Ok-clause-answer : goal.returns-in-Ok-clause-answer
-returns-in-Ok-clause-answer g c = λ h.
-    let len = length-region c.args.region c.args.paged.now.device.content c.requires.reach.region.inside in
+pub returns-in-None-3-clause-after : goal.returns-in-None-3-clause-after
+returns-in-None-3-clause-after g c =
+    let checks = checked_extent _ _ c.in-Ok.extent (c.in-Ok.ensures ∙ ap (λ n. extent_of c.in-Some.head (n - c.args.at)) c.size-3.ensures) in
+    cell_reads c.args.region (record { at = c.args.at; head = c.in-Some.head; span = c.in-Ok.extent.span }) _ _ _ (Ok (steps.Cell (record { at = c.args.at; head = c.in-Some.head; span = c.in-Ok.extent.span }))) checks refl c.in_ok-front_at.ensures.passed c.in_ok-kind-in-Ok.ensures.passed
+
+pub returns-in-None-3-clause-cell : goal.returns-in-None-3-clause-cell
+returns-in-None-3-clause-cell g c =
+    let checks = checked_extent _ _ c.in-Ok.extent (c.in-Ok.ensures ∙ ap (λ n. extent_of c.in-Some.head (n - c.args.at)) c.size-3.ensures) in
+    cell_gives c.args.region.size (record { at = c.args.at; head = c.in-Some.head; span = c.in-Ok.extent.span }) (Ok (steps.Cell (record { at = c.args.at; head = c.in-Some.head; span = c.in-Ok.extent.span }))) checks (c.if-has_bad_size.ensures ∙ ap has_bad_size c.size.ensures) c.requires.aligned c.requires.reach.inside refl
+
+pub returns-in-Some-2-clause-answer : goal.returns-in-Some-2-clause-answer
+returns-in-Some-2-clause-answer g c = λ h.
+    let checks = checked_extent _ _ c.in-Ok.extent (c.in-Ok.ensures ∙ ap (λ n. extent_of c.in-Some.head (n - c.args.at)) c.size-3.ensures) in
     let inside : c.args.at < c.args.region.size = grind (arith, common_steps) in
-    let told = rw (c.front_at.ensures.passes.read.device.unchanged h) at (c.cell_at.ensures.answer (honest_still c.front_at.ensures.passes.read.device.calls.same_honesty h)) in
-    answer_cell _ c.args.at _ c.in-Some.head c.in-Ok.extent c.cell_at.result len (c.if-has_bad_size.ensures ∙ ap has_bad_size c.size.ensures) inside
-    (rw c.in-Some.is at (c.in_ok-front_at.ensures.head h)) (c.in-Ok.ensures ∙ ap (λ n. extent_of c.in-Some.head (n - c.args.at)) c.size-3.ensures) told
+    let damage = rw (c.front_at.ensures.passed.read.device.unchanged h, c.in-Some-2.is) at (c.in_ok-kind-in-Ok.ensures.value (honest_still c.front_at.ensures.passed.read.device.calls.same_honesty h)) in
+    inr (answer_checked _ _ (record { at = c.args.at; head = c.in-Some.head; span = c.in-Ok.extent.span }) (Some c.in-Some-2.kind) (length-region c.args.region _ c.requires.reach.region.inside) (c.if-has_bad_size.ensures ∙ ap has_bad_size c.size.ensures) inside (rw c.in-Some.is at (c.in_ok-front_at.ensures.value h)) checks damage)
+
+pub returns-in-None-3-clause-answer : goal.returns-in-None-3-clause-answer
+returns-in-None-3-clause-answer g c = λ h.
+    let checks = checked_extent _ _ c.in-Ok.extent (c.in-Ok.ensures ∙ ap (λ n. extent_of c.in-Some.head (n - c.args.at)) c.size-3.ensures) in
+    let inside : c.args.at < c.args.region.size = grind (arith, common_steps) in
+    let damage = rw (c.front_at.ensures.passed.read.device.unchanged h, c.in-None-3.is) at (c.in_ok-kind-in-Ok.ensures.value (honest_still c.front_at.ensures.passed.read.device.calls.same_honesty h)) in
+    inr (answer_checked _ _ (record { at = c.args.at; head = c.in-Some.head; span = c.in-Ok.extent.span }) None (length-region c.args.region _ c.requires.reach.region.inside) (c.if-has_bad_size.ensures ∙ ap has_bad_size c.size.ensures) inside (rw c.in-Some.is at (c.in_ok-front_at.ensures.value h)) checks damage)
