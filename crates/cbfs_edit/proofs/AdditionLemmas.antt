@@ -1,6 +1,6 @@
 -- An accepted addition: its place, its effect and its calls.
 use Rattle.std.proofs.Common.{◌≡◌, inl, inr, ℕ, ◌+◌, ◌-◌, ◌%◌, ◌^◌, ◌<◌, ◌≤◌, Bool, true, false, cond, eqb, ltb, ◌||◌, List, [], ◌∷◌, ◌++◌, length, drop, Contains, Option, Some, None, Ok, sym, ◌∙◌, ap, subst, refl, arith, length-append, ◌⊎◌, ⊎_elim, Result, Err}
-use Rattle.std.specs.Prelude.{◌==◌, IsErrOf}
+use Rattle.std.specs.Prelude.{◌==◌, IsErrOf, slice_range}
 use Rattle.std.specs.List.{list_any}
 use Rattle.std.proofs.lemmas.Bool.{cond_both, eqb-false, eqb-true, ltb-false, or_parts}
 use Rattle.std.proofs.lemmas.List.Elements.{Contains-append_right}
@@ -18,8 +18,8 @@ use Rattle.cbfs_edit.specs.Runs.{runs}
 use Rattle.cbfs_edit.specs.Places.{is_bad_align, IsWanted, IsFirstPlace, IsPlaceAmong, placing_in}
 use Rattle.cbfs_edit.specs.Places.{Fits}
 use Rattle.cbfs_edit.specs.Changes.{AddLeavesWhole, AddLeavesBefore, IsOldOrEmptied, written_to, IsInsertStop, copy_edit_fault}
-use Rattle.cbfs_edit.specs.Additions.{NewComponent, AddsOne, added, added_component, addition_in, empty_between, cell_end, metadata_len_of, is_bad_name, is_bad_type, kept_from, made_at, argument_fault, wanted_for, added_to, algorithm_of, digest_of, placed_of}
-use Rattle.cbfs_edit.specs.Laws.{AdditionsAddOneComponent, IsAdded}
+use Rattle.cbfs_edit.specs.Additions.{NewComponent, added, added_component, addition_in, empty_between, cell_end, metadata_len_of, is_bad_name, is_bad_type, kept_from, made_at, argument_fault, wanted_for, added_to, algorithm_of, digest_of, placed_of}
+use Rattle.cbfs_edit.specs.Laws.{IsAdded}
 use Rattle.cbfs_edit.specs.declared.fault.EditFault.{EditFault}
 use Rattle.cbfs_edit.specs.declared.addition.Placed.{Placed}
 use Rattle.cbfs_edit.specs.declared.group.CellRange.{CellRange}
@@ -106,7 +106,7 @@ module _ (x : List ℕ) (new : NewComponent) (spot : Spot) (place : Place) (is :
   is_run : Contains (runs x) place.run
   is_run = subst (λ (l : List CellRange). Contains l place.run) (sym first.whole) (Contains-append_right first.before (place.run ∷ first.later) place.run (0, omega arith, refl))
 
-  the_run : IsRun x place.run
+  pub the_run : IsRun x place.run
   the_run = run_of x place.run there.sound.whole is_run
 
   range : IsCellRange place.run (length x)
@@ -162,19 +162,18 @@ module _ (x : List ℕ) (new : NewComponent) (spot : Spot) (place : Place) (is :
   pub region_some : 64 ≤ length x
   region_some = omega (arith, range.some, range.inside)
 
-  adds_one : AddsOne x new place
-  adds_one =
+  -- one more component
+  pub more : HasOneMore x place.run.start place.run.end the_run.cells (space_cells before ++ (made_at x new place ∷ []) ++ space_cells after) (added_component x new place) (added x new place)
+  more =
       let is_made : IsMade new.name new.kind new.digest (place.content - place.header - metadata_len_of new) new.content =
       record { name_short = fine.name_short; name_plain = fine.name_plain; kind_small = is.kind; kind_used = fine.kind_good; digest_long = is.digest; small = omega (arith, metadata_long, fits.inside, range.inside, is.region, fits.header.room) } in
-      let more = components_placed x place.run.start place.run.end the_run.cells place.header before (made_at x new place) after new.name new.kind new.digest new.content the_run.free placing
-      (made_alone new.name new.kind new.digest (place.content - place.header - metadata_len_of new) new.content (kept_at x end) is_made (keeps x end some)) in
-      record {
-        cells = the_run.cells;
-        free = the_run.free;
-        more = subst (λ (l : List ℕ). HasOneMore x place.run.start place.run.end the_run.cells (space_cells before ++ (made_at x new place ∷ []) ++ space_cells after) (added_component x new place) l)
-            (sym (as_splice x place.run.start place.run.end (before ++ (made_at x new place ++ after)) (omega (arith, whole_long, range.some)))) more;
-        content = content_at x before metadata new.content _ after place.run.start place.content (omega (arith, range.some, range.inside)) (omega (arith, placing.space_before.long, metadata_long, fits.start_below, fits.header.room));
-      }
+      subst (λ (l : List ℕ). HasOneMore x place.run.start place.run.end the_run.cells (space_cells before ++ (made_at x new place ∷ []) ++ space_cells after) (added_component x new place) l)
+      (sym (as_splice x place.run.start place.run.end (before ++ (made_at x new place ++ after)) (omega (arith, whole_long, range.some))))
+      (components_placed x place.run.start place.run.end the_run.cells place.header before (made_at x new place) after new.name new.kind new.digest new.content the_run.free placing
+      (made_alone new.name new.kind new.digest (place.content - place.header - metadata_len_of new) new.content (kept_at x end) is_made (keeps x end some)))
+
+  pub content : slice_range (added x new place) place.content (place.content + length new.content) ≡ new.content
+  content = content_at x before metadata new.content _ after place.run.start place.content (omega (arith, range.some, range.inside)) (omega (arith, placing.space_before.long, metadata_long, fits.start_below, fits.header.room))
 
   abbrev to : ℕ
   to = written_to (length x) (length new.content) place
@@ -202,7 +201,7 @@ module _ (x : List ℕ) (new : NewComponent) (spot : Spot) (place : Place) (is :
         is.placed,
         record {
           components = inr (ap (λ (l : List ℕ). components l) done);
-          end = ap (λ (l : List ℕ). (cut l).end) done ∙ adds_one.more.same_end;
+          end = ap (λ (l : List ℕ). (cut l).end) done ∙ more.same_end;
           same_length = ap length done ∙ added_length;
           outside =
               subst (λ (l : List ℕ). SameOutside place.run.start (place.run.end - place.run.start) x l) (sym done)
@@ -210,9 +209,6 @@ module _ (x : List ℕ) (new : NewComponent) (spot : Spot) (place : Place) (is :
           last = further x y to (kept_from x new place) (omega (arith, below)) last;
         },
       )
-
-pub additions_add_one : AdditionsAddOneComponent
-additions_add_one = adds_one
 
 -- ---- the steps: own checks, search, writes
 

@@ -2,16 +2,15 @@
 use Rattle.std.specs.List.{list_any}
 use Rattle.std.specs.Option.{option_map, option_map_or}
 use Rattle.std.specs.Result.{result_map_both, result_ok}
-use Rattle.std.specs.Prelude.{◌≡◌, ℕ, ◌+◌, ◌-◌, ◌==◌, ◌||◌, max, Bool, List, [], ◌∷◌, ◌++◌, length}
-use Rattle.std.specs.Prelude.{slice_range, nat_lt, Option, Some, None, Result, Err, if◌then◌else◌}
+use Rattle.std.specs.Prelude.{◌≡◌, ℕ, ◌+◌, ◌-◌, ◌==◌, ◌||◌, max, Bool, List, [], ◌++◌, length}
+use Rattle.std.specs.Prelude.{nat_lt, Option, Some, None, Result, Err, if◌then◌else◌}
 use Rattle.std.specs.Prelude.{◌≤◌, false, take, drop}
 use Rattle.flash_format.specs.Head.{round64}
 use Rattle.flash_format.specs.Made.{header_length, empty_entry, empty_header, hash_len, meta_length}
 use Rattle.flash_format.specs.Made.{made}
 use Rattle.flash_format.specs.Entry.{is_nul}
 use Rattle.flash_format.specs.Components.{Component}
-use Rattle.flash_format.specs.Placings.{HasOneMore, made_component, space_cells}
-use Rattle.flash_format.specs.Splices.{AllFree, CellsBetween}
+use Rattle.flash_format.specs.Placings.{made_component}
 use Rattle.flash_format.specs.declared.digest.Algorithm.{Algorithm}
 use Rattle.flash_format.specs.declared.digest.Algorithm.TheVariants as algorithms
 use Rattle.flash_format.specs.declared.digest.Digest.{Digest}
@@ -83,15 +82,6 @@ module _ (x : List ℕ) (new : NewComponent) (place : Place) where
 
   abbrev pub added_component : Component
   added_component = made_component place.header new.name new.kind new.digest new.content made_at
-
-  -- one more component in place of free cells, with its content at the returned offset
-  pub record AddsOne : Type 0 where
-    pub cells : CellsBetween x place.run.start place.run.end
-    pub free : AllFree cells.group
-    pub more : HasOneMore x place.run.start place.run.end cells
-        (space_cells (empty_between x place.run.start place.header) ++ (made_at ∷ [])
-        ++ space_cells (empty_between x (cell_end new place) place.run.end)) added_component added
-    pub content : slice_range added place.content (place.content + length new.content) ≡ new.content
 
 -- the start of the preserved end: the last four bytes, unless covered by content
 abbrev pub kept_from : List ℕ → NewComponent → Place → ℕ
