@@ -13,7 +13,7 @@ ghost use Rattle.cbfs_edit.specs.Changes.{AddLeavesWhole, IsInsertStop, written_
 ghost use Rattle.cbfs_edit.specs.Changes.{by_source, stop_count};
 ghost use Rattle.cbfs_edit.specs.Additions.{added, added_to, addition_in, algorithm_of, choice_of};
 ghost use Rattle.cbfs_edit.specs.Additions.{component_of_label, digest_of, is_bad_name};
-ghost use Rattle.cbfs_edit.specs.Additions.{is_bad_type, new_component};
+ghost use Rattle.cbfs_edit.specs.Additions.{new_component};
 ghost use Rattle.cbfs_edit.specs.Additions.{argument_fault, placed_of, wanted_for};
 ghost use Rattle.cbfs_edit.specs.Places.{Fits};
 
@@ -217,7 +217,7 @@ fn argument_fault(name: &[u8], kind: u32, spot: Spot) -> Option<EditFault>
     if is_bad_name(name) {
         return Some(EditFault::BadName);
     }
-    if is_bad_type(kind) {
+    if kind == 0 || kind == 0xffff_ffff {
         return Some(EditFault::BadType);
     }
     match spot {
@@ -236,12 +236,6 @@ fn has_nul(name: &[u8]) -> bool
     ensures { result ≡ list_any is_nul name.now }
 {
     name.iter().any(|byte| *byte == 0)
-}
-
-fn is_bad_type(kind: u32) -> bool
-    ensures { result ≡ is_bad_type kind }
-{
-    kind == 0 || kind == 0xffff_ffff
 }
 
 fn attribute_len(hash: HashChoice) -> usize
