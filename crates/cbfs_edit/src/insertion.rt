@@ -2,11 +2,11 @@
 //!
 //! The first commit covers the run with the header of an empty entry, and the last commit shows the
 //! component. Bytes written between the commits are free space.
-ghost use Rattle.std.specs.Prelude.{◌≡◌, ◌⊎◌, ◌-◌, ◌%◌, ◌^◌, ◌<◌, ◌≤◌, length};
-ghost use Rattle.flash_format.specs.Made.{header_length, metadata_of, described_len};
+ghost use Rattle.std.specs.Prelude.{◌≡◌, ◌⊎◌, ◌-◌, ◌<◌, ◌≤◌, length};
+ghost use Rattle.flash_format.specs.Made.{metadata_of, described_len};
 ghost use Rattle.cbfs_edit.specs.Changes.{HasWrittenIn, HoldsOn};
 ghost use Rattle.cbfs_edit.specs.Additions.{HasRoom, IsUnfinished, with_bound, with_component};
-ghost use Rattle.cbfs_edit.specs.Additions.{with_metadata, held_back, shown_by};
+ghost use Rattle.cbfs_edit.specs.Additions.{with_metadata, held_back};
 
 use crate::place::Place;
 use crate::region_writes::{commit_in, write_in};
