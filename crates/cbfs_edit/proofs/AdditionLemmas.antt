@@ -1,27 +1,26 @@
 -- An accepted addition: its place, its effect and its calls.
-use Rattle.std.proofs.Common.{◌≡◌, inl, inr, ℕ, ◌+◌, ◌-◌, ◌%◌, ◌^◌, ◌<◌, ◌≤◌, Bool, true, false, cond, eqb, ltb, ◌||◌, List, [], ◌∷◌, ◌++◌, length, drop, Contains, Option, Some, None, Ok, sym, ◌∙◌, ap, subst, refl, arith, length-append, ◌⊎◌, ⊎_elim, Result, Err}
-use Rattle.std.specs.Prelude.{◌==◌, IsErrOf}
+use Rattle.std.proofs.Common.{◌≡◌, inl, inr, ℕ, ◌+◌, ◌-◌, ◌%◌, ◌^◌, ◌<◌, ◌≤◌, Bool, true, false, cond, eqb, ltb, ◌||◌, List, [], ◌∷◌, ◌++◌, length, drop, Contains, Option, Some, None, Ok, sym, ◌∙◌, ap, subst, refl, arith, rules, length-append, append_assoc, IsTrue, ◌⊎◌, ⊎_elim, Result, Err}
+use Rattle.std.specs.Prelude.{◌==◌, IsErrOf, slice_range, max, option_copied}
 use Rattle.std.specs.List.{list_any}
 use Rattle.std.proofs.lemmas.Bool.{cond_both, eqb-false, eqb-true, ltb-false, or_parts}
 use Rattle.std.proofs.lemmas.List.Elements.{Contains-append_right}
 use Rattle.flash_format.specs.Entry.{is_nul}
-use Rattle.flash_format.specs.Made.{empty_entry, IsDigest, IsMade, meta_length, made_metadata}
+use Rattle.flash_format.specs.Made.{empty_entry, IsDigest, IsMade, meta_length, made_metadata, header_length, padding, described_len, hash_len, metadata_of}
 use Rattle.flash_format.specs.Cut.{cut}
 use Rattle.flash_format.specs.Components.{components}
 use Rattle.flash_format.specs.Placings.{HasOneMore, IsSpace, IsPlacing, space_cells}
 use Rattle.flash_format.proofs.MadeLaws.{length-metadata, hash_as_long, made_as_long, made_alone}
 use Rattle.flash_format.proofs.Placings.{empty_is_space, components_placed}
-use Rattle.flash_device.specs.Device.{Device, SameOutside}
+use Rattle.flash_device.specs.Device.{Device, SameOutside, overwritten}
 use Rattle.flash_device.proofs.BytesLemmas.{SameOutside-overwritten, further, length-overwritten}
-use Rattle.cbfs_edit.specs.Removals.{IsCellRange, kept_at, space_end}
+use Rattle.cbfs_edit.specs.Removals.{IsCellRange, kept_at, removed, space_end}
 use Rattle.cbfs_edit.specs.Runs.{runs}
 use Rattle.cbfs_edit.specs.Places.{is_bad_align, IsWanted, IsFirstPlace, IsPlaceAmong, placing_in}
 use Rattle.cbfs_edit.specs.Places.{Fits}
-use Rattle.cbfs_edit.specs.Changes.{AddLeavesWhole, AddLeavesBefore, IsOldOrEmptied, written_to, IsInsertStop, copy_edit_fault}
-use Rattle.cbfs_edit.specs.Additions.{NewComponent, AddsOne, added, added_component, addition_in, empty_between, cell_end, metadata_len_of, is_bad_name, is_bad_type, kept_from, made_at, argument_fault, wanted_for, added_to, algorithm_of, digest_of, placed_of}
-use Rattle.cbfs_edit.specs.Laws.{AdditionsAddOneComponent, IsAdded}
+use Rattle.cbfs_edit.specs.Changes.{Adds, AddLeavesWhole, AddLeavesBefore, IsEmptied, IsOldOrEmptied, copy_edit_fault}
+use Rattle.cbfs_edit.specs.Additions.{NewComponent, added, added_component, addition_in, empty_between, cell_end, metadata_len_of, is_bad_name, made_at, argument_fault, wanted_for, algorithm_of, digest_of, HasRoom, with_component, IsUnfinished}
+use Rattle.cbfs_edit.specs.Laws.{IsAdded}
 use Rattle.cbfs_edit.specs.declared.fault.EditFault.{EditFault}
-use Rattle.cbfs_edit.specs.declared.addition.Placed.{Placed}
 use Rattle.cbfs_edit.specs.declared.group.CellRange.{CellRange}
 use Rattle.cbfs_edit.specs.declared.place.Spot.{Spot}
 use Rattle.cbfs_edit.specs.declared.place.Wanted.{Wanted}
@@ -29,11 +28,14 @@ use Rattle.cbfs_edit.specs.declared.place.Place.{Place}
 use Rattle.cbfs_edit.proofs.Places.{IsAnsweredPlace, answered_place, fits_there, first_place-right}
 use Rattle.cbfs_edit.proofs.Lists.{content_at}
 use Rattle.cbfs_edit.proofs.Runs.{IsRun, run_of, emptied_runs}
-use Rattle.cbfs_edit.proofs.EmptyEntries.{emptied-wider, space_end-below, space_end-near, as_splice, emptied-stopped}
+use Rattle.cbfs_edit.proofs.EmptyEntries.{emptied-wider, emptied-write, emptied-outside, removed-emptied, old_or-wider, same_region_length, space_end-below, space_end-near, as_splice, emptied-stopped}
 use Rattle.cbfs_edit.proofs.Changes.{keeps}
-use Rattle.cbfs_edit.proofs.Insertions.{hash_short}
+use Rattle.cbfs_edit.proofs.Insertions.{hash_short, inserted, finished-last}
 use Rattle.std.specs.Option.{option_map_or}
-use Rattle.std.specs.Result.{result_ok}
+use Rattle.flash_format.specs.Head.{round64}
+use Rattle.flash_format.specs.declared.digest.Digest.{Digest}
+use Rattle.flash_format.specs.declared.meta.Meta.{Meta}
+use Rattle.cbfs_edit.proofs.Removals.{image_of}
 use Rattle.flash_device.specs.Regions.{Range, LiesOn, bytes_in}
 use Rattle.flash_device.specs.declared.paged.CopyInFault.{CopyInFault}
 use Rattle.flash_device.proofs.DeviceLemmas.{length-bytes_in}
@@ -55,15 +57,15 @@ own-is x new spot own is = ap (λ (o : Option EditFault). option_map_or (λ faul
 record IsAccepted (x : List ℕ) (new : NewComponent) (spot : Spot) (place : Place) : Type 0 where
   name_short : length new.name ≤ 127
   name_plain : list_any is_nul new.name ≡ false
-  kind_good : is_bad_type new.kind ≡ false
+  kind_good : (new.kind == 0 || new.kind == 0xffffffff) ≡ false
   spot_good : is_bad_align spot ≡ false
   placed : placing_in x new.name (wanted_for new spot) ≡ Ok place
 
 accepted : (x : List ℕ) (new : NewComponent) (spot : Spot) (place : Place) → addition_in x new spot ≡ Ok place → IsAccepted x new spot place
 unfolding addition_in
-accepted x new spot place is = go (is_bad_name new.name) (is_bad_type new.kind) (is_bad_align spot) refl refl refl is
+accepted x new spot place is = go (is_bad_name new.name) (new.kind == 0 || new.kind == 0xffffffff) (is_bad_align spot) refl refl refl is
   where
-    go : (n k s : Bool) → is_bad_name new.name ≡ n → is_bad_type new.kind ≡ k → is_bad_align spot ≡ s
+    go : (n k s : Bool) → is_bad_name new.name ≡ n → (new.kind == 0 || new.kind == 0xffffffff) ≡ k → is_bad_align spot ≡ s
         → option_map_or (λ fault. Err fault) (cond n (Some faults.BadName) (cond k (Some faults.BadType) (cond s (Some faults.BadAlign) None))) (placing_in x new.name (wanted_for new spot)) ≡ Ok place → IsAccepted x new spot place
     go true k s e f h p = absurd cc
     go false true s e f h p = absurd cc
@@ -106,7 +108,7 @@ module _ (x : List ℕ) (new : NewComponent) (spot : Spot) (place : Place) (is :
   is_run : Contains (runs x) place.run
   is_run = subst (λ (l : List CellRange). Contains l place.run) (sym first.whole) (Contains-append_right first.before (place.run ∷ first.later) place.run (0, omega arith, refl))
 
-  the_run : IsRun x place.run
+  pub the_run : IsRun x place.run
   the_run = run_of x place.run there.sound.whole is_run
 
   range : IsCellRange place.run (length x)
@@ -162,22 +164,22 @@ module _ (x : List ℕ) (new : NewComponent) (spot : Spot) (place : Place) (is :
   pub region_some : 64 ≤ length x
   region_some = omega (arith, range.some, range.inside)
 
-  adds_one : AddsOne x new place
-  adds_one =
+  -- one more component
+  pub more : HasOneMore x place.run.start place.run.end the_run.cells (space_cells before ++ (made_at x new place ∷ []) ++ space_cells after) (added_component x new place) (added x new place)
+  more =
       let is_made : IsMade new.name new.kind new.digest (place.content - place.header - metadata_len_of new) new.content =
       record { name_short = fine.name_short; name_plain = fine.name_plain; kind_small = is.kind; kind_used = fine.kind_good; digest_long = is.digest; small = omega (arith, metadata_long, fits.inside, range.inside, is.region, fits.header.room) } in
-      let more = components_placed x place.run.start place.run.end the_run.cells place.header before (made_at x new place) after new.name new.kind new.digest new.content the_run.free placing
-      (made_alone new.name new.kind new.digest (place.content - place.header - metadata_len_of new) new.content (kept_at x end) is_made (keeps x end some)) in
-      record {
-        cells = the_run.cells;
-        free = the_run.free;
-        more = subst (λ (l : List ℕ). HasOneMore x place.run.start place.run.end the_run.cells (space_cells before ++ (made_at x new place ∷ []) ++ space_cells after) (added_component x new place) l)
-            (sym (as_splice x place.run.start place.run.end (before ++ (made_at x new place ++ after)) (omega (arith, whole_long, range.some)))) more;
-        content = content_at x before metadata new.content _ after place.run.start place.content (omega (arith, range.some, range.inside)) (omega (arith, placing.space_before.long, metadata_long, fits.start_below, fits.header.room));
-      }
+      subst (λ (l : List ℕ). HasOneMore x place.run.start place.run.end the_run.cells (space_cells before ++ (made_at x new place ∷ []) ++ space_cells after) (added_component x new place) l)
+      (sym (as_splice x place.run.start place.run.end (before ++ (made_at x new place ++ after)) (omega (arith, whole_long, range.some))))
+      (components_placed x place.run.start place.run.end the_run.cells place.header before (made_at x new place) after new.name new.kind new.digest new.content the_run.free placing
+      (made_alone new.name new.kind new.digest (place.content - place.header - metadata_len_of new) new.content (kept_at x end) is_made (keeps x end some)))
 
-  abbrev to : ℕ
-  to = written_to (length x) (length new.content) place
+  pub content : slice_range (added x new place) place.content (place.content + length new.content) ≡ new.content
+  content = content_at x before metadata new.content _ after place.run.start place.content (omega (arith, range.some, range.inside)) (omega (arith, placing.space_before.long, metadata_long, fits.start_below, fits.header.room))
+
+  -- the end of the writes
+  abbrev pub to : ℕ
+  to = max (place.content + length new.content) (space_end (length x) place.run.end)
 
   near : (space_end (length x) place.run.end ≤ place.run.end) × (place.run.end ≤ space_end (length x) place.run.end + 4)
   near = space_end-near (length x) place.run.end
@@ -192,7 +194,7 @@ module _ (x : List ℕ) (new : NewComponent) (spot : Spot) (place : Place) (is :
       let within : to ≤ place.run.end = omega (arith, near, fits.inside) in
       let whole = emptied-wider x place.run range to y emptied place.run.end within in
       let kept = emptied_runs x place.run y there.sound.whole is.region is_run whole in
-      (inr (place, is.placed, emptied-stopped x place.run range to y emptied (added x new place) (kept_from x new place) (omega (arith, near, range.some)) within (omega (arith, below)) (inl kept.components) kept.end), kept.components)
+      (inr (place, is.placed, emptied-stopped x place.run range to y emptied (added x new place) (max (place.content + length new.content) (length x - 4)) (omega (arith, near, range.some)) within (omega (arith, below)) (inl kept.components) kept.end), kept.components)
 
   -- a stop after the last commit
   pub add_leaves_done : (y : List ℕ) → y ≡ added x new place → drop to y ≡ drop to x → AddLeavesWhole x new spot y
@@ -202,17 +204,59 @@ module _ (x : List ℕ) (new : NewComponent) (spot : Spot) (place : Place) (is :
         is.placed,
         record {
           components = inr (ap (λ (l : List ℕ). components l) done);
-          end = ap (λ (l : List ℕ). (cut l).end) done ∙ adds_one.more.same_end;
+          end = ap (λ (l : List ℕ). (cut l).end) done ∙ more.same_end;
           same_length = ap length done ∙ added_length;
           outside =
               subst (λ (l : List ℕ). SameOutside place.run.start (place.run.end - place.run.start) x l) (sym done)
               (SameOutside-overwritten x place.run.start (place.run.end - place.run.start) (before ++ (made_at x new place ++ after)) (omega (arith, whole_long)) (omega (arith, range.some, range.inside)));
-          last = further x y to (kept_from x new place) (omega (arith, below)) last;
+          last = further x y to (max (place.content + length new.content) (length x - 4)) (omega (arith, below)) last;
         },
       )
 
-pub additions_add_one : AdditionsAddOneComponent
-additions_add_one = adds_one
+  -- a stop of the empty entry
+  pub empty_before : (y : List ℕ) → IsOldOrEmptied place.run (space_end (length x) place.run.end) x y → AddLeavesBefore x new spot y
+  empty_before y stop = add_leaves_before y (old_or-wider x place.run range (space_end (length x) place.run.end) to y (omega arith) stop)
+
+  -- the content after the empty entry
+  module _ (y z : List ℕ) (same_length : length z ≡ length y) (emptied : y ≡ removed x place.run) (torn : SameOutside place.content (length new.content) y z) where
+    copied_emptied : IsEmptied place.run to x z
+    copied_emptied =
+        let empty = subst (λ (l : List ℕ). IsEmptied place.run (space_end (length x) place.run.end) x l) (sym emptied) (removed-emptied x place.run range) in
+        emptied-write x place.run range to y (emptied-wider x place.run range (space_end (length x) place.run.end) y empty to (omega arith)) z place.content (length new.content)
+        same_length (omega (arith, fits.start_below, fits.header.room)) (omega arith) torn
+
+    pub copied_before : AddLeavesBefore x new spot z
+    copied_before = add_leaves_before z (inr copied_emptied)
+
+    -- the metadata, and the last commit
+    module _ (written w : List ℕ) (written_long : length written ≡ place.content - place.header) (shown_length : length w ≡ length z) where
+      room : HasRoom place end (length written) (length x)
+      room = let few = hash_short new.digest in let there_fits : Fits (wanted_for new spot) (length x) place = fits in let short : length new.name ≤ 127 = fine.name_short in search rules
+
+      -- all writes result in the component
+      pub shown_added : written ≡ metadata → z ≡ overwritten y place.content new.content → w ≡ with_component z place end written → w ≡ added x new place
+      shown_added is_metadata second third =
+          let whole : List ℕ = written ++ new.content in
+          let d = place.content + length new.content in
+          let long : length whole ≡ d - place.header = omega (arith, length-append written new.content, room.metadata_is) in
+          let pad : end - d ≡ round64 (length whole) - length whole = omega (arith, long, fits.header.aligned, fits.header.room) in
+          third
+          ∙ ap (λ (l : List ℕ). with_component l place end written) (second ∙ ap (λ (l : List ℕ). overwritten l place.content new.content) emptied)
+          ∙ inserted x place end written room new.content (omega arith)
+          ∙ ap (λ (l : List ℕ). overwritten x place.run.start (before ++ l)) (sym (append_assoc whole (padding (end - d) (kept_at x end)) after))
+          ∙ ap (λ n. overwritten x place.run.start (before ++ ((whole ++ padding n (kept_at x end)) ++ after))) pad
+          ∙ ap (λ (f : List ℕ). overwritten x place.run.start (before ++ (((f ++ new.content) ++ padding (round64 (length (f ++ new.content)) - length (f ++ new.content)) (kept_at x end)) ++ after))) is_metadata
+
+      -- a stop at the last writes
+      pub shown_whole : (honest : Type 0) → (honest → written ≡ metadata) → (honest → z ≡ overwritten y place.content new.content) → (w ≡ with_component z place end written) ⊎ IsUnfinished place z w → honest → AddLeavesWhole x new spot w
+      shown_whole honest is_metadata second (inl third) = λ h.
+          let behind : place.run.start + header_length ≤ to = omega (arith, near.1, range.some) in
+          let first = further x z (place.run.start + (to - place.run.start)) to (omega (arith, behind)) (emptied-outside x place.run range to z copied_emptied behind).after in
+          let last = finished-last z place end to written (subst (λ n. HasRoom place end (length written) n) (sym copied_emptied.same_length) room) (omega arith) (omega (arith, near.1)) in
+          add_leaves_done w (shown_added (is_metadata h) (second h) third) (ap (λ (l : List ℕ). drop to l) third ∙ last ∙ first)
+      shown_whole honest is_metadata second (inr unfinished) = λ h.
+          let from = place.run.start + header_length in
+          (add_leaves_before w (inr (emptied-write x place.run range to z copied_emptied w from (max place.content (place.run.end - 4) - from) shown_length (omega arith) (omega (arith, near.1, range.some, fits.start_below, fits.header.room)) unfinished))).0
 
 -- ---- the steps: own checks, search, writes
 
@@ -228,46 +272,77 @@ pub no_fault : (o : Option EditFault) → ((fault : EditFault) → o ≡ Some fa
 no_fault None none = refl
 no_fault (Some fault) none = absurd (none fault refl)
 
--- a stopped copy
-pub copy_cause : {A Q : Type 0} (fault : CopyInFault) → (let a : Result A EditFault = Err (copy_edit_fault fault) in IsErrOf a faults.Device ⊎ (IsErrOf a faults.Source ⊎ Q))
-copy_cause copies.Device = inl refl
-copy_cause copies.Source = inr (inl refl)
+-- the search's result is the addition's
+pub searched : (x : List ℕ) (new : NewComponent) (spot : Spot) (wanted : Wanted) → None ≡ argument_fault new.name new.kind spot → wanted ≡ wanted_for new spot → (found : Result Place EditFault) → IsErrOf found faults.Device ⊎ (found ≡ placing_in x new.name wanted) → IsErrOf found faults.Device ⊎ (found ≡ addition_in x new spot)
+searched x new spot wanted own is found answer = ⊎_elim inl (λ e. inr (e ∙ ap (λ (w : Wanted). placing_in x new.name w) is ∙ own-is x new spot None own)) answer
 
-pub copy_only : {X : Type 0} (fault : CopyInFault) → (copy_edit_fault fault ≡ faults.Device → ⊥) → (copy_edit_fault fault ≡ faults.Source → ⊥) → X
-copy_only copies.Device other another = absurd (other refl)
-copy_only copies.Source other another = absurd (another refl)
+-- an unchanged image
+pub addition_refused : (r : Range) (with_content : List ℕ → NewComponent) (spot : Spot) (source : Device) (fault : EditFault) (old now : List ℕ)
+    → (let a : Result Place EditFault = Err fault in IsErrOf a faults.Device ⊎ (a ≡ addition_in (bytes_in r old) (with_content source.content) spot)) → now ≡ old → Adds r with_content spot source (Err fault) old now
+addition_refused r with_content spot source faults.Device old now answer same = λ honest. inl (ap (λ (l : List ℕ). bytes_in r l) same)
+addition_refused r with_content spot source faults.Source old now answer same = (inl (ap (λ (l : List ℕ). bytes_in r l) same), ap (λ (l : List ℕ). components (bytes_in r l)) same)
+addition_refused r with_content spot source fault old now (inl failed) same = absurd cc
+addition_refused r with_content spot source fault old now (inr is) same = (sym is, same)
 
-pub copy_source : {A B : Type 0} (fault : CopyInFault) → (let a : Result A EditFault = Err (copy_edit_fault fault) in IsErrOf a faults.Source) → (let b : Result B CopyInFault = Err fault in IsErrOf b copies.Source)
-copy_source copies.Device is = absurd cc
-copy_source copies.Source is = refl
+-- the writes after a search, on an honest device
+module _ (r : Range) (device : Device) (with_content : List ℕ → NewComponent) (spot : Spot) (source : Device) (wanted : Wanted) (place : Place) (lies : LiesOn r device) (wanted_is : wanted ≡ wanted_for (with_content source.content) spot) (kind : (with_content source.content).kind < 2 ^ 32)
+    (content : length (with_content source.content).content < 2 ^ 32) (digest : IsDigest (with_content source.content).digest) (found : (let a : Result Place EditFault = Ok place in IsErrOf a faults.Device ⊎ (a ≡ addition_in (bytes_in r device.content) (with_content source.content) spot))) where
+  abbrev old : List ℕ
+  old = bytes_in r device.content
 
--- the search's result after the caller's own checks
-module _ (x : List ℕ) (new : NewComponent) (spot : Spot) (own : Option EditFault) (wanted : Wanted) (passed : (fault : EditFault) → own ≡ Some fault → ⊥) (own_is : own ≡ argument_fault new.name new.kind spot) (wanted_is : wanted ≡ wanted_for new spot) where
-  same : placing_in x new.name wanted ≡ addition_in x new spot
-  same = ap (λ (w : Wanted). placing_in x new.name w) wanted_is ∙ own-is x new spot None (no_fault own passed ∙ own_is)
+  abbrev new : NewComponent
+  new = with_content source.content
 
-  pub found_err : (fault : EditFault) → (let a : Result Place EditFault = Err fault in IsErrOf a faults.Device ⊎ (a ≡ placing_in x new.name wanted))
-      → (let b : Result Placed EditFault = Err fault in IsErrOf b faults.Device ⊎ (IsErrOf b faults.Source ⊎ (b ≡ placed_of (addition_in x new spot))))
-  found_err fault (inl failed) = let e : fault ≡ faults.Device = cc in inl (ap (λ (f : EditFault). Err f) e)
-  found_err fault (inr found) = inr (inr (ap placed_of (found ∙ same)))
+  placed : addition_in old new spot ≡ Ok place
+  placed = ⊎_elim (λ failed. absurd cc) (λ e. sym e) found
 
-  pub place_found : (place : Place) → (let a : Result Place EditFault = Ok place in IsErrOf a faults.Device ⊎ (a ≡ placing_in x new.name wanted)) → addition_in x new spot ≡ Ok place
-  place_found place (inl failed) = absurd cc
-  place_found place (inr found) = sym (found ∙ same)
+  added_there : IsAdded old new spot place
+  added_there = record { region = omega (arith, length-bytes_in r device.content lies.inside, lies.inside, lies.below); kind = kind; content = content; digest = digest; placed = placed }
 
--- the writes after a search
-pub written : (r : Range) (new : NewComponent) (spot : Spot) (place : Place) (old mid now : List ℕ) → mid ≡ old → addition_in (bytes_in r old) new spot ≡ Ok place → bytes_in r now ≡ added (bytes_in r mid) new place → bytes_in r now ≡ added_to (bytes_in r old) new spot
-written r new spot place old mid now same is there = there ∙ ap (λ (l : List ℕ). added (bytes_in r l) new place) same ∙ sym (ap (λ (a : Result Place EditFault). option_map_or (added (bytes_in r old) new) (result_ok a) (bytes_in r old)) is)
+  module _ (mid empty : List ℕ) (same : mid ≡ device.content) (empty_long : length empty ≡ length mid) where
+    pub empty_left : IsOldOrEmptied place.run (space_end r.size place.run.end) (bytes_in r mid) (bytes_in r empty) → Adds r with_content spot source (Err faults.Device) device.content empty
+    empty_left stop = λ honest. (empty_before old new spot place added_there (bytes_in r empty) (subst (λ n. IsOldOrEmptied place.run (space_end n place.run.end) old (bytes_in r empty)) (sym (length-bytes_in r device.content lies.inside)) (rw same at stop))).0
 
--- the region after a source fault, and after a device fault
-pub stop_leaves : (r : Range) (device : Device) (new : NewComponent) (spot : Spot) (place : Place) (mid now : List ℕ) (honest : Type 0) (result : Result (Unit {0}) CopyInFault) (told n : ℕ) → LiesOn r device → new.kind < 2 ^ 32
-    → length new.content < 2 ^ 32 → IsDigest new.digest → told ≡ length (bytes_in r device.content) → n ≡ length new.content → mid ≡ device.content → addition_in (bytes_in r device.content) new spot ≡ Ok place
-    → IsInsertStop place.run (written_to told n place) ((IsErrOf result copies.Source → ⊥) × (honest → bytes_in r now ≡ added (bytes_in r mid) new place)) (bytes_in r mid) (bytes_in r now)
-    → (IsErrOf result copies.Source → AddLeavesBefore (bytes_in r device.content) new spot (bytes_in r now)) × (honest → AddLeavesWhole (bytes_in r device.content) new spot (bytes_in r now))
-stop_leaves r device new spot place mid now honest result told n lies kind content digest is_told len same is stopped =
-    let x : List ℕ = bytes_in r device.content in
-    let y : List ℕ = bytes_in r now in
-    let there : IsAdded x new spot place = record { region = omega (arith, length-bytes_in r device.content lies.inside, lies.inside, lies.below); kind = kind; content = content; digest = digest; placed = is } in
-    let before = λ (b : IsOldOrEmptied place.run (written_to (length x) (length new.content) place) x y). add_leaves_before x new spot place there y b in
-    let stop = rw (same, is_told, len) at stopped in
-    (λ failed. ⊎_elim before (λ shown. absurd (shown.0.0 failed)) stop, λ true_source. ⊎_elim (λ b. (before b).0) (λ shown. add_leaves_done x new spot place there y (shown.0.1 true_source) shown.1) stop)
+    module _ (copied : List ℕ) (copied_long : length copied ≡ length empty) (emptied : bytes_in r empty ≡ removed (bytes_in r mid) place.run) (torn : SameOutside place.content (length new.content) (bytes_in r empty) (bytes_in r copied)) where
+      emptied_old : bytes_in r empty ≡ removed old place.run
+      emptied_old = emptied ∙ ap (λ (l : List ℕ). removed (bytes_in r l) place.run) same
+
+      as_long : length (bytes_in r copied) ≡ length (bytes_in r empty)
+      as_long = same_region_length r device.content empty copied lies.inside (empty_long ∙ ap length same) copied_long
+
+      pub copied_left : (fault : CopyInFault) → Adds r with_content spot source (Err (copy_edit_fault fault)) device.content copied
+      copied_left copies.Device = λ honest. (copied_before old new spot place added_there (bytes_in r empty) (bytes_in r copied) as_long emptied_old torn).0
+      copied_left copies.Source = copied_before old new spot place added_there (bytes_in r empty) (bytes_in r copied) as_long emptied_old torn
+
+      module _ (m : Meta) (stored : Option Digest) (shown : List ℕ) (is_name : m.name.now ≡ new.name) (is_kind : m.kind ≡ new.kind) (is_digest : option_copied m.digest ≡ stored) (is_gap : m.gap ≡ place.content - place.header - wanted.metadata_len) (is_len : m.len ≡ wanted.len)
+          (digest_len : hash_len stored ≡ hash_len new.digest) (metadata_len : length (metadata_of m) ≡ described_len m) (shown_long : length shown ≡ length copied)
+          (stored_is : IsTrue source.honest → stored ≡ new.digest) (copied_is : IsTrue source.honest → bytes_in r copied ≡ overwritten (bytes_in r empty) place.content new.content) where
+        header : wanted.metadata_len ≡ metadata_len_of new
+        header = ap (λ (w : Wanted). w.metadata_len) wanted_is
+
+        len : wanted.len ≡ length new.content
+        len = ap (λ (w : Wanted). w.len) wanted_is
+
+        written_long : length (metadata_of m) ≡ place.content - place.header
+        written_long = metadata_len ∙ rw (is_name, is_digest, is_gap, digest_len, header) (omega (arith, (fits old new spot place added_there).header.room))
+
+        is_written : IsTrue source.honest → metadata_of m ≡ metadata old new spot place added_there
+        is_written honest = rw (is_name, is_kind, is_digest, stored_is honest, is_gap, header, is_len, len) refl
+
+        as_long_shown : length (bytes_in r shown) ≡ length (bytes_in r copied)
+        as_long_shown = same_region_length r device.content copied shown lies.inside (copied_long ∙ empty_long ∙ ap length same) shown_long
+
+        pub shown_left : (bytes_in r shown ≡ with_component (bytes_in r copied) place (round64 (place.content + wanted.len)) (metadata_of m)) ⊎ IsUnfinished place (bytes_in r copied) (bytes_in r shown) → Adds r with_content spot source (Err faults.Device) device.content shown
+        shown_left stop =
+            shown_whole old new spot place added_there (bytes_in r empty) (bytes_in r copied) as_long emptied_old torn (metadata_of m) (bytes_in r shown) written_long as_long_shown (IsTrue source.honest) is_written copied_is (rw len at stop)
+
+        pub shown_done : SameOutside r.start r.size device.content shown → bytes_in r shown ≡ with_component (bytes_in r copied) place (round64 (place.content + wanted.len)) (metadata_of m)
+            → Adds r with_content spot source (Ok (record { header = place.header; content = place.content })) device.content shown
+        shown_done outside is = (
+          place,
+          placed,
+          refl,
+          λ honest.
+              image_of r (added old new place) device.content device.content shown lies.inside refl (shown_long ∙ copied_long ∙ empty_long ∙ ap length same) outside
+              (shown_added old new spot place added_there (bytes_in r empty) (bytes_in r copied) as_long emptied_old torn (metadata_of m) (bytes_in r shown) written_long as_long_shown (is_written honest) (copied_is honest) (rw len at is)),
+        )

@@ -1,75 +1,24 @@
 -- Steps of edits, and lists of edits.
-use Rattle.std.proofs.Common.{◌≡◌, ◌≢◌, ◌⊎◌, ⊎_elim, List, ℕ, Result, Ok, Err, ap, refl, sym, ◌+◌, ◌<◌, ◌≤◌, [], ◌∷◌, ◌++◌, length, take, drop, set, get_or, IsTrue, subst, ◌∙◌, arith, rules}
-use Rattle.std.specs.Borrow.{Bor}
-use Rattle.std.specs.Prelude.{IsErrOf, IfErr, IfOk, OnOk, sum_by}
-use Rattle.flash_device.specs.Regions.{Range, bytes_in}
-use Rattle.cbfs_edit.specs.Additions.{new_component, addition_in, added_to, placed_of}
-use Rattle.cbfs_edit.specs.Changes.{by_device, by_source, LeavesWhole, AddLeavesWhole, AddLeavesBefore}
-use Rattle.cbfs_edit.specs.Removals.{removed, removal_in}
-use Rattle.cbfs_edit.specs.Steps.{IsReply, Run, Step, edit_calls, faults_of}
-use Rattle.cbfs_edit.specs.declared.addition.HashChoice.{HashChoice}
-use Rattle.cbfs_edit.specs.declared.addition.Placed.{Placed}
+use Rattle.std.proofs.Common.{◌≡◌, List, ℕ, Result, Err, ap, refl, sym, ◌+◌, ◌<◌, ◌≤◌, [], ◌∷◌, ◌++◌, length, take, drop, set, get_or, subst, ◌∙◌, arith, rules}
+use Rattle.std.specs.Prelude.{IsErrOf, sum_by}
+use Rattle.flash_device.specs.Regions.{Range}
+use Rattle.cbfs_edit.specs.Changes.{by_device, by_source}
+use Rattle.cbfs_edit.specs.Steps.{Run, Step, edit_calls, faults_of}
 use Rattle.cbfs_edit.specs.declared.edit.Reply.{Reply}
 use Rattle.cbfs_edit.specs.declared.fault.EditFault.{EditFault}
 use Rattle.cbfs_edit.specs.declared.group.CellRange.{CellRange}
-use Rattle.cbfs_edit.specs.declared.place.Place.{Place}
-use Rattle.cbfs_edit.specs.declared.place.Spot.{Spot}
 use Rattle.std.proofs.lemmas.List.{take_all, take_more, take_more_set, drop-set-lt, drop-drop, get_or-drop}
 use Rattle.std.proofs.Math.ListN.{length-set}
 use Rattle.std.proofs.lemmas.List.Sums.{sum_by_more, sum_by-append}
 use Rattle.flash_device.specs.Device.{Device}
 use Rattle.flash_device.specs.Pages.{Pages, HasChanged}
 use Rattle.cbfs_edit.specs.declared.edit.Edit.{Edit}
-use Rattle.cbfs_edit.specs.declared.edit.Edit.TheVariants.{Add, Remove}
-use Rattle.cbfs_edit.specs.declared.edit.Reply.TheVariants as replies
 use Rattle.cbfs_edit.specs.declared.fault.EditFault.TheVariants as faults
 
--- ---- the step of an edit, by its clauses
-
-abbrev removal_reply : Result CellRange EditFault → Reply
-removal_reply (Ok group) = replies.Freed group
-removal_reply (Err fault) = replies.Refused fault
-
-abbrev addition_reply : Result Placed EditFault → Reply
-addition_reply (Ok placed) = replies.Placed placed
-addition_reply (Err fault) = replies.Refused fault
-
-pub removal_step : {S : Type 0} (facts : S → Device) (name : Bor (List ℕ)) (r : Range) (honest : Type 0) (old now : List ℕ) (result : Result CellRange EditFault)
-    → (IsErrOf result faults.Source → ⊥)
-    → (honest → IsErrOf result faults.Device ⊎ (result ≡ removal_in (bytes_in r old) name.now))
-    → (honest → IfOk result (λ group. bytes_in r now ≡ removed (bytes_in r old) group))
-    → (honest → IfErr result (λ fault. fault ≢ faults.Device → now ≡ old))
-    → (honest → IsErrOf result faults.Device → LeavesWhole (bytes_in r old) name.now (bytes_in r now))
-    → IsReply facts (Remove name) (removal_reply result) honest (bytes_in r old) (bytes_in r now)
-removal_step facts name r honest old now (Ok group) no_source answer changed refused stopped = λ h. (⊎_elim (λ failed. absurd cc) (λ is. sym is) (answer h), changed h)
-removal_step facts name r honest old now (Err faults.Device) no_source answer changed refused stopped = λ h. stopped h refl
-removal_step facts name r honest old now (Err faults.Source) no_source answer changed refused stopped = λ h. no_source refl
-removal_step facts name r honest old now (Err fault) no_source answer changed refused stopped = λ h. (⊎_elim (λ failed. absurd cc) (λ is. sym is) (answer h), ap (λ (l : List ℕ). bytes_in r l) (refused h (λ e. absurd cc)))
-
+-- a removal has no source
 pub sourceless : (fault : EditFault) → (let a : Result CellRange EditFault = Err fault in IsErrOf a faults.Source → ⊥) → by_source fault ≡ 0
 sourceless faults.Source no_source = absurd (no_source refl)
 sourceless fault no_source = refl
-
-placed-refused : (place : Result Place EditFault) (fault : EditFault) → Err fault ≡ placed_of place → place ≡ Err fault
-placed-refused (Ok place) fault is = absurd cc
-placed-refused (Err other) fault is = let e : other ≡ fault = cc in ap (λ (f : EditFault). Err f) e
-
-pub addition_step : {S : Type 0} (facts : S → Device) (name : Bor (List ℕ)) (kind : ℕ) (hash : HashChoice) (spot : Spot) (source : S) (r : Range) (honest : Type 0) (old now : List ℕ) (result : Result Placed EditFault)
-    → let new = new_component name.now kind hash (facts source).content in
-    (honest → IsErrOf result faults.Device ⊎ (IsErrOf result faults.Source ⊎ (result ≡ placed_of (addition_in (bytes_in r old) new spot))))
-    → (honest → IsTrue (facts source).honest → OnOk result (bytes_in r now ≡ added_to (bytes_in r old) new spot))
-    → (honest → IfErr result (λ fault. fault ≢ faults.Device → fault ≢ faults.Source → now ≡ old))
-    → (honest → IsTrue (facts source).honest → IsErrOf result faults.Device → AddLeavesWhole (bytes_in r old) new spot (bytes_in r now))
-    → (honest → IsErrOf result faults.Source → AddLeavesBefore (bytes_in r old) new spot (bytes_in r now))
-    → IsReply facts (Add name kind hash spot source) (addition_reply result) honest (bytes_in r old) (bytes_in r now)
-addition_step facts name kind hash spot source r honest old now (Ok placed) answer changed refused stopped before = λ h true_source.
-    (⊎_elim (λ failed. absurd cc) (λ rest. ⊎_elim (λ failed. absurd cc) (λ is. sym is) rest) (answer h), changed h true_source)
-addition_step facts name kind hash spot source r honest old now (Err faults.Device) answer changed refused stopped before = λ h true_source. stopped h true_source refl
-addition_step facts name kind hash spot source r honest old now (Err faults.Source) answer changed refused stopped before = λ h true_source. before h refl
-addition_step facts name kind hash spot source r honest old now (Err fault) answer changed refused stopped before = λ h true_source. (
-  ⊎_elim (λ failed. absurd cc) (λ rest. ⊎_elim (λ failed. absurd cc) (λ is. placed-refused _ fault is) rest) (answer h),
-  ap (λ (l : List ℕ). bytes_in r l) (refused h (λ e. absurd cc) (λ e. absurd cc)),
-)
 
 -- ---- a list with one more step
 

@@ -16,7 +16,6 @@ use Rattle.flash_device.proofs.BytesLemmas.{further}
 use Rattle.cbfs_edit.specs.Removals.{IsCellRange, removed, last_four, space_end}
 use Rattle.cbfs_edit.specs.Changes.{IsOldOrEmptied}
 use Rattle.cbfs_edit.specs.Formats.{formatted, IsOneFreeCell}
-use Rattle.cbfs_edit.specs.Laws.{FormattedIsOneFreeCell}
 use Rattle.cbfs_edit.specs.declared.group.CellRange.{CellRange}
 use Rattle.cbfs_edit.proofs.EmptyEntries.{emptied-bytes, emptied-outside, emptied-wider, space_end-below, space_end-near}
 use Rattle.cbfs_edit.proofs.Changes.{length-last_four}
@@ -40,7 +39,7 @@ one_free_cell y more size kept some whole small room is =
       free = ap (λ (l : List ℕ). is_free (head_of l)) is ∙ made.1;
     }
 
-pub formatted_free : FormattedIsOneFreeCell
+pub formatted_free : (x : List ℕ) → 64 ≤ length x → length x % 64 ≡ 0 → length x < 2 ^ 32 → IsOneFreeCell (formatted x)
 formatted_free x some whole small =
     one_free_cell (formatted x) (padding (length x - header_length) (Some (last_four x))) (length x) true some whole small
     (omega (arith, length-padding (length x - header_length) (Some (last_four x)) (length-last_four x (omega arith)), some)) refl

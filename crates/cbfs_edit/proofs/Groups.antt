@@ -1,7 +1,7 @@
 -- A group is the first component with the name and all adjacent free cells.
 use Rattle.std.proofs.Common.{◌≡◌, ℕ, ◌+◌, ◌%◌, List, [], ◌∷◌, ◌++◌, length, sym, ◌∙◌, ap, subst, append_assoc, length-append, inl, inr, ◌<◌, refl, arith, All, Contains, Option, Some, None, true, cond}
 use Rattle.std.specs.List.{concat, last_or, slice_get}
-use Rattle.std.specs.Prelude.{IfSome}
+use Rattle.std.specs.Prelude.{IfSome, MatchOption, ◌↔◌}
 use Rattle.std.proofs.lemmas.List.{append-nil}
 use Rattle.flash_format.specs.Cut.{cut, IsCut}
 use Rattle.flash_format.specs.Splices.{CellsBetween}
@@ -14,7 +14,6 @@ use Rattle.std.proofs.lemmas.List.Elements.{All-nil, All-cons, All-push, All-app
 use Rattle.flash_format.specs.Head.{head_of, is_free}
 use Rattle.flash_format.specs.Components.{cell_name}
 use Rattle.cbfs_edit.specs.Removals.{by_rows, group_from, group_of, row_end, IsComponent, IsNot, IsRangeAmong, IsGroupOf}
-use Rattle.cbfs_edit.specs.Laws.{GroupsAreExact}
 
 abbrev pub IsFree : List ℕ → Type 0
 IsFree c = is_free (head_of c) ≡ true
@@ -229,6 +228,6 @@ no_group x name (Some group) is none =
     let here : Contains (cut x).cells g.component = subst (λ (l : List (List ℕ)). Contains l g.component) (sym (whole_of name (cut x).cells group g)) (Contains-append_right g.range.before (g.row_before ++ behind) g.component (Contains-append_right g.row_before behind g.component (0, omega arith, refl))) in
     absurd (both_ways (bytes_eq (cell_name g.component) name) (All-contains (IsNot name) (cut x).cells g.component none here g.is_component) g.named)
 
-pub groups_exact : GroupsAreExact
+pub groups_exact : (x name : List ℕ) (found : Option CellRange) → MatchOption found (All (IsNot name) (cut x).cells) (IsGroupOf name (cut x).cells) ↔ (found ≡ group_of x name)
 groups_exact x name None = (no_group x name (group_of x name) refl, λ none. group_none x name (sym none))
 groups_exact x name (Some group) = (λ is. sym (one_group x name group is), λ same. group_exact x name group (sym same))

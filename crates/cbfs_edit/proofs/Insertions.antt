@@ -1,28 +1,24 @@
 -- The writes of a component: their result, and the region after a stop.
-use Rattle.std.proofs.Common.{◌≡◌, ⊎_elim, ℕ, ◌+◌, ◌-◌, ◌≤◌, true, false, List, [], ◌++◌, length, take, drop, replicate, Option, Some, None, sym, ◌∙◌, ap, arith, rules, append_assoc, length-append, length-drop, take-append-drop, ◌⊎◌, inl, inr, ◌^◌, ◌<◌, subst, refl}
-use Rattle.std.specs.Prelude.{◌==◌, is_some, max, option_copied}
+use Rattle.std.proofs.Common.{◌≡◌, ⊎_elim, ℕ, ◌+◌, ◌-◌, ◌≤◌, true, false, List, [], ◌++◌, length, take, drop, replicate, Option, Some, None, sym, ◌∙◌, ap, arith, rules, append_assoc, length-append, length-drop, take-append-drop, ◌^◌, ◌<◌, refl}
+use Rattle.std.specs.Prelude.{◌==◌, is_some, option_copied}
 use Rattle.std.proofs.lemmas.Bool.{cases_eq, eq-eqb, ne_eqb, cond_both, eqb-false}
 use Rattle.std.proofs.lemmas.List.{append-nil, drop_at, length-replicate, length-take-le}
 use Rattle.flash_format.specs.Head.{round64}
-use Rattle.flash_format.specs.Made.{algorithm, header_length, empty_header, empty_entry, padding, KeepsFour, hash_len, made, made_metadata, metadata_of, described_len}
+use Rattle.flash_format.specs.Made.{algorithm, header_length, empty_header, empty_entry, padding, KeepsFour, hash_len, described_len}
 use Rattle.flash_format.proofs.EmptyEntryLaws.{length-empty_header}
 use Rattle.flash_format.proofs.MadeLaws.{few_bytes, length-padding}
-use Rattle.flash_device.specs.Device.{overwritten, SameOutside}
-use Rattle.flash_device.proofs.BytesLemmas.{length-overwritten, drop-overwritten, further}
+use Rattle.flash_device.specs.Device.{overwritten}
+use Rattle.flash_device.proofs.BytesLemmas.{length-overwritten, drop-overwritten}
 use Rattle.cbfs_edit.specs.declared.place.Place.{Place}
-use Rattle.cbfs_edit.specs.Removals.{last_four, kept_at, removed, space_end}
-use Rattle.cbfs_edit.specs.Additions.{empty_between, NewComponent, added, digest_of, metadata_len_of, component_of_label, wanted_for, HasRoom, held_back, with_metadata, with_bound, shown_by, with_component, IsUnfinished}
+use Rattle.cbfs_edit.specs.Removals.{last_four, kept_at, removed}
+use Rattle.cbfs_edit.specs.Additions.{empty_between, NewComponent, metadata_len_of, wanted_for, HasRoom, held_back, with_metadata, with_bound, shown_by, with_component}
 use Rattle.cbfs_edit.proofs.Changes.{is_some-cond, keeps, kept-none}
 use Rattle.cbfs_edit.proofs.Lists.{over_part, drop-padding, padding-begins}
 use Rattle.flash_format.specs.declared.digest.Digest.{Digest}
 use Rattle.flash_format.specs.declared.meta.Meta.{Meta}
-use Rattle.flash_device.specs.Regions.{Range, LiesIn, bytes_in}
-use Rattle.flash_device.proofs.DeviceLemmas.{length-bytes_in}
 use Rattle.cbfs_edit.specs.Places.{Fits}
-use Rattle.cbfs_edit.specs.Changes.{IsEmptied, IsInsertStop, IsOldOrEmptied, written_to}
-use Rattle.cbfs_edit.specs.declared.addition.Label.{Label}
 use Rattle.cbfs_edit.specs.declared.place.Wanted.{Wanted}
-use Rattle.cbfs_edit.proofs.EmptyEntries.{emptied-outside, emptied-wider, emptied-write, old_or-wider, removed-emptied, same_region_length, space_end-near}
+use Rattle.cbfs_edit.specs.declared.place.Spot.{Spot}
 
 -- ---- the result of consecutive writes
 
@@ -162,18 +158,17 @@ hash_short None = omega arith
 hash_short (Some digest) = omega (arith, few_bytes (algorithm digest))
 
 -- room for the metadata
-pub room-for : (size : ℕ) (label : Label) (content : List ℕ) (wanted : Wanted) (place : Place) (m : Meta) (digest : Option Digest) → size < 2 ^ 32 → Fits wanted size place → length label.name.now ≤ 127
-    → wanted ≡ wanted_for (component_of_label label content) wanted.spot → m.name.now ≡ label.name.now → option_copied m.digest ≡ digest → m.gap ≡ place.content - place.header - wanted.metadata_len → hash_len digest ≡ hash_len (digest_of label.hash content)
-    → HasRoom place (round64 (place.content + wanted.len)) (described_len m) size
-room-for size label content wanted place m digest small fits short is is_name is_digest is_gap digest_len =
-    let header : wanted.metadata_len ≡ metadata_len_of (component_of_label label content) = ap (λ (w : Wanted). w.metadata_len) is in
+pub room-for : (size : ℕ) (new : NewComponent) (spot : Spot) (wanted : Wanted) (place : Place) (m : Meta) (digest : Option Digest) → size < 2 ^ 32 → Fits wanted size place → length new.name ≤ 127 → wanted ≡ wanted_for new spot → m.name.now ≡ new.name → option_copied m.digest ≡ digest
+    → m.gap ≡ place.content - place.header - wanted.metadata_len → hash_len digest ≡ hash_len new.digest → HasRoom place (round64 (place.content + wanted.len)) (described_len m) size
+room-for size new spot wanted place m digest small fits short is is_name is_digest is_gap digest_len =
+    let header : wanted.metadata_len ≡ metadata_len_of new = ap (λ (w : Wanted). w.metadata_len) is in
     let long : described_len m ≡ wanted.metadata_len + (place.content - place.header - wanted.metadata_len) = rw (is_name, is_digest, is_gap, digest_len, header) refl in
-    let few = hash_short (digest_of label.hash content) in
+    let few = hash_short new.digest in
     search rules
 
 -- the end of writes after the content: the content, the run's first header, or the run's end
 -- without four bytes
-finished-last : (z : List ℕ) (place : Place) (end to : ℕ) (metadata : List ℕ) → HasRoom place end (length metadata) (length z) → place.content ≤ to → place.run.end ≤ to + 4 → drop to (with_component z place end metadata) ≡ drop to z
+pub finished-last : (z : List ℕ) (place : Place) (end to : ℕ) (metadata : List ℕ) → HasRoom place end (length metadata) (length z) → place.content ≤ to → place.run.end ≤ to + 4 → drop to (with_component z place end metadata) ≡ drop to z
 finished-last z place end to metadata room content last =
     let k = has_metadata z place end metadata room in
     let IsAlike : List ℕ → Type 0 = λ l. (drop to l ≡ drop to z) × (length l ≡ length z) in
@@ -189,98 +184,3 @@ finished-last z place end to metadata room content last =
     (λ e. let fits : end + header_length ≤ place.run.end - 4 = omega (arith, eqb-false end place.run.end e, room.cell.inside, room.cell.end_aligned, room.run.end_aligned) in
     more f end header (omega (arith, long, fits, last)) (omega (arith, long, fits, room.run.inside)) first) in
     (more (with_bound f end place.run.end) place.run.start (shown_by place metadata) (omega (arith, k.begin_long, room.start_below, room.metadata_is, room.metadata_long, content)) (omega (arith, k.begin_long, room.run.some, room.run.inside)) second).0
-
-module _ (r : Range) (old : List ℕ) (label : Label) (content : List ℕ) (wanted : Wanted) (place : Place) (lies : LiesIn r old) (in_region : Fits wanted r.size place) (short : length label.name.now ≤ 127)
-    (is : wanted ≡ wanted_for (component_of_label label content) wanted.spot) where
-  abbrev x : List ℕ
-  x = bytes_in r old
-
-  abbrev new : NewComponent
-  new = component_of_label label content
-
-  abbrev to : ℕ
-  to = written_to r.size wanted.len place
-
-  is_header : wanted.metadata_len ≡ metadata_len_of new
-  is_header = ap (λ (w : Wanted). w.metadata_len) is
-
-  len : wanted.len ≡ length content
-  len = ap (λ (w : Wanted). w.len) is
-
-  size : length x ≡ r.size
-  size = length-bytes_in r old lies
-
-  fits : Fits wanted (length x) place
-  fits = subst (λ n. Fits wanted n place) (sym size) in_region
-
-  near : (space_end r.size place.run.end ≤ place.run.end) × (place.run.end ≤ space_end r.size place.run.end + 4)
-  near = space_end-near r.size place.run.end
-
-  module _ (empty_entry : List ℕ) (empty_long : length empty_entry ≡ length old) where
-    abbrev y : List ℕ
-    y = bytes_in r empty_entry
-
-    -- the empty entry
-    pub empty_stop : (Done : Type 0) → IsOldOrEmptied place.run (space_end r.size place.run.end) x y → IsInsertStop place.run to Done x y
-    empty_stop Done stop = inl (old_or-wider x place.run fits.run (space_end r.size place.run.end) to y (omega arith) stop)
-
-    module _ (copied : List ℕ) (copied_long : length copied ≡ length empty_entry) (emptied : y ≡ removed x place.run) (torn : SameOutside place.content (length content) y (bytes_in r copied)) where
-      abbrev z : List ℕ
-      z = bytes_in r copied
-
-      copied_emptied : IsEmptied place.run to x z
-      copied_emptied =
-          let empty : IsEmptied place.run (space_end r.size place.run.end) x y = subst (λ n. IsEmptied place.run (space_end n place.run.end) x y) size (subst (λ (l : List ℕ). IsEmptied place.run (space_end (length x) place.run.end) x l) (sym emptied) (removed-emptied x place.run fits.run)) in
-          emptied-write x place.run fits.run to y (emptied-wider x place.run fits.run (space_end r.size place.run.end) y empty to (omega arith)) z place.content (length content)
-          (same_region_length r old empty_entry copied lies empty_long copied_long) (omega (arith, fits.start_below, fits.header.room, is_header)) (omega (arith, len)) torn
-
-      -- the content
-      pub copied_stop : (Done : Type 0) → IsInsertStop place.run to Done x z
-      copied_stop Done = inl (inr copied_emptied)
-
-      module _ (meta : Meta) (digest : Option Digest) (is_name : meta.name.now ≡ label.name.now) (is_kind : meta.kind ≡ label.kind) (is_digest : option_copied meta.digest ≡ digest) (is_gap : meta.gap ≡ place.content - place.header - wanted.metadata_len)
-          (is_len : meta.len ≡ wanted.len) (digest_len : hash_len digest ≡ hash_len new.digest) (metadata_len : length (metadata_of meta) ≡ described_len meta) (small : length old < 2 ^ 32) where
-        abbrev metadata : List ℕ
-        metadata = metadata_of meta
-
-        abbrev end : ℕ
-        end = round64 (place.content + wanted.len)
-
-        room : HasRoom place end (length metadata) (length x)
-        room = subst (λ n. HasRoom place end n (length x)) (sym metadata_len) (room-for (length x) label content wanted place meta digest (omega (arith, size, lies, small)) fits short is is_name is_digest is_gap digest_len)
-
-        module _ (shown : List ℕ) (shown_long : length shown ≡ length copied) where
-          abbrev w : List ℕ
-          w = bytes_in r shown
-
-          -- all writes result in the component
-          pub shown_added : digest ≡ digest_of label.hash content → z ≡ overwritten y place.content content → w ≡ with_component z place end metadata → w ≡ added x new place
-          shown_added digest_is second third =
-              let d = place.content + length content in
-              let gap = place.content - place.header - metadata_len_of new in
-              let whole : List ℕ = metadata ++ content in
-              let long : length whole ≡ d - place.header = omega (arith, length-append metadata content, room.metadata_is) in
-              let pad : end - d ≡ round64 (length whole) - length whole = omega (arith, long, fits.header.aligned, fits.header.room, len) in
-              let is_metadata : metadata ≡ made_metadata new.name new.kind new.digest gap (length content) =
-              rw (is_name, is_kind, is_digest, digest_is, is_gap, is_header, is_len, len) refl in
-              let before : List ℕ = empty_between x place.run.start place.header in
-              third
-              ∙ ap (λ (l : List ℕ). with_component l place end metadata) (second ∙ ap (λ (l : List ℕ). overwritten l place.content content) emptied)
-              ∙ inserted x place end metadata room content (omega (arith, len))
-              ∙ ap (λ (l : List ℕ). overwritten x place.run.start (before ++ l)) (sym (append_assoc whole (padding (end - d) (kept_at x end)) (empty_between x end place.run.end)))
-              ∙ ap (λ n. overwritten x place.run.start (before ++ ((whole ++ padding n (kept_at x end)) ++ empty_between x end place.run.end))) pad
-              ∙ ap (λ (f : List ℕ). overwritten x place.run.start (before ++ (((f ++ content) ++ padding (round64 (length (f ++ content)) - length (f ++ content)) (kept_at x end)) ++ empty_between x end place.run.end))) is_metadata
-              ∙ ap (λ n. overwritten x place.run.start (before ++ (made new.name new.kind new.digest gap content (kept_at x n) ++ empty_between x n place.run.end))) (ap (λ n. round64 (place.content + n)) len)
-
-          -- the metadata with the last commit
-          pub shown_stop : (Sound Honest : Type 0) → Sound → (Honest → digest ≡ digest_of label.hash content) → (Honest → z ≡ overwritten y place.content content) → (w ≡ with_component z place end metadata) ⊎ IsUnfinished place z w
-              → IsInsertStop place.run to (Sound × (Honest → w ≡ added x new place)) x w
-          shown_stop Sound Honest sound digest_is second (inl third) =
-              let behind : place.run.start + header_length ≤ to = omega (arith, near.1, fits.run.some) in
-              let first = further x z (place.run.start + (to - place.run.start)) to (omega (arith, behind)) (emptied-outside x place.run fits.run to z copied_emptied behind).after in
-              let last = finished-last z place end to metadata (subst (λ n. HasRoom place end (length metadata) n) (sym copied_emptied.same_length) room) (omega arith) (omega (arith, near.1)) in
-              inr ((sound, λ honest. shown_added (digest_is honest) (second honest) third), ap (λ (l : List ℕ). drop to l) third ∙ last ∙ first)
-          shown_stop Sound Honest sound digest_is second (inr unfinished) =
-              let from = place.run.start + header_length in
-              inl (inr (emptied-write x place.run fits.run to z copied_emptied w from (max place.content (place.run.end - 4) - from) (same_region_length r old copied shown lies (copied_long ∙ empty_long) shown_long) (omega arith)
-              (omega (arith, near.1, fits.run.some, fits.start_below, fits.header.room, is_header)) unfinished))

@@ -1,6 +1,6 @@
 -- The place of a new component is the least allowed place in the first run with one.
 use Rattle.std.proofs.Common.{◌≡◌, ℕ, ◌+◌, ◌-◌, ◌*◌, ◌/◌, ◌%◌, ◌<◌, ◌≤◌, Bool, true, false, cond, List, [], ◌∷◌, length, All, Contains, ap, subst, sym, ◌∙◌, refl, arith, rules, Option, Some, None, Ok, Err}
-use Rattle.std.specs.Prelude.{◌&&◌, nat_le, MatchOption, is_some, ok_or}
+use Rattle.std.specs.Prelude.{◌↔◌, ◌&&◌, nat_le, MatchOption, is_some, ok_or}
 use Rattle.std.specs.List.{cons_option, filter_map, slice_get}
 use Rattle.std.specs.Int.{next_multiple_of}
 use Rattle.std.proofs.lemmas.Bool.{eqb-false, leb-false, leb-true}
@@ -8,7 +8,6 @@ use Rattle.std.proofs.lemmas.List.Elements.{All-nil, All-cons, All-weaker, All-c
 use Rattle.std.proofs.Math.Nat.{add-mod-mod, mul-mod_left, mod-lt, div-add-mod, lt_of_mul-lt-mul_right, mul-le-mul_right}
 use Rattle.cbfs_edit.specs.Places.{is_bad_align, Allows, HasNoRoom, IsAllowed, IsHeaderOf, IsFirstPlace, IsPlaceAmong, IsWanted, limit_of, least_from, place_in, first_place, placing_in}
 use Rattle.cbfs_edit.specs.Removals.{IsCellRange}
-use Rattle.cbfs_edit.specs.Laws.{PlacesAreExact}
 use Rattle.cbfs_edit.specs.Places.{Fits}
 use Rattle.cbfs_edit.specs.Runs.{runs}
 use Rattle.cbfs_edit.specs.declared.group.CellRange.{CellRange}
@@ -151,7 +150,7 @@ module _ (wanted : Wanted) (size : ℕ) where
       let content : p.content ≡ q.content = omega arith in
       ap (λ (k : Place). Some k) (same_place p q run (omega (arith, is.header, other.header, content)) content)
 
-pub places_exact : PlacesAreExact
+pub places_exact : (x : List ℕ) (wanted : Wanted) (found : Option Place) → IsWanted wanted → IsPlaceAmong wanted (length x) (runs x) found ↔ (found ≡ first_place wanted (length x) (runs x))
 places_exact x wanted found is =
     let here = first_place-right wanted (length x) (runs x) is in
     (λ place. one_place wanted (length x) (runs x) found (first_place wanted (length x) (runs x)) place here, λ same. subst (λ (o : Option Place). IsPlaceAmong wanted (length x) (runs x) o) (sym same) here)

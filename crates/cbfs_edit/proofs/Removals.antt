@@ -1,5 +1,5 @@
 -- An accepted removal: its group, its effect, and the component.
-use Rattle.std.proofs.Common.{◌≡◌, ◌⊎◌, inl, inr, ℕ, ◌-◌, ◌%◌, ◌^◌, ◌<◌, List, length, Result, Ok, sym, ◌∙◌, ap, subst, arith, ◌+◌, false, [], ◌∷◌, ◌++◌, refl, All}
+use Rattle.std.proofs.Common.{◌≡◌, ◌⊎◌, inl, inr, ℕ, ◌-◌, ◌%◌, ◌^◌, ◌<◌, List, length, Result, Ok, Err, sym, ◌∙◌, ap, subst, arith, ◌+◌, false, [], ◌∷◌, ◌++◌, refl, All}
 use Rattle.std.specs.Prelude.{IsErrOf, ok_or}
 use Rattle.flash_device.specs.Regions.{Range, LiesIn, bytes_in}
 use Rattle.flash_device.proofs.DeviceLemmas.{length-bytes_in}
@@ -7,8 +7,8 @@ use Rattle.flash_format.specs.Cut.{cut}
 use Rattle.cbfs_edit.specs.Removals.{IsCellRange, IsGroupOf, group_of, IsComponent, IsNot, removal_in, removed, space_end}
 use Rattle.flash_device.specs.Device.{overwritten, SameOutside}
 use Rattle.flash_device.proofs.RegionLemmas.{image_is}
-use Rattle.cbfs_edit.specs.Changes.{IsOldOrEmptied, LeavesWhole}
-use Rattle.cbfs_edit.specs.Laws.{EmptiedGroupsLackTheComponent, RemovalsTakeOneComponent}
+use Rattle.cbfs_edit.specs.Changes.{IsOldOrEmptied, LeavesWhole, Removes}
+use Rattle.cbfs_edit.specs.Laws.{LosesOne}
 use Rattle.cbfs_edit.specs.declared.fault.EditFault.{EditFault}
 use Rattle.cbfs_edit.specs.declared.group.CellRange.{CellRange}
 use Rattle.cbfs_edit.proofs.Groups.{between, end_of, group_exact, group_some, whole_of}
@@ -41,10 +41,13 @@ accepted x name group is =
     let cells = between x group a.sound.whole g.range in
     record { whole = a.sound.whole; is = g; cells = cells; range = group_range x group cells (group_some x name group g) }
 
-pub emptied_lacks : EmptiedGroupsLackTheComponent
-emptied_lacks x name group y small is emptied =
-    let a = accepted x name group is in
-    emptied-same x group a.range y emptied a.cells small
+-- an unchanged image
+pub removal_refused : (r : Range) (name : List ℕ) (fault : EditFault) (old new : List ℕ) → (let a : Result CellRange EditFault = Err fault in (IsErrOf a faults.Source → ⊥) × (IsErrOf a faults.Device ⊎ (a ≡ removal_in (bytes_in r old) name)))
+    → new ≡ old → Removes r name (Err fault) old new
+removal_refused r name faults.Device old new answer same = inl (ap (λ (l : List ℕ). bytes_in r l) same)
+removal_refused r name faults.Source old new answer same = absurd (answer.0 refl)
+removal_refused r name fault old new (own, inl failed) same = absurd cc
+removal_refused r name fault old new (own, inr is) same = (sym is, same)
 
 -- a stop at a write
 pub removal_leaves : (r : Range) (name : List ℕ) (group : CellRange) (old mid new : List ℕ) → LiesIn r old → length old < 2 ^ 32 → mid ≡ old
@@ -94,7 +97,7 @@ row_of_one at end row more after c free free_more is ends =
     let next : ℕ = at + length (concat row) + length c in
     rw (components-append at row (c ∷ (more ++ after)), components-free at row free, is, components-append next more after, components-free next more free_more, ends) refl
 
-pub removal_takes_one : RemovalsTakeOneComponent
+pub removal_takes_one : (x name : List ℕ) (group : CellRange) → length x < 2 ^ 32 → removal_in x name ≡ Ok group → LosesOne x name group
 removal_takes_one x name group small is =
     let a = accepted x name group is in
     let g = a.is in
@@ -114,4 +117,5 @@ removal_takes_one x name group small is =
       };
       is = emptied-components x group a.range (removed x group) (removed-whole x group a.range) cells small;
       same_end = emptied-end x group a.range (removed x group) (removed-whole x group a.range) cells small;
+      emptied = λ y emptied. emptied-same x group a.range y emptied cells small;
     }

@@ -1,7 +1,7 @@
 -- The runs are the maximal sequences of free cells, in order. An empty entry over a run keeps the
 -- components.
 use Rattle.std.proofs.Common.{◌≡◌, ℕ, ◌+◌, ◌<◌, ◌⊎◌, ⊎_elim, inl, inr, zero, suc, List, [], ◌∷◌, ◌++◌, length, sym, ◌∙◌, ap, subst, refl, arith, All, Contains, append_assoc, length-append, ◌≤◌, ◌%◌}
-use Rattle.std.specs.Prelude.{nat_lt}
+use Rattle.std.specs.Prelude.{nat_lt, ◌↔◌, ◌^◌}
 use Rattle.std.specs.List.{concat, AllPairs}
 use Rattle.std.proofs.lemmas.Bool.{cases_Bool, lt-ltb, ltb-true, cond_both}
 use Rattle.std.proofs.lemmas.List.Elements.{All-nil, All-head, All-tail, All-push, All-cons}
@@ -9,7 +9,7 @@ use Rattle.flash_format.specs.Head.{head_of, is_free}
 use Rattle.flash_format.specs.Cut.{cut, IsCell}
 use Rattle.cbfs_edit.specs.Removals.{IsCellRange, by_rows}
 use Rattle.cbfs_edit.specs.Runs.{add_run, runs, runs_from, IsRunOf}
-use Rattle.cbfs_edit.specs.Laws.{RunsAreExact, RunsAscend, EmptiedRunsKeepTheComponents}
+use Rattle.cbfs_edit.specs.Changes.{IsEmptied, SameCells}
 use Rattle.cbfs_edit.specs.declared.group.CellRange.{CellRange}
 use Rattle.cbfs_edit.proofs.Groups.{IsFree, EndsWithComponent, BeginsWithComponent, length-concat-push, length-placed, over_row, ends_after, ends_push, not_alone, between}
 use Rattle.flash_format.proofs.Splices.{AllFree, components-free, group-components}
@@ -97,7 +97,7 @@ there start at (c ∷ before) row after run fresh ends free begins begun is some
       | inr e ↦ rw e (later_is run later start at (there next next before row after run (λ none. refl) (ends_after c before ends) free begins begun_next is some))
     ]
 
-pub runs_exact : RunsAreExact
+pub runs_exact : (x : List ℕ) (run : CellRange) → Contains (runs x) run ↔ IsRunOf (cut x).cells run
 runs_exact x run = (
   run_maximal x run,
   λ is.
@@ -143,7 +143,7 @@ apart start at (c ∷ cells) order each =
     (λ e. apart start next cells (omega (arith, order)) rest)
     (λ e. add_apart start at (runs_from next next cells) (begin_after at next next cells (omega (arith, some)) (omega arith)) (apart next next cells (omega arith) rest))
 
-pub runs_ascend : RunsAscend
+pub runs_ascend : (x : List ℕ) → length x % 64 ≡ 0 → AllPairs (λ (a b : CellRange). a.end < b.start) (runs x)
 runs_ascend x aligned = apart 0 0 (cut x).cells (omega arith) (cut_exists x aligned).1.each
 
 -- ---- an empty entry's header over a run keeps the components
@@ -159,7 +159,7 @@ run_of x run aligned has =
     let cells : CellsBetween x run.start run.end = between x run aligned r.range in
     record { cells = cells; free = r.free; range = group_range x run cells r.some }
 
-pub emptied_runs : EmptiedRunsKeepTheComponents
+pub emptied_runs : (x : List ℕ) (run : CellRange) (y : List ℕ) → length x % 64 ≡ 0 → length x < 2 ^ 32 → Contains (runs x) run → IsEmptied run run.end x y → SameCells y x
 emptied_runs x run y aligned small has is =
     let r = run_of x run aligned has in
     let g = r.cells in

@@ -1,8 +1,8 @@
--- A search finds an added component, a removal takes it, and all others remain.
-use Rattle.std.proofs.Common.{◌≡◌, ℕ, ◌%◌, ◌<◌, ◌≤◌, All, length-append, false, List, [], ◌∷◌, ◌++◌, length, None, refl, sym, ◌∙◌, ap, arith, true, Option, Some, Ok, Err, subst, Contains, inl, inr, suc}
+-- A search finds an added component, and a removal takes it.
+use Rattle.std.proofs.Common.{◌≡◌, ℕ, ◌%◌, ◌<◌, ◌≤◌, All, length-append, false, List, [], ◌∷◌, ◌++◌, length, None, refl, sym, ◌∙◌, ap, arith, true, Option, Some, Ok, Err, subst, Contains}
 use Rattle.std.specs.Prelude.{ok_or}
 use Rattle.std.specs.Str.{bytes_eq}
-use Rattle.std.proofs.lemmas.List.Elements.{All-nil, All-cons, All-head, All-tail, All-weaker, All-contains, Contains-append_right, Contains-append_left, Contains-append_cases}
+use Rattle.std.proofs.lemmas.List.Elements.{All-nil, All-cons, All-head, All-tail, All-weaker, All-contains, Contains-append_right}
 use Rattle.std.proofs.lemmas.Bool.{eq-eqb, ne_eqb, both_ways}
 use Rattle.flash_format.specs.Entry.{Entry, absent, damaged, cell, entry}
 use Rattle.flash_format.specs.Cut.{Cut, cut, End}
@@ -10,23 +10,24 @@ use Rattle.flash_format.specs.Components.{Component, components, components_from
 use Rattle.flash_format.specs.Placings.{space_cells}
 use Rattle.flash_format.proofs.CutSteps.{cut_step}
 use Rattle.flash_format.proofs.CutLaws.{cut_unique}
-use Rattle.cbfs_walk.specs.Search.{IsFirstOf, first_named}
+use Rattle.cbfs_walk.specs.Search.{IsFirstOf, component_in, first_named}
 use Rattle.cbfs_walk.specs.Shapes.{has_bad_size, is_absent, shape_fault, refused_or}
 use Rattle.cbfs_walk.proofs.FirstComponents.{first_found, none_named, same_name}
-use Rattle.cbfs_edit.specs.Additions.{NewComponent, AddsOne, added, added_component, empty_between, cell_end, made_at}
-use Rattle.cbfs_edit.specs.Laws.{IsAdded, AdditionsAreFound, AdditionsAreUndone, AdditionsKeepAll, RemovalsKeepOthers}
+use Rattle.cbfs_edit.specs.Additions.{NewComponent, added, added_component, empty_between, cell_end, made_at}
+use Rattle.cbfs_edit.specs.Laws.{AddsOne, IsAdded, LosesOne}
 use Rattle.cbfs_edit.specs.declared.place.Spot.{Spot}
 use Rattle.cbfs_edit.specs.declared.place.Place.{Place}
-use Rattle.cbfs_edit.proofs.AdditionLemmas.{accepted_size, added_length, additions_add_one, there, region_some}
+use Rattle.cbfs_edit.proofs.AdditionLemmas.{accepted_size, added_length, content, more, the_run, there, region_some}
 use Rattle.cbfs_walk.specs.CellReadings.{place_after}
 use Rattle.cbfs_walk.specs.declared.walk.WalkFault.{WalkFault}
-use Rattle.cbfs_edit.specs.Removals.{group_of, LosesOne, removed, removal_in, unless_damaged, edit_fault_of}
+use Rattle.cbfs_edit.specs.Changes.{SameCells}
+use Rattle.flash_format.specs.Splices.{CellsBetween}
+use Rattle.cbfs_edit.specs.Removals.{group_of, removed, removal_in, unless_damaged, edit_fault_of}
 use Rattle.cbfs_edit.specs.declared.fault.EditFault.TheVariants as faults
 use Rattle.cbfs_edit.specs.declared.group.CellRange.{CellRange}
 use Rattle.cbfs_edit.proofs.Groups.{group_none}
 use Rattle.cbfs_edit.proofs.Lists.{one_split}
 use Rattle.cbfs_edit.proofs.Removals.{others_have_not, removal_takes_one}
-use Rattle.std.proofs.lemmas.Map.Made.{Contains-tail}
 
 all_left : (P : Component → Type 0) (a b : List Component) → All P (a ++ b) → All P a
 all_left P [] b each = All-nil P
@@ -51,28 +52,28 @@ one_among a b c d m = simp length-append (omega arith)
 -- ---- the region after an addition
 
 module _ (x : List ℕ) (new : NewComponent) (spot : Spot) (place : Place) (is : IsAdded x new spot place) where
-  pub one_more : AddsOne x new place
-  one_more = additions_add_one x new spot place is
+  abbrev pub cells_between : CellsBetween x place.run.start place.run.end
+  cells_between = (the_run x new spot place is).cells
 
   pub shape_after : shape_fault (added x new place) ≡ None
   shape_after =
       let row : List (List ℕ) = space_cells (empty_between x place.run.start place.header) ++ (made_at x new place ∷ []) ++ space_cells (empty_between x (cell_end new place) place.run.end) in
-      let cells : length (cut (added x new place)).cells ≡ length (one_more.cells.before ++ row ++ one_more.cells.after) = ap (λ (c : Cut). length c.cells) (cut_unique (added x new place) (one_more.cells.before ++ row ++ one_more.cells.after) one_more.cells.rest one_more.cells.ending one_more.more.is_cut) in
+      let cells : length (cut (added x new place)).cells ≡ length (cells_between.before ++ row ++ cells_between.after) = ap (λ (c : Cut). length c.cells) (cut_unique (added x new place) (cells_between.before ++ row ++ cells_between.after) cells_between.rest cells_between.ending (more x new spot place is).is_cut) in
       let long : length (added x new place) ≡ length x = added_length x new spot place is in
       let some : 64 ≤ length x = region_some x new spot place is in
-      rw (fine_size (length (added x new place)) (omega arith) (ap (λ n. n % 64) long ∙ accepted_size x new spot place is.placed), cell_there (added x new place) (omega arith) (rw cells (one_among one_more.cells.before _ _ one_more.cells.after (made_at x new place)))) refl
+      rw (fine_size (length (added x new place)) (omega arith) (ap (λ n. n % 64) long ∙ accepted_size x new spot place is.placed), cell_there (added x new place) (omega arith) (rw cells (one_among cells_between.before _ _ cells_between.after (made_at x new place)))) refl
 
   abbrev pub before : List Component
-  before = components_from 0 one_more.cells.before
+  before = components_from 0 cells_between.before
 
   abbrev pub after : List Component
-  after = components_from place.run.end one_more.cells.after
+  after = components_from place.run.end cells_between.after
 
   -- no other component has the name
   others_after : All (λ (c : Component). bytes_eq c.name new.name ≡ false) (before ++ after)
   others_after =
       let none : first_named new.name (components x) ≡ None = (there x new spot place is).no_other in
-      none_named new.name (before ++ after) (sym (ap (λ (l : List Component). first_named new.name l) one_more.more.old_components) ∙ none)
+      none_named new.name (before ++ after) (sym (ap (λ (l : List Component). first_named new.name l) (more x new spot place is).old_components) ∙ none)
 
   pub none_before : All (λ (c : Component). bytes_eq c.name new.name ≡ false) before
   none_before = all_left (λ (c : Component). bytes_eq c.name new.name ≡ false) before after others_after
@@ -81,13 +82,13 @@ module _ (x : List ℕ) (new : NewComponent) (spot : Spot) (place : Place) (is :
   added_first = record {
     before = before;
     after = after;
-    whole = one_more.more.new_components;
+    whole = (more x new spot place is).new_components;
     named = same_name new.name;
     none_before = none_before;
   }
 
-pub additions_found : AdditionsAreFound
-additions_found x new spot place is = first_found (added x new place) new.name (added_component x new place) (shape_after x new spot place is) (added_first x new spot place is)
+  pub additions_found : component_in (added x new place) new.name ≡ Ok (Some (added_component x new place))
+  additions_found = first_found (added x new place) new.name (added_component x new place) shape_after added_first
 
 -- ---- the removal of an added component restores the previous components
 
@@ -113,50 +114,36 @@ some_group y name c is = go (group_of y name) refl
         let other : bytes_eq c.name name ≡ false = All-contains (λ (d : Component). bytes_eq d.name name ≡ false) (components y) c others here in
         absurd (let k : true ≡ false = sym is.named ∙ other in cc)
 
-pub additions_undone : AdditionsAreUndone
-additions_undone x new spot place is =
-    let y : List ℕ = added x new place in
-    let more = one_more x new spot place is in
-    let some = some_group y new.name (added_component x new place) (added_first x new spot place is) in
-    let group : CellRange = some.0 in
-    let sound = (there x new spot place is).sound in
-    let at = place_after 0 (cut y).cells in
-    let removes : removal_in y new.name ≡ Ok group =
-    removal_is y new.name (shape_after x new spot place is) (ap (λ (e : End). unless_damaged at e (ok_or (group_of y new.name) faults.NotFound)) more.more.same_end ∙ sound.undamaged at (ok_or (group_of y new.name) faults.NotFound)) ∙ ap (λ (o : Option CellRange). ok_or o faults.NotFound) some.1 in
-    let loses : LosesOne new.name y (removed y group) = removal_takes_one y new.name group (omega (arith, added_length x new spot place is, is.region)) removes in
-    let was = loses.was in
-    let once = one_split (IsNamed new.name) was.before was.after (before x new spot place is) (after x new spot place is) loses.component (added_component x new place) was.named (same_name new.name)
-    (unnamed new.name was.before was.none_before) (unnamed new.name (before x new spot place is) (none_before x new spot place is))
-    (sym was.whole ∙ more.more.new_components) in (
-      group,
-      removes,
-      record {
-        components = loses.is ∙ ap (λ (l : List Component). l ++ was.after) once.first ∙ ap (λ (l : List Component). before x new spot place is ++ l) once.last ∙ sym more.more.old_components;
-        end = loses.same_end ∙ more.more.same_end;
-      },
-    )
+module _ (x : List ℕ) (new : NewComponent) (spot : Spot) (place : Place) (is : IsAdded x new spot place) where
+  undone : (group : CellRange) × (removal_in (added x new place) new.name ≡ Ok group) × SameCells (removed (added x new place) group) x
+  undone =
+      let y : List ℕ = added x new place in
+      let one_more = more x new spot place is in
+      let some = some_group y new.name (added_component x new place) (added_first x new spot place is) in
+      let group : CellRange = some.0 in
+      let sound = (there x new spot place is).sound in
+      let at = place_after 0 (cut y).cells in
+      let removes : removal_in y new.name ≡ Ok group =
+      removal_is y new.name (shape_after x new spot place is) (ap (λ (e : End). unless_damaged at e (ok_or (group_of y new.name) faults.NotFound)) one_more.same_end ∙ sound.undamaged at (ok_or (group_of y new.name) faults.NotFound)) ∙ ap (λ (o : Option CellRange). ok_or o faults.NotFound) some.1 in
+      let loses : LosesOne y new.name group = removal_takes_one y new.name group (omega (arith, added_length x new spot place is, is.region)) removes in
+      let was = loses.was in
+      let once = one_split (IsNamed new.name) was.before was.after (before x new spot place is) (after x new spot place is) loses.component (added_component x new place) was.named (same_name new.name)
+      (unnamed new.name was.before was.none_before) (unnamed new.name (before x new spot place is) (none_before x new spot place is))
+      (sym was.whole ∙ one_more.new_components) in (
+        group,
+        removes,
+        record {
+          components = loses.is ∙ ap (λ (l : List Component). l ++ was.after) once.first ∙ ap (λ (l : List Component). before x new spot place is ++ l) once.last ∙ sym one_more.old_components;
+          end = loses.same_end ∙ one_more.same_end;
+        },
+      )
 
--- ---- the components preserved by an edit
-
-one_between : (before after : List Component) (d c : Component) → Contains (before ++ after) c → Contains (before ++ (d ∷ after)) c
-one_between before after d c has = elim (Contains-append_cases before after c has) [
-  | inl first ↦ Contains-append_left before (d ∷ after) c first
-  | inr last ↦ Contains-append_right before (d ∷ after) c (suc last.0, omega (arith, last.1), last.2)
-]
-
-one_less : (before after : List Component) (d c : Component) → (d ≡ c → ⊥) → Contains (before ++ (d ∷ after)) c → Contains (before ++ after) c
-one_less before after d c other has = elim (Contains-append_cases before (d ∷ after) c has) [
-  | inl first ↦ Contains-append_left before after c first
-  | inr last ↦ Contains-append_right before after c (Contains-tail d after c other last)
-]
-
-pub additions_keep : AdditionsKeepAll
-additions_keep x new spot place is c has =
-    let more = one_more x new spot place is in
-    subst (λ (l : List Component). Contains l c) (sym more.more.new_components)
-    (one_between (before x new spot place is) (after x new spot place is) (added_component x new place) c (subst (λ (l : List Component). Contains l c) more.more.old_components has))
-
-pub removals_keep : RemovalsKeepOthers
-removals_keep x name group small is c has other =
-    let loses = removal_takes_one x name group small is in
-    subst (λ (l : List Component). Contains l c) (sym loses.is) (one_less loses.was.before loses.was.after loses.component c (λ e. absurd (let k : true ≡ false = sym loses.was.named ∙ ap (λ (d : Component). bytes_eq d.name name) e ∙ other in cc)) (subst (λ (l : List Component). Contains l c) loses.was.whole has))
+  pub adds_one : AddsOne x new place
+  adds_one = record {
+    cells = cells_between x new spot place is;
+    free = (the_run x new spot place is).free;
+    more = more x new spot place is;
+    content = content x new spot place is;
+    found = additions_found x new spot place is;
+    undone = undone;
+  }

@@ -1,17 +1,15 @@
 -- The effect and errors of an addition.
 use Rattle.std.specs.List.{list_any}
 use Rattle.std.specs.Option.{option_map, option_map_or}
-use Rattle.std.specs.Result.{result_map_both, result_ok}
-use Rattle.std.specs.Prelude.{◌≡◌, ℕ, ◌+◌, ◌-◌, ◌==◌, ◌||◌, max, Bool, List, [], ◌∷◌, ◌++◌, length}
-use Rattle.std.specs.Prelude.{slice_range, nat_lt, Option, Some, None, Result, Err, if◌then◌else◌}
+use Rattle.std.specs.Prelude.{◌≡◌, ℕ, ◌+◌, ◌-◌, ◌==◌, ◌||◌, max, Bool, List, [], ◌++◌, length}
+use Rattle.std.specs.Prelude.{nat_lt, Option, Some, None, Result, Err, if◌then◌else◌}
 use Rattle.std.specs.Prelude.{◌≤◌, false, take, drop}
 use Rattle.flash_format.specs.Head.{round64}
 use Rattle.flash_format.specs.Made.{header_length, empty_entry, empty_header, hash_len, meta_length}
 use Rattle.flash_format.specs.Made.{made}
 use Rattle.flash_format.specs.Entry.{is_nul}
 use Rattle.flash_format.specs.Components.{Component}
-use Rattle.flash_format.specs.Placings.{HasOneMore, made_component, space_cells}
-use Rattle.flash_format.specs.Splices.{AllFree, CellsBetween}
+use Rattle.flash_format.specs.Placings.{made_component}
 use Rattle.flash_format.specs.declared.digest.Algorithm.{Algorithm}
 use Rattle.flash_format.specs.declared.digest.Algorithm.TheVariants as algorithms
 use Rattle.flash_format.specs.declared.digest.Digest.{Digest}
@@ -21,8 +19,6 @@ use Rattle.cbfs_edit.specs.Removals.{kept_at, IsCellRange}
 use Rattle.cbfs_edit.specs.Places.{is_bad_align, placing_in}
 use Rattle.cbfs_edit.specs.declared.addition.HashChoice.{HashChoice}
 use Rattle.cbfs_edit.specs.declared.addition.HashChoice.TheVariants.{Plain, Sha256, Sha512}
-use Rattle.cbfs_edit.specs.declared.addition.Placed.{Placed}
-use Rattle.cbfs_edit.specs.declared.addition.Label.{Label}
 use Rattle.cbfs_edit.specs.declared.fault.EditFault.{EditFault}
 use Rattle.cbfs_edit.specs.declared.fault.EditFault.TheVariants.{BadName, BadType, BadAlign}
 use Rattle.cbfs_edit.specs.declared.place.Spot.{Spot}
@@ -50,9 +46,6 @@ digest_of hash content = option_map (λ algorithm. hashed_by algorithm content) 
 abbrev pub new_component : List ℕ → ℕ → HashChoice → List ℕ → NewComponent
 new_component name kind hash content =
     record { name = name; kind = kind; digest = digest_of hash content; content = content }
-
-abbrev pub component_of_label : Label → List ℕ → NewComponent
-component_of_label label content = new_component label.name.now label.kind label.hash content
 
 -- the length without the gap before the content
 abbrev pub metadata_len_of : NewComponent → ℕ
@@ -84,49 +77,23 @@ module _ (x : List ℕ) (new : NewComponent) (place : Place) where
   abbrev pub added_component : Component
   added_component = made_component place.header new.name new.kind new.digest new.content made_at
 
-  -- one more component in place of free cells, with its content at the returned offset
-  pub record AddsOne : Type 0 where
-    pub cells : CellsBetween x place.run.start place.run.end
-    pub free : AllFree cells.group
-    pub more : HasOneMore x place.run.start place.run.end cells
-        (space_cells (empty_between x place.run.start place.header) ++ (made_at ∷ [])
-        ++ space_cells (empty_between x (cell_end new place) place.run.end)) added_component added
-    pub content : slice_range added place.content (place.content + length new.content) ≡ new.content
-
--- the start of the preserved end: the last four bytes, unless covered by content
-abbrev pub kept_from : List ℕ → NewComponent → Place → ℕ
-kept_from x new place = max (place.content + length new.content) (length x - 4)
-
 -- ---- the errors
 
 -- empty, more than 127 bytes, or with a NUL
 abbrev pub is_bad_name : List ℕ → Bool
 is_bad_name name = (length name == 0) || nat_lt 127 (length name) || list_any is_nul name
 
--- the types of free space
-abbrev pub is_bad_type : ℕ → Bool
-is_bad_type kind = kind == 0 || kind == 0xffffffff
-
--- the first error that depends on no device
+-- the first error that depends on no device; 0 and 0xffffffff are the types of free space
 abbrev pub argument_fault : List ℕ → ℕ → Spot → Option EditFault
 argument_fault name kind spot =
     if is_bad_name name then Some BadName
-    else (if is_bad_type kind then Some BadType
+    else (if kind == 0 || kind == 0xffffffff then Some BadType
     else (if is_bad_align spot then Some BadAlign else None))
 
 -- the place, or the first error
 unfoldable pub addition_in : List ℕ → NewComponent → Spot → Result Place EditFault
 addition_in x new spot = option_map_or (λ fault. Err fault) (argument_fault new.name new.kind spot)
     (placing_in x new.name (wanted_for new spot))
-
--- the result of `add`
-abbrev pub placed_of : Result Place EditFault → Result Placed EditFault
-placed_of place =
-    result_map_both (λ p. record { header = p.header; content = p.content }) (λ fault. fault) place
-
--- unchanged after an error
-abbrev pub added_to : List ℕ → NewComponent → Spot → List ℕ
-added_to x new spot = option_map_or (added x new) (result_ok (addition_in x new spot)) x
 
 -- room for the metadata, and for a cell up to `end`
 pub record HasRoom (place : Place) (end metadata size : ℕ) : Type 0 where

@@ -1,6 +1,6 @@
 -- The effect of edits on a region, also after a fault.
 use Rattle.std.specs.Prelude.{◌≡◌, ℕ, ◌+◌, ◌/◌, List, length, Result, IsTrue, OnOk, ◌⊎◌}
-use Rattle.std.specs.Prelude.{◌-◌, max, drop, Ok, ◌==◌}
+use Rattle.std.specs.Prelude.{◌-◌, max, drop, Ok, Err, ◌==◌}
 use Rattle.flash_device.specs.Device.{overwritten, SameOutside, Device, Reads, fault_count}
 use Rattle.flash_device.specs.Device.{refusals}
 use Rattle.flash_device.specs.Pages.{Pages, HasChanged}
@@ -10,11 +10,12 @@ use Rattle.flash_device.specs.declared.paged.CopyInFault.TheVariants as causes
 use Rattle.flash_format.specs.Made.{header_length, empty_header}
 use Rattle.flash_format.specs.Cut.{cut}
 use Rattle.flash_format.specs.Components.{components}
-use Rattle.cbfs_edit.specs.Removals.{removed, removal_in, space_end}
-use Rattle.cbfs_edit.specs.Additions.{NewComponent, addition_in, added, kept_from}
+use Rattle.cbfs_edit.specs.Removals.{removed, removal_in}
+use Rattle.cbfs_edit.specs.Additions.{NewComponent, addition_in, added}
 use Rattle.cbfs_edit.specs.declared.fault.EditFault.{EditFault}
 use Rattle.cbfs_edit.specs.declared.fault.EditFault.TheVariants as faults
 use Rattle.cbfs_edit.specs.declared.group.CellRange.{CellRange}
+use Rattle.cbfs_edit.specs.declared.addition.Placed.{Placed}
 use Rattle.cbfs_edit.specs.declared.place.Spot.{Spot}
 use Rattle.cbfs_edit.specs.declared.place.Place.{Place}
 
@@ -100,19 +101,35 @@ abbrev pub LeavesWhole : List ℕ → List ℕ → List ℕ → Type 0
 LeavesWhole x name y = (y ≡ x) ⊎ ((group : CellRange) × (removal_in x name ≡ Ok group)
     × IsStopped group (length x - 4) x (removed x group) y)
 
+-- The effect of a removal on a region of an honest device's image, by the result.
+abbrev pub Removes : Range → List ℕ → Result CellRange EditFault → List ℕ → List ℕ → Type 0
+Removes region name (Ok group) old now = let x = bytes_in region old in
+    (removal_in x name ≡ Ok group) × (now ≡ overwritten old region.start (removed x group))
+Removes region name (Err fault) old now = let x = bytes_in region old in
+    by_fault fault (LeavesWhole x name (bytes_in region now)) ⊥
+    ((removal_in x name ≡ Err fault) × (now ≡ old))
+
 -- after a device fault of an addition; of the last four bytes, only bytes after the content remain
 abbrev pub AddLeavesWhole : List ℕ → NewComponent → Spot → List ℕ → Type 0
 AddLeavesWhole x new spot y = (y ≡ x) ⊎ ((place : Place) × (addition_in x new spot ≡ Ok place)
-    × IsStopped place.run (kept_from x new place) x (added x new place) y)
+    × IsStopped place.run (max (place.content + length new.content) (length x - 4)) x
+    (added x new place) y)
 
 -- after a source fault: the components of before
 abbrev pub AddLeavesBefore : List ℕ → NewComponent → Spot → List ℕ → Type 0
 AddLeavesBefore x new spot y = AddLeavesWhole x new spot y × (components y ≡ components x)
 
--- the end of an addition's writes
-abbrev pub written_to : ℕ → ℕ → Place → ℕ
-written_to size len place = max (place.content + len) (space_end size place.run.end)
-
--- an empty entry over the run, or the complete addition; bytes from `to` on remain
-abbrev pub IsInsertStop : CellRange → ℕ → Type 0 → List ℕ → List ℕ → Type 0
-IsInsertStop run to Done x y = IsOldOrEmptied run to x y ⊎ (Done × (drop to y ≡ drop to x))
+-- The effect of an addition on a region of an honest device's image, by the result. `with_content`
+-- is the component by its content, the source's.
+abbrev pub Adds : Range → (List ℕ → NewComponent) → Spot → Device → Result Placed EditFault → List ℕ
+    → List ℕ → Type 0
+Adds region with_content spot source (Ok placed) old now =
+    let x = bytes_in region old in let new = with_content source.content in
+    (place : Place) × (addition_in x new spot ≡ Ok place)
+    × (placed ≡ record { header = place.header; content = place.content })
+    × (IsTrue source.honest → now ≡ overwritten old region.start (added x new place))
+Adds region with_content spot source (Err fault) old now =
+    let x = bytes_in region old in let new = with_content source.content in
+    by_fault fault (IsTrue source.honest → AddLeavesWhole x new spot (bytes_in region now))
+    (AddLeavesBefore x new spot (bytes_in region now))
+    ((addition_in x new spot ≡ Err fault) × (now ≡ old))

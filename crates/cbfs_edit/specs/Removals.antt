@@ -6,13 +6,13 @@ use Rattle.std.specs.Prelude.{ok_or, ◌==◌}
 use Rattle.std.specs.Str.{bytes_eq}
 use Rattle.flash_format.specs.Head.{head_of, is_free}
 use Rattle.flash_format.specs.Cut.{cut, End}
-use Rattle.flash_format.specs.Components.{cell_name, Component, components}
+use Rattle.flash_format.specs.Components.{cell_name}
 use Rattle.flash_format.specs.Splices.{AllFree}
 use Rattle.cbfs_edit.specs.declared.group.CellRange.{CellRange}
 use Rattle.std.specs.Result.{result_and, result_map_both}
 use Rattle.flash_format.specs.Made.{empty_entry}
 use Rattle.flash_device.specs.Device.{overwritten}
-use Rattle.cbfs_walk.specs.Search.{IsFirstOf, not_found}
+use Rattle.cbfs_walk.specs.Search.{not_found}
 use Rattle.cbfs_walk.specs.Shapes.{shape_fault, refused_or}
 use Rattle.cbfs_walk.specs.CellReadings.{place_after}
 use Rattle.cbfs_walk.specs.declared.walk.WalkFault.{WalkFault}
@@ -100,13 +100,6 @@ space_end size end = if end == size then end - 4 else end
 abbrev pub removed : List ℕ → CellRange → List ℕ
 removed x group =
     overwritten x group.start (empty_entry (group.end - group.start) (kept_at x group.end))
-
--- all others and the end of the cells remain
-pub record LosesOne (name x y : List ℕ) : Type 0 where
-  pub component : Component
-  pub was : IsFirstOf name (components x) component
-  pub is : components y ≡ was.before ++ was.after
-  pub same_end : (cut y).end ≡ (cut x).end
 
 abbrev pub edit_fault_of : WalkFault → EditFault
 edit_fault_of faults.Device = Device

@@ -1,11 +1,10 @@
 -- Edits on any device.
-use Rattle.std.specs.Prelude.{◌≡◌, ℕ, ◌+◌, ◌/◌, IsTrue, List, [], ◌∷◌, length, Ok, Err}
+use Rattle.std.specs.Prelude.{◌≡◌, ℕ, ◌+◌, ◌/◌, List, [], ◌∷◌, length, Ok, Err}
 use Rattle.flash_device.specs.Device.{Calls, Device, Reads}
-use Rattle.flash_device.specs.Regions.{Range, bytes_in}
-use Rattle.cbfs_edit.specs.Changes.{by_fault, by_device, by_source, LeavesWhole, AddLeavesWhole}
-use Rattle.cbfs_edit.specs.Changes.{AddLeavesBefore}
-use Rattle.cbfs_edit.specs.Removals.{removed, removal_in}
-use Rattle.cbfs_edit.specs.Additions.{new_component, addition_in, added_to, placed_of}
+use Rattle.flash_device.specs.Pages.{OnHonest}
+use Rattle.flash_device.specs.Regions.{Range}
+use Rattle.cbfs_edit.specs.Changes.{Adds, Removes, by_device, by_source}
+use Rattle.cbfs_edit.specs.Additions.{new_component}
 use Rattle.cbfs_edit.specs.declared.edit.Edit.{Edit}
 use Rattle.cbfs_edit.specs.declared.edit.Edit.TheVariants.{Add, Remove}
 use Rattle.cbfs_edit.specs.declared.edit.Reply.{Reply}
@@ -23,22 +22,17 @@ edit_calls size (Add name kind hash spot source) = size / 16 + size / 2048 + 7
 edit_calls size (Remove name) = size / 16 + size / 4096 + 3
 
 module _ {S : Type 0} (facts : S → Device) where
-  -- The place of an addition, the group of a removal, or an error, and the resulting region, if
-  -- device and source are honest. A source fault never refuses a removal.
-  abbrev pub IsReply : Edit S → Reply → Type 0 → List ℕ → List ℕ → Type 0
-  IsReply (Add name kind hash spot source) (replies.Placed placed) honest x y =
-      let new = new_component name.now kind hash (facts source).content in
-      honest → IsTrue (facts source).honest
-      → (placed_of (addition_in x new spot) ≡ Ok placed) × (y ≡ added_to x new spot)
-  IsReply (Add name kind hash spot source) (replies.Refused fault) honest x y =
-      let new = new_component name.now kind hash (facts source).content in
-      honest → IsTrue (facts source).honest → by_fault fault (AddLeavesWhole x new spot y)
-      (AddLeavesBefore x new spot y) ((addition_in x new spot ≡ Err fault) × (y ≡ x))
-  IsReply (Remove name) (replies.Freed group) honest x y = honest
-      → (removal_in x name.now ≡ Ok group) × (y ≡ removed x group)
-  IsReply (Remove name) (replies.Refused fault) honest x y = honest
-      → by_fault fault (LeavesWhole x name.now y) ⊥ ((removal_in x name.now ≡ Err fault) × (y ≡ x))
-  IsReply edit reply honest x y = ⊥
+  -- the effect of an edit, by the reply
+  abbrev pub IsReply : Range → Edit S → Reply → List ℕ → List ℕ → Type 0
+  IsReply region (Add name kind hash spot source) (replies.Placed placed) old now =
+      Adds region (new_component name.now kind hash) spot (facts source) (Ok placed) old now
+  IsReply region (Add name kind hash spot source) (replies.Refused fault) old now =
+      Adds region (new_component name.now kind hash) spot (facts source) (Err fault) old now
+  IsReply region (Remove name) (replies.Freed group) old now =
+      Removes region name.now (Ok group) old now
+  IsReply region (Remove name) (replies.Refused fault) old now =
+      Removes region name.now (Err fault) old now
+  IsReply region edit reply old now = ⊥
 
   -- An edit keeps its arguments, and an honest source its content. A removal has no source.
   abbrev pub Stays : ℕ → Edit S → Edit S → Type 0
@@ -52,8 +46,7 @@ module _ {S : Type 0} (facts : S → Device) where
       (after : Device) : Type 0 where
     pub stays : Stays (faults_of by_source reply) old new
     pub calls : Calls (edit_calls region.size old) (faults_of by_device reply) before after
-    pub effect : IsReply old reply (IsTrue before.honest) (bytes_in region before.content)
-        (bytes_in region after.content)
+    pub effect : OnHonest before (λ image. IsReply region old reply image after.content)
 
   -- consecutive edits
   abbrev pub Run : Range → List (Edit S) → List (Edit S) → List Reply → Device → Device → Type 0

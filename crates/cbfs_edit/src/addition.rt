@@ -1,26 +1,20 @@
 //! The addition of a component.
-ghost use Rattle.std.specs.Prelude.{ℕ, List, ◌≡◌, ◌≢◌, ◌⊎◌, ◌+◌, ◌/◌, ◌<◌, ◌≤◌, length, Err};
-ghost use Rattle.std.specs.Prelude.{IsTrue, IfOk, IfErr, IfSome, IsErrOf, OnOk, OnErr};
-ghost use Rattle.std.specs.Prelude.{option_copied};
+ghost use Rattle.std.specs.Prelude.{ℕ, List, ◌≡◌, ◌+◌, ◌/◌, ◌<◌, ◌≤◌, length, Err};
+ghost use Rattle.std.specs.Prelude.{IsTrue, IfOk, IfSome, option_copied};
 ghost use Rattle.std.specs.List.{list_any};
 ghost use Rattle.flash_format.specs.Entry.{is_nul};
 ghost use Rattle.flash_format.specs.Made.{hash_len};
-ghost use Rattle.flash_device.specs.Device.{overwritten, Reads, fault_count};
-ghost use Rattle.flash_device.specs.Pages.{HasChanged, OnHonestIn, Returns};
+ghost use Rattle.flash_device.specs.Device.{Reads, fault_count};
+ghost use Rattle.flash_device.specs.Pages.{HasChanged, OnHonest, Returns};
 ghost use Rattle.flash_device.specs.Regions.{LiesOn, Reaches};
-ghost use Rattle.cbfs_edit.specs.Changes.{OnHonestChange, HasCopied, HoldsOn, AddLeavesBefore};
-ghost use Rattle.cbfs_edit.specs.Changes.{AddLeavesWhole, IsInsertStop, written_to, by_device};
-ghost use Rattle.cbfs_edit.specs.Changes.{by_source, stop_count};
-ghost use Rattle.cbfs_edit.specs.Additions.{added, added_to, addition_in, algorithm_of, choice_of};
-ghost use Rattle.cbfs_edit.specs.Additions.{component_of_label, digest_of, is_bad_name};
-ghost use Rattle.cbfs_edit.specs.Additions.{is_bad_type, new_component};
-ghost use Rattle.cbfs_edit.specs.Additions.{argument_fault, placed_of, wanted_for};
-ghost use Rattle.cbfs_edit.specs.Places.{Fits};
+ghost use Rattle.cbfs_edit.specs.Changes.{Adds, HasCopied, by_device, by_source};
+ghost use Rattle.cbfs_edit.specs.Additions.{algorithm_of, argument_fault, choice_of, digest_of};
+ghost use Rattle.cbfs_edit.specs.Additions.{is_bad_name, new_component, wanted_for};
 
 use crate::fault::EditFault;
 use crate::hashing::Hashing;
 use crate::insertion::describe;
-use crate::place::{Place, Spot, Wanted, find_place};
+use crate::place::{Spot, Wanted, find_place};
 use crate::region_writes::{copy_into, write_empty_entry};
 use flash_device::{CopyInFault, Flash, Paged, Source, Unwatched};
 use flash_format::{Algorithm, Digest, Meta, meta_len};
@@ -66,15 +60,6 @@ pub struct Placed {
     /// A multiple of 64.
     pub header: u64,
     pub content: u64,
-}
-
-/// A component's properties except its content.
-#[derive(Clone, Copy)]
-pub struct Label<'a> {
-    pub name: &'a [u8],
-    /// The CBFS type.
-    pub kind: u32,
-    pub hash: HashChoice,
 }
 
 /// Copies the source to an offset, and returns its digest, computed in the same pass.
@@ -162,52 +147,16 @@ fn meta_of<'a>(
     }
 }
 
-fn wanted_of(label: &Label<'_>, len: u64, spot: Spot) -> Wanted
-    requires { length label.now.name.now ≤ 127 }
-    ensures { (content : List ℕ) → len ≡ length content
-        → result ≡ wanted_for (component_of_label label.now content) spot }
+fn wanted_of(name: &[u8], hash: HashChoice, len: u64, spot: Spot) -> Wanted
+    requires { length name.now ≤ 127 }
+    ensures { (kind : ℕ) (content : List ℕ) → len ≡ length content
+        → result ≡ wanted_for (new_component name.now kind hash content) spot }
 {
     Wanted {
-        metadata_len: meta_len(label.name.len(), attribute_len(label.hash)) as u64,
+        metadata_len: meta_len(name.len(), attribute_len(hash)) as u64,
         len,
         spot,
     }
-}
-
-/// Puts a component into a run of free cells, where it fits.
-fn insert<F: Flash, S: Source>(
-    paged: &mut Paged<F>,
-    region: Region,
-    wanted: Wanted,
-    place: Place,
-    label: &Label<'_>,
-    source: &mut S,
-) -> Result<(), CopyInFault>
-    requires fits { HoldsOn (λ size. Fits wanted size place) region paged.old.device }
-    requires name { length label.now.name.now ≤ 127 }
-    requires wanted { wanted
-        ≡ wanted_for (component_of_label label.now (S.facts source.old).content) wanted.spot }
-
-    ensures after { HasChanged region (region.size / 4096 + region.size / 4096 + 6)
-        (stop_count by_device result) paged.old paged.new }
-    ensures source { Reads ((length (S.facts source.old).content + 4095) / 4096)
-        (stop_count by_source result) (S.facts source.old) (S.facts source.new) }
-
-    ensures added { OnHonestChange region paged.old paged.new (λ x y.
-        IsTrue (S.facts source.old).honest → OnOk result
-        (y ≡ added x (component_of_label label.now (S.facts source.old).content) place)) }
-    ensures stopped { OnHonestChange region paged.old paged.new (λ x y. OnErr result
-        (IsInsertStop place.run (written_to region.size wanted.len place)
-        ((IsErrOf result CopyInFault.Source → ⊥) × (IsTrue (S.facts source.old).honest →
-        y ≡ added x (component_of_label label.now (S.facts source.old).content) place)) x y)) }
-{
-    let end = (place.content + wanted.len + 63) / 64 * 64;
-    write_empty_entry(paged, region, place.run)?;
-    let digest = copy_content(paged, region, place.content, label.hash, source)?;
-    let gap = (place.content - place.header - wanted.metadata_len) as u32;
-    let meta = meta_of(label.name, label.kind, wanted.len as u32, gap, &digest);
-    describe(paged, region, place, end, &meta)?;
-    Ok(())
 }
 
 /// Returns the first error that depends on no device.
@@ -217,7 +166,7 @@ fn argument_fault(name: &[u8], kind: u32, spot: Spot) -> Option<EditFault>
     if is_bad_name(name) {
         return Some(EditFault::BadName);
     }
-    if is_bad_type(kind) {
+    if kind == 0 || kind == 0xffff_ffff {
         return Some(EditFault::BadType);
     }
     match spot {
@@ -236,12 +185,6 @@ fn has_nul(name: &[u8]) -> bool
     ensures { result ≡ list_any is_nul name.now }
 {
     name.iter().any(|byte| *byte == 0)
-}
-
-fn is_bad_type(kind: u32) -> bool
-    ensures { result ≡ is_bad_type kind }
-{
-    kind == 0 || kind == 0xffff_ffff
 }
 
 fn attribute_len(hash: HashChoice) -> usize
@@ -280,37 +223,21 @@ pub fn add<F: Flash, S: Source>(
 
     ensures words { IfSome (argument_fault name.now kind spot) (λ fault.
         (result ≡ Err fault) × (paged.new ≡ paged.old) × (source.new ≡ source.old)) }
-
-    // For any source.
-    ensures answer { OnHonestIn paged.old.device region (λ x.
-        IsErrOf result EditFault.Device ⊎ (IsErrOf result EditFault.Source ⊎ (result ≡ placed_of
-        (addition_in x (new_component name.now kind hash (S.facts source.old).content) spot)))) }
-    ensures refused { IsTrue paged.old.device.honest
-        → IfErr result (λ fault. fault ≢ EditFault.Device → fault ≢ EditFault.Source
-        → paged.new.device.content ≡ paged.old.device.content) }
-    ensures before { OnHonestChange region paged.old paged.new (λ x y.
-        IsErrOf result EditFault.Source → AddLeavesBefore x
-        (new_component name.now kind hash (S.facts source.old).content) spot y) }
-
-    // For an honest source.
-    ensures added { OnHonestChange region paged.old paged.new (λ x y.
-        IsTrue (S.facts source.old).honest → OnOk result
-        (y ≡ added_to x (new_component name.now kind hash (S.facts source.old).content) spot)) }
-    ensures image { OnHonestIn paged.old.device region (λ x.
-        IsTrue (S.facts source.old).honest → OnOk result (paged.new.device.content
-        ≡ overwritten paged.old.device.content region.start
-        (added_to x (new_component name.now kind hash (S.facts source.old).content) spot))) }
-    ensures stopped { OnHonestChange region paged.old paged.new (λ x y.
-        IsTrue (S.facts source.old).honest → IsErrOf result EditFault.Device
-        → AddLeavesWhole x (new_component name.now kind hash (S.facts source.old).content) spot y) }
+    ensures effect { OnHonest paged.old.device (λ image. Adds region
+        (new_component name.now kind hash) spot (S.facts source.old) result image
+        paged.new.device.content) }
 {
     if let Some(fault) = argument_fault(name, kind, spot) {
         return Err(fault);
     }
-    let label = Label { name, kind, hash };
-    let wanted = wanted_of(&label, source.len(), spot);
+    let wanted = wanted_of(name, hash, source.len(), spot);
     let place = find_place(paged, region, name, wanted)?;
-    insert(paged, region, wanted, place, &label, source)?;
+    let end = (place.content + wanted.len + 63) / 64 * 64;
+    write_empty_entry(paged, region, place.run)?;
+    let digest = copy_content(paged, region, place.content, hash, source)?;
+    let gap = (place.content - place.header - wanted.metadata_len) as u32;
+    let meta = meta_of(name, kind, wanted.len as u32, gap, &digest);
+    describe(paged, region, place, end, &meta)?;
     Ok(Placed {
         header: place.header,
         content: place.content,

@@ -2,11 +2,11 @@
 //!
 //! The first commit covers the run with the header of an empty entry, and the last commit shows the
 //! component. Bytes written between the commits are free space.
-ghost use Rattle.std.specs.Prelude.{◌≡◌, ◌⊎◌, ◌-◌, ◌%◌, ◌^◌, ◌<◌, ◌≤◌, length};
-ghost use Rattle.flash_format.specs.Made.{header_length, metadata_of, described_len};
+ghost use Rattle.std.specs.Prelude.{◌≡◌, ◌⊎◌, ◌-◌, ◌<◌, ◌≤◌, length};
+ghost use Rattle.flash_format.specs.Made.{metadata_of, described_len};
 ghost use Rattle.cbfs_edit.specs.Changes.{HasWrittenIn, HoldsOn};
 ghost use Rattle.cbfs_edit.specs.Additions.{HasRoom, IsUnfinished, with_bound, with_component};
-ghost use Rattle.cbfs_edit.specs.Additions.{with_metadata, held_back, shown_by};
+ghost use Rattle.cbfs_edit.specs.Additions.{with_metadata, held_back};
 
 use crate::place::Place;
 use crate::region_writes::{commit_in, write_in};
@@ -61,45 +61,8 @@ fn write_bound<F: Flash>(
     write_in(paged, region, end, &header)
 }
 
-/// Returns the component's start, or the header of the empty entry before the component.
-fn shown_by(place: Place, metadata: &[u8]) -> [u8; HEADER_LENGTH]
-    requires metadata { header_length ≤ length metadata.now }
-    requires start_aligned { place.run.start % 64 ≡ 0 }
-    requires header_aligned { place.header % 64 ≡ 0 }
-    requires order { place.run.start ≤ place.header }
-    requires small { place.header < 2 ^ 32 }
-    ensures { result ≡ shown_by place metadata.now }
-{
-    if place.header == place.run.start {
-        let mut begin = [0; HEADER_LENGTH];
-        begin.copy_from_slice(&metadata[..HEADER_LENGTH]);
-        return begin;
-    }
-    empty_header((place.header - place.run.start) as u32, false)
-}
-
-/// Writes the metadata and the header of the following empty entry. The last commit shows the
-/// component.
-fn show<F: Flash>(
-    paged: &mut Paged<F>,
-    region: Region,
-    place: Place,
-    end: u64,
-    metadata: &[u8],
-) -> Result<(), FlashFault>
-    requires { HoldsOn (HasRoom place end (length metadata.now)) region paged.old.device }
-
-    ensures { HasWrittenIn region 3 (λ x. with_component x place end metadata.now)
-        (λ x y. (y ≡ with_component x place end metadata.now) ⊎ IsUnfinished place x y)
-        paged.old paged.new result }
-{
-    write_metadata(paged, region, place, end, metadata)?;
-    write_bound(paged, region, place, end)?;
-    let begin = shown_by(place, metadata);
-    commit_in(paged, region, place.run.start, &begin)
-}
-
-/// Writes the metadata of existing content, and shows the component.
+/// Writes the metadata of existing content and the header of the following empty entry. The last
+/// commit shows the component.
 pub fn describe<F: Flash>(
     paged: &mut Paged<F>,
     region: Region,
@@ -118,5 +81,14 @@ pub fn describe<F: Flash>(
 {
     let mut metadata = [0; LONGEST_METADATA];
     let n = write_meta(meta, &mut metadata);
-    show(paged, region, place, end, &metadata[..n])
+    let metadata = &metadata[..n];
+    write_metadata(paged, region, place, end, metadata)?;
+    write_bound(paged, region, place, end)?;
+    if place.header == place.run.start {
+        let mut begin = [0; HEADER_LENGTH];
+        begin.copy_from_slice(&metadata[..HEADER_LENGTH]);
+        return commit_in(paged, region, place.run.start, &begin);
+    }
+    let begin = empty_header((place.header - place.run.start) as u32, false);
+    commit_in(paged, region, place.run.start, &begin)
 }

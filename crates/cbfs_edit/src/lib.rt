@@ -22,10 +22,8 @@ pub use fault::EditFault;
 pub use formatting::format;
 pub use group::{CellRange, Freed};
 pub use laws::{
-    additions_add_one_component, additions_are_found, additions_are_undone, edits_keep_the_others,
-    emptied_groups_lack_the_component, emptied_runs_keep_the_components,
-    formatted_regions_are_free, groups_are_exact, places_are_exact, removals_take_one_component,
-    runs_are_exact,
+    additions_add_one_component, formatted_regions_are_free, removals_take_one_component,
+    searches_are_exact,
 };
 pub use place::Spot;
 pub use removal::remove;

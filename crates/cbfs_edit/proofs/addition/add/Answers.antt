@@ -1,62 +1,108 @@
-use Rattle.std.proofs.Common.{inr, IsTrue, Some, ap, ◌∙◌, sym, arith, rules}
+use Rattle.std.proofs.Common.{inr, refl, Some, ap, ◌∙◌, sym, arith, rules}
 use Rattle.std.proofs.lemmas.Result.{err_from_is_err_and}
 use Rattle.flash_device.specs.Regions.{bytes_in}
-use Rattle.flash_device.proofs.DeviceLemmas.{honest_still, length-bytes_in}
-use Rattle.cbfs_edit.specs.Additions.{new_component, placed_of}
+use Rattle.flash_device.proofs.DeviceLemmas.{honest_still}
+use Rattle.cbfs_edit.specs.Additions.{new_component}
 use Rattle.cbfs_edit.specs.declared.place.Wanted.{Wanted}
-use Rattle.cbfs_edit.proofs.AdditionLemmas.{own-is, no_fault, digest-sized, found_err, place_found, written, stop_leaves, copy_cause, copy_only, copy_source}
-use Rattle.cbfs_edit.proofs.Removals.{image_of}
+use Rattle.cbfs_edit.proofs.Insertions.{hash_short, room-for}
+use Rattle.cbfs_edit.proofs.AdditionLemmas.{own-is, no_fault, digest-sized, searched, addition_refused, empty_left, copied_left, shown_left, shown_done}
 use Rattle.cbfs_edit.proofs.addition.add.Goals as goal
 
-pub returns-in-Some-clause-answer : goal.returns-in-Some-clause-answer
-returns-in-Some-clause-answer g c honest =
+pub returns-in-Some-clause-effect : goal.returns-in-Some-clause-effect
+returns-in-Some-clause-effect g c honest =
     let new = new_component c.args.name.now c.args.kind c.args.hash (g.S.Source.facts c.args.source.now).content in
-    inr (inr (ap placed_of (own-is (bytes_in c.args.region c.args.paged.now.device.content) new c.args.spot (Some c.in-Some.fault) (sym c.in-Some.is ∙ c.argument_fault.ensures))))
+    let x = bytes_in c.args.region c.args.paged.now.device.content in
+    addition_refused c.args.region (new_component c.args.name.now c.args.kind c.args.hash) c.args.spot (g.S.Source.facts c.args.source.now) c.in-Some.fault _ _ (inr (own-is x new c.args.spot (Some c.in-Some.fault) (sym c.in-Some.is ∙ c.argument_fault.ensures))) refl
 
-pub returns-in_err-place-clause-answer : goal.returns-in_err-place-clause-answer
-returns-in_err-place-clause-answer g c honest =
+pub find_place-requires-clause-wanted : goal.find_place-requires-clause-wanted
+find_place-requires-clause-wanted g c =
     let new = new_component c.args.name.now c.args.kind c.args.hash (g.S.Source.facts c.args.source.now).content in
-    let refused = err_from_is_err_and c.from_residual.result c.from_residual.ensures.1 in
-    rw (refused.1, refused.2) (found_err _ new c.args.spot _ _ c.in_default.not-Some c.argument_fault.ensures (c.wanted_of-wanted.ensures new.content c.len.ensures.length) c.in_err-place.field-0.0 (c.in_err-place.ensures.answer honest))
+    rw (c.wanted_of-wanted.ensures c.args.kind new.content c.len.ensures.length) (let few = hash_short new.digest in search rules)
 
-pub returns : goal.returns
-returns g c =
+pub returns-in_err-place-clause-effect : goal.returns-in_err-place-clause-effect
+returns-in_err-place-clause-effect g c honest =
     let new = new_component c.args.name.now c.args.kind c.args.hash (g.S.Source.facts c.args.source.now).content in
-    let passed = no_fault c.argument_fault.result c.in_default.not-Some ∙ c.argument_fault.ensures in
-    let still = λ (h : IsTrue c.args.paged.now.device.honest). honest_still c.find_place.ensures.after.device.calls.same_honesty h in
-    let same = c.find_place.ensures.after.device.unchanged in
-    let is = λ (h : IsTrue c.args.paged.now.device.honest). place_found (bytes_in c.args.region c.args.paged.now.device.content) new c.args.spot _ _ c.in_default.not-Some c.argument_fault.ensures (c.wanted_of-wanted.ensures new.content c.len.ensures.length) c.in_ok-place.place (c.in_ok-place.ensures.answer h) in
-    let done = λ (h : IsTrue c.args.paged.now.device.honest) (s : IsTrue (g.S.Source.facts c.args.source.now).honest). written c.args.region new c.args.spot c.in_ok-place.place _ _ _ (same h) (is h) (c.in_ok-insert.ensures.added (still h) s) in
-    record {
-      after = search rules;
-      source = search rules;
-      words = rw (← passed) tt;
-      answer = λ honest. inr (inr (sym (ap placed_of (is honest))));
-      refused = search rules;
-      before = λ honest failed. absurd cc;
-      added = done;
-      image = λ honest source_honest. image_of c.args.region _ _ _ _ c.requires.inside (same honest) c.insert.ensures.after.calls.same_length (c.insert.ensures.after.outside (still honest)) (done honest source_honest);
-      stopped = λ honest source_honest failed. absurd cc;
-    }
+    let x = bytes_in c.args.region c.args.paged.now.device.content in
+    let own = no_fault c.argument_fault.result c.in_default.not-Some ∙ c.argument_fault.ensures in
+    let told = err_from_is_err_and c.from_residual.result c.from_residual.ensures.1 in
+    rw (told.1, told.2) (addition_refused c.args.region (new_component c.args.name.now c.args.kind c.args.hash) c.args.spot (g.S.Source.facts c.args.source.now) c.in_err-place.field-0.0 _ _
+    (searched x new c.args.spot _ own (c.wanted_of-wanted.ensures c.args.kind new.content c.len.ensures.length) _ (c.in_err-place.ensures.answer honest)) (c.find_place.ensures.after.device.unchanged honest))
 
-pub returns-in_err-insert : goal.returns-in_err-insert
-returns-in_err-insert g c =
+pub returns-in_err-write_empty_entry-clause-effect : goal.returns-in_err-write_empty_entry-clause-effect
+returns-in_err-write_empty_entry-clause-effect g c honest =
+    let source = g.S.Source.facts c.args.source.now in
+    let make = new_component c.args.name.now c.args.kind c.args.hash in
+    let own = no_fault c.argument_fault.result c.in_default.not-Some ∙ c.argument_fault.ensures in
+    let is = c.wanted_of-wanted.ensures c.args.kind source.content c.len.ensures.length in
+    let found = searched (bytes_in c.args.region c.args.paged.now.device.content) (make source.content) c.args.spot _ own is _ (c.in_ok-place.ensures.answer honest) in
+    let first = honest_still c.find_place.ensures.after.device.calls.same_honesty honest in
+    let told = err_from_is_err_and c.from_residual-in_err-write_empty_entry.result c.from_residual-in_err-write_empty_entry.ensures.1 in
+    rw (told.1, told.2) (empty_left c.args.region c.args.paged.now.device make c.args.spot source _ c.in_ok-place.place c.requires is c.ranges.kind.fits (omega (arith, c.len.ensures)) (digest-sized c.args.hash source.content) found _ _ (c.find_place.ensures.after.device.unchanged honest) c.write_empty_entry.ensures.after.calls.same_length (c.write_empty_entry.ensures.left first))
+
+pub copy_content-requires : goal.copy_content-requires
+copy_content-requires g c =
+    let len = ap (λ (w : Wanted). w.len) (c.wanted_of-wanted.ensures c.args.kind (g.S.Source.facts c.args.source.now).content c.len.ensures.length) in
+    search rules
+
+pub returns-in_err-digest-clause-after : goal.returns-in_err-digest-clause-after
+returns-in_err-digest-clause-after g c =
+    let len = ap (λ (w : Wanted). w.len) (c.wanted_of-wanted.ensures c.args.kind (g.S.Source.facts c.args.source.now).content c.len.ensures.length) in
+    search rules
+
+pub returns-in_err-digest-clause-effect : goal.returns-in_err-digest-clause-effect
+returns-in_err-digest-clause-effect g c honest =
+    let source = g.S.Source.facts c.args.source.now in
+    let make = new_component c.args.name.now c.args.kind c.args.hash in
+    let own = no_fault c.argument_fault.result c.in_default.not-Some ∙ c.argument_fault.ensures in
+    let is = c.wanted_of-wanted.ensures c.args.kind source.content c.len.ensures.length in
+    let found = searched (bytes_in c.args.region c.args.paged.now.device.content) (make source.content) c.args.spot _ own is _ (c.in_ok-place.ensures.answer honest) in
+    let first = honest_still c.find_place.ensures.after.device.calls.same_honesty honest in
+    let second = honest_still c.write_empty_entry.ensures.after.calls.same_honesty first in
+    let told = err_from_is_err_and c.from_residual-in_err-digest.result c.from_residual-in_err-digest.ensures.1 in
+    rw (told.1, told.2) (copied_left c.args.region c.args.paged.now.device make c.args.spot source _ c.in_ok-place.place c.requires is c.ranges.kind.fits (omega (arith, c.len.ensures)) (digest-sized c.args.hash source.content) found _ _ (c.find_place.ensures.after.device.unchanged honest) c.write_empty_entry.ensures.after.calls.same_length _ c.copy_content.ensures.after.after.calls.same_length (c.in_ok-write_empty_entry.ensures.written first) (c.copy_content.ensures.after.torn second) c.in_err-digest.field-0.0)
+
+pub describe-requires-clause-room : goal.describe-requires-clause-room
+describe-requires-clause-room g c =
     let new = new_component c.args.name.now c.args.kind c.args.hash (g.S.Source.facts c.args.source.now).content in
-    let passed = no_fault c.argument_fault.result c.in_default.not-Some ∙ c.argument_fault.ensures in
-    let is = λ (h : IsTrue c.args.paged.now.device.honest). place_found (bytes_in c.args.region c.args.paged.now.device.content) new c.args.spot _ _ c.in_default.not-Some c.argument_fault.ensures (c.wanted_of-wanted.ensures new.content c.len.ensures.length) c.in_ok-place.place (c.in_ok-place.ensures.answer h) in
-    let fault = c.in_err-insert.field-0.0 in
-    let refused = err_from_is_err_and c.from_residual-in_err-insert.result c.from_residual-in_err-insert.ensures.1 in
-    let leaves = λ (honest : IsTrue c.args.paged.now.device.honest). stop_leaves c.args.region c.args.paged.now.device new c.args.spot c.in_ok-place.place _ _ (IsTrue (g.S.Source.facts c.args.source.now).honest) _ _ _ c.requires c.ranges.kind.fits (omega (arith, c.len.ensures))
-    (digest-sized c.args.hash new.content) (sym (length-bytes_in c.args.region _ c.requires.inside)) (ap (λ (w : Wanted). w.len) (c.wanted_of-wanted.ensures new.content c.len.ensures.length)) (c.find_place.ensures.after.device.unchanged honest) (is honest)
-    (c.in_err-insert.ensures.stopped (honest_still c.find_place.ensures.after.device.calls.same_honesty honest)) in
-    rw (refused.1, refused.2) (record {
-      after = search rules;
-      source = search rules;
-      words = rw (← passed) tt;
-      answer = λ honest. copy_cause fault;
-      refused = λ honest. copy_only fault;
-      before = λ honest failed. (leaves honest).0 (copy_source fault failed);
-      added = search rules;
-      image = search rules;
-      stopped = λ honest source_honest failed. (leaves honest).1 source_honest;
-    })
+    let is = c.wanted_of-wanted.ensures c.args.kind new.content c.len.ensures.length in
+    let m = c.meta_of-meta in
+    record { region = search rules; is = room-for c.args.region.size new c.args.spot c.wanted_of-wanted.result c.in_ok-place.place m.result c.in_ok-digest.digest (omega (arith, c.requires.inside, c.requires.below)) c.in_ok-place.ensures.found (search rules) is m.ensures.name m.ensures.digest m.ensures.gap (c.in_ok-digest.ensures.digest_len new.content) }
+
+pub returns-in_err-describe-clause-after : goal.returns-in_err-describe-clause-after
+returns-in_err-describe-clause-after g c =
+    let len = ap (λ (w : Wanted). w.len) (c.wanted_of-wanted.ensures c.args.kind (g.S.Source.facts c.args.source.now).content c.len.ensures.length) in
+    search rules
+
+pub returns-in_err-describe-clause-effect : goal.returns-in_err-describe-clause-effect
+returns-in_err-describe-clause-effect g c honest =
+    let source = g.S.Source.facts c.args.source.now in
+    let make = new_component c.args.name.now c.args.kind c.args.hash in
+    let own = no_fault c.argument_fault.result c.in_default.not-Some ∙ c.argument_fault.ensures in
+    let is = c.wanted_of-wanted.ensures c.args.kind source.content c.len.ensures.length in
+    let found = searched (bytes_in c.args.region c.args.paged.now.device.content) (make source.content) c.args.spot _ own is _ (c.in_ok-place.ensures.answer honest) in
+    let first = honest_still c.find_place.ensures.after.device.calls.same_honesty honest in
+    let second = honest_still c.write_empty_entry.ensures.after.calls.same_honesty first in
+    let third = honest_still c.copy_content.ensures.after.after.calls.same_honesty second in
+    let m = c.meta_of-meta in
+    let told = err_from_is_err_and c.from_residual-in_err-describe.result c.from_residual-in_err-describe.ensures.1 in
+    rw (told.1, told.2) (shown_left c.args.region c.args.paged.now.device make c.args.spot source _ c.in_ok-place.place c.requires is c.ranges.kind.fits (omega (arith, c.len.ensures)) (digest-sized c.args.hash source.content) found _ _ (c.find_place.ensures.after.device.unchanged honest) c.write_empty_entry.ensures.after.calls.same_length _ c.copy_content.ensures.after.after.calls.same_length (c.in_ok-write_empty_entry.ensures.written first) (c.copy_content.ensures.after.torn second) m.result c.in_ok-digest.digest _ m.ensures.name m.ensures.kind m.ensures.digest m.ensures.gap m.ensures.len
+    (c.in_ok-digest.ensures.digest_len source.content) c.describe.ensures.metadata c.describe.ensures.after.after.calls.same_length c.in_ok-digest.ensures.digest (c.in_ok-digest.ensures.after.copied second) (c.describe.ensures.after.left third))
+
+pub returns-clause-after : goal.returns-clause-after
+returns-clause-after g c =
+    let len = ap (λ (w : Wanted). w.len) (c.wanted_of-wanted.ensures c.args.kind (g.S.Source.facts c.args.source.now).content c.len.ensures.length) in
+    search rules
+
+pub returns-clause-effect : goal.returns-clause-effect
+returns-clause-effect g c honest =
+    let source = g.S.Source.facts c.args.source.now in
+    let make = new_component c.args.name.now c.args.kind c.args.hash in
+    let own = no_fault c.argument_fault.result c.in_default.not-Some ∙ c.argument_fault.ensures in
+    let is = c.wanted_of-wanted.ensures c.args.kind source.content c.len.ensures.length in
+    let found = searched (bytes_in c.args.region c.args.paged.now.device.content) (make source.content) c.args.spot _ own is _ (c.in_ok-place.ensures.answer honest) in
+    let first = honest_still c.find_place.ensures.after.device.calls.same_honesty honest in
+    let second = honest_still c.write_empty_entry.ensures.after.calls.same_honesty first in
+    let third = honest_still c.copy_content.ensures.after.after.calls.same_honesty second in
+    let m = c.meta_of-meta in
+    shown_done c.args.region c.args.paged.now.device make c.args.spot source _ c.in_ok-place.place c.requires is c.ranges.kind.fits (omega (arith, c.len.ensures)) (digest-sized c.args.hash source.content) found _ _ (c.find_place.ensures.after.device.unchanged honest) c.write_empty_entry.ensures.after.calls.same_length _ c.copy_content.ensures.after.after.calls.same_length (c.in_ok-write_empty_entry.ensures.written first) (c.copy_content.ensures.after.torn second) m.result c.in_ok-digest.digest _ m.ensures.name m.ensures.kind m.ensures.digest m.ensures.gap m.ensures.len
+    (c.in_ok-digest.ensures.digest_len source.content) c.describe.ensures.metadata c.describe.ensures.after.after.calls.same_length c.in_ok-digest.ensures.digest (c.in_ok-digest.ensures.after.copied second) ((returns-clause-after g c).outside honest) (c.in_ok-describe.ensures.after.written third)
