@@ -33,6 +33,6 @@ unfolding areas_from
 none_left image at n i le = let none : n - i ≡ 0 = omega arith in ap (λ j. shows (rows_of image j (at + 42 * i))) none
 
 -- the map's row, then the areas' rows
-pub layout-is : (image : List ℕ) (map : FoundMap) → Some map ≡ found_in image → layout image ≡ text_then (map_line map.at map.head) (shows (rows_of image map.head.nareas (map.at + 56)))
+pub layout-is : (image : List ℕ) (map : FoundMap) → Some map ≡ found_in image → layout image ≡ text_then (map_line map) (shows (rows_of image map.head.nareas (map.at + 56)))
 unfolding layout
 layout-is image map is = grind (arith, common_steps)

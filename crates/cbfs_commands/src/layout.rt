@@ -16,7 +16,7 @@ use flash_map::{FoundMap, area, find_fmap};
 
 #[tactic(auto, unfolding(crate::specs::Rows::map_line))]
 fn set_map_row(row: &mut Row, map: &FoundMap)
-    ensures { row.new.items ≡ map_line map.now.at map.now.head }
+    ensures { row.new.items ≡ map_line map.now }
 {
     row.clear();
     push_text(row, b"fmap");
