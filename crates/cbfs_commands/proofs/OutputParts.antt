@@ -160,7 +160,7 @@ module _ {F W : Type 0} {sink : SinkOf W} where
     output = λ failed. absurd (no_output cc);
     no_source = λ failed. no_source cc;
     printout = λ h. elim (printout h) [
-      | inl device ↦ rw device (inr (inr (refl, (0, omega arith, Appends-nil (sink.contents out)))))
+      | inl device ↦ rw device (inr (inr (inl refl, (0, omega arith, Appends-nil (sink.contents out)))))
       | inr only ↦ rw only (inl (refl, Appends-nil (sink.contents out)))
     ];
   })

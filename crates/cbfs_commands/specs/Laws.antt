@@ -14,19 +14,20 @@ use Rattle.cbfs_edit.specs.Formats.{IsOneFreeCell}
 use Rattle.cbfs_edit.specs.declared.place.Place.{Place}
 use Rattle.cbfs_commands.specs.declared.create.plan.Plan.{Plan}
 use Rattle.cbfs_commands.specs.Creations.{FitsImage, created_image}
-use Rattle.cbfs_commands.specs.Effects.{effect, outcome, replaces, Request, Task, on_region}
+use Rattle.cbfs_commands.specs.Effects.{effect, on_region, write, Request, Task}
 use Rattle.cbfs_commands.specs.Outcomes.{extract_region, printed_in}
-use Rattle.cbfs_commands.specs.Refusals.{HasNoFault}
+use Rattle.cbfs_commands.specs.Refusals.{IsFault}
 use Rattle.cbfs_commands.specs.Rows.{area_line, map_line, shown_cell}
 use Rattle.cbfs_commands.specs.Printouts.{shows}
 
 abbrev pub OutcomesHaveNoFault : Type 0
 OutcomesHaveNoFault = (r : Request) (image source : List ℕ)
-    → HasNoFault (outcome (effect r) image source).printout.answer
+    → ¬ IsFault ((effect r).outcome image source).printout.answer
 
 abbrev pub WritingBackChangesNothing : Type 0
 WritingBackChangesNothing = (image name bytes : List ℕ) → printed_in image name shows ≡ shows bytes
-    → (replaces name).made image bytes ≡ Ok image
+    → (effect (on_region name write)).outcome image bytes
+    ≡ record { printout = shows []; image = image }
 
 -- A command has the same output, and the same result in the region.
 abbrev pub OutcomesAreOfTheRegion : Type 0
@@ -34,8 +35,8 @@ OutcomesAreOfTheRegion =
     (name : List ℕ) (task : Task) (region : Range) (image other source : List ℕ)
     → region_of image name ≡ Ok region → region_of other name ≡ Ok region
     → bytes_in region other ≡ bytes_in region image
-    → let of_image = outcome (effect (on_region name task)) image source in
-    let of_other = outcome (effect (on_region name task)) other source in
+    → let of_image = (effect (on_region name task)).outcome image source in
+    let of_other = (effect (on_region name task)).outcome other source in
     (of_other.printout ≡ of_image.printout)
     × (bytes_in region of_other.image ≡ bytes_in region of_image.image)
 
