@@ -73,12 +73,10 @@ hash_line (Valid d) = digest_line d (codes "valid")
 hash_line (Invalid d) = digest_line d (codes "invalid")
 hash_line Unsupported = codes "\thash\tunsupported\n"
 
-abbrev pub hash_text : List ℕ → List ℕ
-hash_text x = hash_line (hash_state (cell_attributes x) (cell_content x))
-
 -- all lines of a component
 abbrev pub details : List ℕ → List ℕ
-details x = flat_map attribute_line (map head_of_attribute (cell_attributes x)) ++ hash_text x
+details x = let all = cell_attributes x in
+    flat_map attribute_line (map head_of_attribute all) ++ hash_line (hash_state all (cell_content x))
 
 -- the maximum number of calls for the lines of a component
 abbrev pub details_reads : ℕ → ℕ
