@@ -38,19 +38,6 @@ fn push_name_or(row: &mut Row, name: Option<&str>, value: u32)
     }
 }
 
-/// Appends a component's name, or a placeholder.
-fn push_label(row: &mut Row, name: Option<&[u8]>)
-    requires room { array_vec_len row.old + 1020 ≤ ROW_LEN }
-    requires short { ForSome name (λ n. length n.now ≤ 255) }
-    ensures { Pushes row.old
-        (option_map_or printed_name (option_copied name.entry) (codes "(empty)")) 1020 row.new }
-{
-    match name {
-        Some(name) => push_name(row, name),
-        None => push_text(row, b"(empty)"),
-    }
-}
-
 /// Replaces the buffer's content with a cell's row.
 #[tactic(auto, unfolding(crate::specs::Rows::row_text))]
 pub fn set_row_text(row: &mut Row, at: u64, head: &Head, name: Option<&[u8]>, packing: u32)
@@ -58,7 +45,10 @@ pub fn set_row_text(row: &mut Row, at: u64, head: &Head, name: Option<&[u8]>, pa
     ensures { row.new.items ≡ row_text at head.now (option_copied name.entry) packing }
 {
     row.clear();
-    push_label(row, name);
+    match name {
+        Some(name) => push_name(row, name),
+        None => push_text(row, b"(empty)"),
+    }
     push_text(row, b"\t");
     push_hexadecimal(row, at);
     push_text(row, b"\t");
