@@ -1,12 +1,12 @@
 -- Output by parts: a written text, then the rest of a call.
 use Rattle.std.proofs.lemmas.Grind.{common_steps}
 use Rattle.std.proofs.Common.{◌≡◌, ℕ, ◌+◌, ◌<◌, ◌≤◌, ◌⊎◌, IsTrue, inl, inr, List, [], ◌++◌, length, take, Option, Ok, Err, refl, sym, ap, ◌∙◌, subst, arith, length-append, append_assoc}
-use Rattle.std.specs.Prelude.{OnErr}
 use Rattle.std.proofs.Math.Seq.{take-append-add}
 use Rattle.std.specs.Io.KnownBytes.{Appends}
 use Rattle.std.specs.Result.{IsErrAnd}
 use Rattle.std.proofs.KnownBytes.{Appends-nil, Appends-trans}
 use Rattle.flash_device.specs.declared.sink.Sink.{Ghosts as SinkOf}
+use Rattle.flash_device.specs.Output.{AppendsPart}
 use Rattle.flash_device.specs.Pages.{Pages, HasRead, OnHonest}
 use Rattle.flash_device.specs.Regions.{Range, bytes_in}
 use Rattle.flash_device.proofs.DeviceLemmas.{honest_still, LiesOn-calls}
@@ -140,13 +140,14 @@ module _ {F W : Type 0} {sink : SinkOf W} where
       → HasOutput sink m old new a b answer t
   printout-within m few printout = printout-after printout m (HasRead-none _) (omega (arith, few))
 
-  -- a row after reads
-  pub printout-row : {k : ℕ} {old new : Pages F} {a b : W} {answer : CommandResult} {text : List ℕ} → HasRead k 0 old new → sink.faults a ≤ sink.faults b → OnErr answer (sink.faults a < sink.faults b) → OnErr answer (answer ≡ Err refusals.Output)
-      → PrintsOut (sink.contents a) (sink.contents b) answer (shows text) → HasOutput sink k old new a b answer (λ image. shows text)
-  printout-row {answer = Ok done} read sink output only printout = record { read = read; faults = sink; output = λ failed. absurd cc; no_source = λ failed. absurd cc; printout = λ h. printout }
-  printout-row {answer = Err refusal} read sink output only printout =
-      let is : refusal ≡ refusals.Output = cc in
-      record { read = rw is read; faults = sink; output = λ failed. output; no_source = λ failed. absurd cc; printout = λ h. printout }
+  -- a complete text after reads, or a part of it
+  module _ {k : ℕ} {old new : Pages F} {a b : W} (read : HasRead k 0 old new) where
+    pub printout-put : {text : List ℕ} → sink.faults a ≤ sink.faults b → Appends (sink.contents a) (sink.contents b) text → HasOutput sink k old new a b (Ok tt) (λ image. shows text)
+    printout-put faults wrote = record { read = read; faults = faults; output = λ failed. absurd cc; no_source = λ failed. absurd cc; printout = λ h. inl (refl, wrote) }
+
+    pub printout-part : {answer : CommandResult} (text : List ℕ) → sink.faults a < sink.faults b → AppendsPart (sink.contents a) (sink.contents b) text → IsErrAnd answer (λ r. r ≡ refusals.Output) → (rest : List ℕ → Printout)
+        → HasOutput sink k old new a b answer (λ image. text_then text (rest image))
+    printout-part text failed part is rest = printout-stopped rest (record { read = read; faults = omega arith; output = λ output. failed; no_source = λ source. absurd cc; printout = λ h. inr (inl (refl, part)) }) is
 
   pub printout-none : (p : Pages F) (out : W) → HasOutput sink 0 p p out out (Ok tt) (λ image. shows [])
   printout-none p out = grind (arith, common_steps)
@@ -160,7 +161,7 @@ module _ {F W : Type 0} {sink : SinkOf W} where
     output = λ failed. absurd (no_output cc);
     no_source = λ failed. no_source cc;
     printout = λ h. elim (printout h) [
-      | inl device ↦ rw device (inr (inr (refl, (0, omega arith, Appends-nil (sink.contents out)))))
+      | inl device ↦ rw device (inr (inr (inl refl, (0, omega arith, Appends-nil (sink.contents out)))))
       | inr only ↦ rw only (inl (refl, Appends-nil (sink.contents out)))
     ];
   })

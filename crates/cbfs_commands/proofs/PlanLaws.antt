@@ -20,7 +20,6 @@ use Rattle.cbfs_commands.specs.declared.create.plan.Plan.{Plan}
 use Rattle.cbfs_commands.specs.declared.refusal.Refusal.{Refusal}
 use Rattle.cbfs_commands.specs.declared.refusal.Refusal.TheVariants as refusals
 use Rattle.cbfs_commands.specs.Creations.{FitsImage, IsPlace, head_for, map_place, share_bytes, plan_for, plan_of, region_place, region_places, some_overlap}
-use Rattle.cbfs_commands.specs.Laws.{PlansAreLaid}
 use Rattle.cbfs_commands.specs.Refusals.{fault_or}
 use Rattle.cbfs_commands.proofs.RegionPlaces.{inside_lies}
 
@@ -55,7 +54,7 @@ lie_apart a b none = grind (arith, nat_tests)
 apart_from : (place : Range) (others : List Range) → list_any (share_bytes place) others ≡ false → All (LieApart place) others
 apart_from place others none = grind (arith, common_steps)
 
-all_apart : (places : List Range) → some_overlap places ≡ false → AllPairs LieApart places
+pub all_apart : (places : List Range) → some_overlap places ≡ false → AllPairs LieApart places
 all_apart [] none = λ i j d order below. absurd (omega arith)
 all_apart (place ∷ places) none =
     let parts = or_parts (list_any (share_bytes place) places) (some_overlap places) none in
@@ -108,8 +107,3 @@ planned n names source plan is =
         by_size : (b : Bool) → (let r : Result FmapHead Refusal = cond b (Ok own) (Err refusals.TableBad) in r) ≡ Ok head → map_len head ≤ length source
         by_size true q = let same : own ≡ head = cc in subst (λ (h : FmapHead). map_len h ≤ length source) same (table_fits source own e)
         by_size false q = absurd cc
-
-pub plans_laid : PlansAreLaid
-plans_laid n names source plan is =
-    let k = planned n names source plan is in
-    (k.fits, all_apart (plan.map ∷ plan.regions.items) k.none)

@@ -1,11 +1,11 @@
 -- Printed rows determine their cells.
 use Rattle.std.proofs.lemmas.Grind.{common_steps}
-use Rattle.std.proofs.Common.{◌≡◌, ◌≢◌, ℕ, ◌+◌, ◌^◌, ◌<◌, length, Bool, true, false, if◌then◌else◌, List, [], ◌∷◌, ◌++◌, Option, Some, None, unwrap_or, refl, sym, ap, ◌∙◌, arith}
+use Rattle.std.proofs.Common.{◌≡◌, ◌≢◌, ℕ, ◌^◌, ◌<◌, length, Bool, true, false, if◌then◌else◌, List, [], ◌∷◌, ◌++◌, Option, Some, None, unwrap_or, refl, sym, ap, ◌∙◌, arith}
 use Rattle.std.specs.List.{flat_map}
 use Rattle.std.specs.Prelude.{⊤, All, map, ◌==◌, ◌||◌}
 use Rattle.std.proofs.lemmas.List.Elements.{All-head, All-tail}
 use Rattle.std.specs.Fmt.{decimal}
-use Rattle.std.proofs.lemmas.List.{append-nil, append_assoc}
+use Rattle.std.proofs.lemmas.List.{append_assoc}
 use lib.Chars.{codes}
 use Rattle.flash_format.specs.Head.{head_of, is_free}
 use Rattle.flash_format.specs.Components.{cell_attributes, cell_name, packing}
@@ -13,11 +13,11 @@ use Rattle.flash_format.specs.Flashmap.{text_of}
 use Rattle.flash_format.specs.Texts.{hexadecimal, is_field, printed_compression, printed_name, printed_type}
 use Rattle.flash_format.specs.TypeNames.{compression_table, name_of_compression, name_of_type, number_for, type_of_text}
 use Rattle.flash_format.specs.declared.flashmap.Area.{Area}
-use Rattle.flash_format.specs.declared.flashmap.FmapHead.{FmapHead}
+use Rattle.flash_map.specs.declared.search.FoundMap.{FoundMap}
 use Rattle.flash_format.proofs.PrintedLaws.{decimal_field, hexadecimal_field, name_field, same_decimals, same_hexadecimals, same_names, split}
 use Rattle.flash_format.proofs.TypeLaws.{compression_back, compression_is_word, is_word, read_back, type_is_word, word_is_field}
-use Rattle.cbfs_commands.specs.Laws.{HasAreaNumbers, HasMapNumbers, HasNumbers, HaveNumbers, area_values, row_values, listing_values, map_values}
-use Rattle.cbfs_commands.specs.Rows.{area_line, map_line, cell_row, row_text, rows_from}
+use Rattle.cbfs_commands.specs.Laws.{AreReadBack, HasNumbers, LinesAreReadBack}
+use Rattle.cbfs_commands.specs.Rows.{area_line, map_line, row_text}
 
 -- ---- names or numbers
 
@@ -73,6 +73,22 @@ begun : (a s : List ℕ) → [] ≢ a ++ 9 ∷ s
 begun [] s e = absurd cc
 begun (b ∷ a) s e = absurd cc
 
+-- lines that aren't empty, one by one
+module _ {A N : Type 0} (each_line : A → List ℕ) (values : A → N × List ℕ) (some : (a : A) (more : List ℕ) → [] ≢ each_line a ++ more)
+    (one : (a b : A) (more rest : List ℕ) → HasNumbers each_line values a → HasNumbers each_line values b → each_line a ++ more ≡ each_line b ++ rest → (values a ≡ values b) × (more ≡ rest)) where
+  many : (each others : List A) → All (HasNumbers each_line values) each → All (HasNumbers each_line values) others → flat_map each_line each ≡ flat_map each_line others → map values each ≡ map values others
+  many [] [] fits fits2 e = refl
+  many [] (b ∷ others) fits fits2 e = absurd (some b (flat_map each_line others) e)
+  many (a ∷ each) [] fits fits2 e = absurd (some a (flat_map each_line each) (sym e))
+  many (a ∷ each) (b ∷ others) fits fits2 e =
+      let Fits : A → Type 0 = HasNumbers each_line values in
+      let first = one a b (flat_map each_line each) (flat_map each_line others) (All-head Fits a each fits) (All-head Fits b others fits2) e in
+      let later = many each others (All-tail Fits a each fits) (All-tail Fits b others fits2) first.1 in
+      cc
+
+  are_read_back : AreReadBack each_line values
+  are_read_back = record { one = one; all = many }
+
 -- ---- rows of cells
 
 abbrev label : Bool → List ℕ → List ℕ
@@ -84,53 +100,46 @@ packing_if free x = if free then 0 else packing (cell_attributes x)
 abbrev row_if : Bool → ℕ → List ℕ → List ℕ
 row_if free at x = if free then row_text at (head_of x) None 0 else row_text at (head_of x) (Some (cell_name x)) (packing (cell_attributes x))
 
+abbrev values_if : Bool → ℕ → List ℕ → Option (List ℕ) × List ℕ
+values_if free at x = let h = head_of x in
+    if free then (None, at ∷ h.kind ∷ h.len ∷ []) else (Some (cell_name x), at ∷ h.kind ∷ h.len ∷ packing (cell_attributes x) ∷ [])
+
+abbrev Small : Bool → ℕ → List ℕ → Type 0
+Small free at x = All (λ n. n < 2 ^ 64) (values_if free at x).1
+
 abbrev cell_fields : Bool → ℕ → List ℕ → List (List ℕ)
 cell_fields free at x = label free x ∷ hexadecimal at ∷ printed_type (head_of x).kind ∷ decimal (head_of x).len ∷ printed_compression (packing_if free x) ∷ []
 
-row_shape : (free : Bool) (at : ℕ) (x more : List ℕ) → row_if free at x ++ more ≡ line (cell_fields free at x) more
+row_shape : (free : Bool) (at : ℕ) (x more : List ℕ) → (row_if free at x ++ []) ++ more ≡ line (cell_fields free at x) more
 unfolding row_text
 row_shape true at x more = simp append_assoc
 row_shape false at x more = simp append_assoc
 
-are_fields : (free : Bool) (at : ℕ) (x : List ℕ) → at < 2 ^ 64 → HasNumbers x → Fields (cell_fields free at x)
-are_fields free at x small f = grind (arith, common_steps, compression_is_word, decimal_field, hexadecimal_field, name_field, text_field, type_is_word)
+-- the numbers that every cell has, and a component's compression
+numbers : (free : Bool) (at : ℕ) (x : List ℕ) → Small free at x → (at < 2 ^ 64) × ((head_of x).kind < 2 ^ 64) × ((head_of x).len < 2 ^ 64) × (packing_if free x < 2 ^ 64)
+numbers true at x f = (f 0 0 (omega arith), f 1 0 (omega arith), f 2 0 (omega arith), omega arith)
+numbers false at x f = (f 0 0 (omega arith), f 1 0 (omega arith), f 2 0 (omega arith), f 3 0 (omega arith))
 
-same_details : (x y : List ℕ) (p q : Bool) → p ≡ q → HasNumbers x → HasNumbers y → label p x ≡ label q y → printed_compression (packing_if p x) ≡ printed_compression (packing_if q y)
-    → (let o : Option (List ℕ × ℕ) = if p then None else Some (cell_name x, packing (cell_attributes x)) in o) ≡ (if q then None else Some (cell_name y, packing (cell_attributes y)))
-same_details x y true true same fx fy names packings = refl
-same_details x y false false same fx fy names packings =
-    let name = same_names _ _ names in
-    let compression = same_texts name_of_compression compression_is_word (number_for compression_table) compression_back _ _ fx.compression fy.compression packings in
-    cc
-same_details x y _ _ same fx fy names packings = absurd cc
+are_fields : (free : Bool) (at : ℕ) (x : List ℕ) → Small free at x → Fields (cell_fields free at x)
+are_fields free at x f = let n = numbers free at x f in grind (arith, common_steps, compression_is_word, decimal_field, hexadecimal_field, name_field, text_field, type_is_word)
 
-pub rows_read_back : (at other : ℕ) (x y more rest : List ℕ) → at < 2 ^ 64 → other < 2 ^ 64 → HasNumbers x → HasNumbers y
-    → cell_row at x ++ more ≡ cell_row other y ++ rest → (row_values at x ≡ row_values other y) × (more ≡ rest)
-rows_read_back at other x y more rest sat sother fx fy e =
-    let p = is_free (head_of x) in
-    let q = is_free (head_of y) in
-    let s = split_line (cell_fields p at x) (cell_fields q other y) more rest (are_fields p at x sat fx) (are_fields q other y sother fy) refl (sym (row_shape p at x more) ∙ e ∙ row_shape q other y rest) in
-    let kind = same_texts name_of_type type_is_word type_of_text read_back _ _ fx.kind fy.kind (cc) in
-    let place = same_hexadecimals at other sat sother (cc) in
-    let len = same_decimals _ _ fx.len fy.len (cc) in
-    let names : label p x ≡ label q y = cc in
-    let packings : printed_compression (packing_if p x) ≡ printed_compression (packing_if q y) = cc in
-    let details = same_details x y p q (ap (λ k. k == 0 || k == 0xffffffff) kind) fx fy names packings in
-    (cc, s.1)
-
-some_row : (at : ℕ) (x more : List ℕ) → [] ≢ cell_row at x ++ more
-some_row at x more e = begun _ _ (e ∙ row_shape (is_free (head_of x)) at x more)
-
-pub listings_read_back : (at other : ℕ) (cells others : List (List ℕ)) → HaveNumbers at cells → HaveNumbers other others
-    → rows_from false at cells ≡ rows_from false other others → listing_values at cells ≡ listing_values other others
-unfolding rows_from
-listings_read_back at other [] [] fits fits2 e = refl
-listings_read_back at other [] (y ∷ others) fits fits2 e = absurd (some_row other y _ (simp append-nil at e))
-listings_read_back at other (x ∷ cells) [] fits fits2 e = absurd (some_row at x _ (sym (simp append-nil at e)))
-listings_read_back at other (x ∷ cells) (y ∷ others) fits fits2 e =
-    let one = rows_read_back at other x y (rows_from false (at + length x) cells) (rows_from false (other + length y) others) fits.0 fits2.0 fits.1 fits2.1 (simp append-nil at e) in
-    let others_too = listings_read_back (at + length x) (other + length y) cells others fits.2 fits2.2 one.1 in
-    cc
+rows_read_back : (free other_free : Bool) (at other : ℕ) (x y more rest : List ℕ) → free ≡ is_free (head_of x) → other_free ≡ is_free (head_of y) → Small free at x → Small other_free other y
+    → (row_if free at x ++ []) ++ more ≡ (row_if other_free other y ++ []) ++ rest → (values_if free at x ≡ values_if other_free other y) × (more ≡ rest)
+rows_read_back p q at other x y more rest is_p is_q fx fy e =
+    let m = numbers p at x fx in
+    let n = numbers q other y fy in
+    let s = split_line (cell_fields p at x) (cell_fields q other y) more rest (are_fields p at x fx) (are_fields q other y fy) refl (sym (row_shape p at x more) ∙ e ∙ row_shape q other y rest) in
+    let kind = same_texts name_of_type type_is_word type_of_text read_back _ _ m.1 n.1 (cc) in
+    let place = same_hexadecimals at other m.0 n.0 (cc) in
+    let len = same_decimals _ _ m.2 n.2 (cc) in
+    let compression = same_texts name_of_compression compression_is_word (number_for compression_table) compression_back _ _ m.3 n.3 (cc) in
+    let free : p ≡ q = is_p ∙ ap (λ k. k == 0 || k == 0xffffffff) kind ∙ sym is_q in
+    (values_as p q free place kind len compression (cc), s.1)
+  where
+    values_as : (p q : Bool) → p ≡ q → at ≡ other → (head_of x).kind ≡ (head_of y).kind → (head_of x).len ≡ (head_of y).len → packing_if p x ≡ packing_if q y → label p x ≡ label q y → values_if p at x ≡ values_if q other y
+    values_as true true same place kind len compression names = cc
+    values_as false false same place kind len compression names = let name = same_names _ _ names in cc
+    values_as _ _ same place kind len compression names = absurd cc
 
 -- ---- lines of the layout
 
@@ -141,45 +150,42 @@ area_shape : (a : Area) (more : List ℕ) → area_line a ++ more ≡ line (area
 unfolding area_line
 area_shape a more = simp append_assoc
 
-are_area_fields : (a : Area) → HasAreaNumbers a → Fields (area_fields a)
-are_area_fields a f = (name_field _, (hexadecimal_field _ f.0, (decimal_field _ f.1, (hexadecimal_field _ f.2, tt))))
-
-pub areas_read_back : (a b : Area) (more rest : List ℕ) → HasAreaNumbers a → HasAreaNumbers b → area_line a ++ more ≡ area_line b ++ rest → (area_values a ≡ area_values b) × (more ≡ rest)
+areas_read_back : (a b : Area) (more rest : List ℕ) → (let small = λ (area : Area). All (λ n. n < 2 ^ 64) (area.offset ∷ area.size ∷ area.flags ∷ []) in small a → small b → area_line a ++ more ≡ area_line b ++ rest
+    → ((let v : List ℕ × List ℕ = (text_of a.name, a.offset ∷ a.size ∷ a.flags ∷ []) in v) ≡ (text_of b.name, b.offset ∷ b.size ∷ b.flags ∷ [])) × (more ≡ rest))
 areas_read_back a b more rest fa fb e =
-    let s = split_line (area_fields a) (area_fields b) more rest (are_area_fields a fa) (are_area_fields b fb) refl (sym (area_shape a more) ∙ e ∙ area_shape b rest) in
+    let s = split_line (area_fields a) (area_fields b) more rest (are_fields_of a fa) (are_fields_of b fb) refl (sym (area_shape a more) ∙ e ∙ area_shape b rest) in
     let name = same_names (text_of a.name) (text_of b.name) (cc) in
-    let offset = same_hexadecimals _ _ fa.0 fb.0 (cc) in
-    let size = same_decimals _ _ fa.1 fb.1 (cc) in
-    let flags = same_hexadecimals _ _ fa.2 fb.2 (cc) in
+    let offset = same_hexadecimals _ _ (fa 0 0 (omega arith)) (fb 0 0 (omega arith)) (cc) in
+    let size = same_decimals _ _ (fa 1 0 (omega arith)) (fb 1 0 (omega arith)) (cc) in
+    let flags = same_hexadecimals _ _ (fa 2 0 (omega arith)) (fb 2 0 (omega arith)) (cc) in
     (cc, s.1)
+  where
+    are_fields_of : (a : Area) → All (λ n. n < 2 ^ 64) (a.offset ∷ a.size ∷ a.flags ∷ []) → Fields (area_fields a)
+    are_fields_of a f = (name_field _, (hexadecimal_field _ (f 0 0 (omega arith)), (decimal_field _ (f 1 0 (omega arith)), (hexadecimal_field _ (f 2 0 (omega arith)), tt))))
 
-some_line : (a : Area) (more : List ℕ) → [] ≢ area_line a ++ more
-some_line a more e = begun _ _ (e ∙ area_shape a more)
+abbrev map_fields : FoundMap → List (List ℕ)
+map_fields m = codes "fmap" ∷ hexadecimal m.at ∷ printed_name (text_of m.head.name) ∷ decimal m.head.size ∷ decimal m.head.nareas ∷ []
 
-pub all_areas_read_back : (areas others : List Area) → All HasAreaNumbers areas → All HasAreaNumbers others → flat_map area_line areas ≡ flat_map area_line others → map area_values areas ≡ map area_values others
-all_areas_read_back [] [] fits fits2 e = refl
-all_areas_read_back [] (b ∷ others) fits fits2 e = absurd (some_line b (flat_map area_line others) e)
-all_areas_read_back (a ∷ areas) [] fits fits2 e = absurd (some_line a (flat_map area_line areas) (sym e))
-all_areas_read_back (a ∷ areas) (b ∷ others) fits fits2 e =
-    let one = areas_read_back a b (flat_map area_line areas) (flat_map area_line others) (All-head HasAreaNumbers a areas fits) (All-head HasAreaNumbers b others fits2) e in
-    let others_too = all_areas_read_back areas others (All-tail HasAreaNumbers a areas fits) (All-tail HasAreaNumbers b others fits2) one.1 in
-    cc
-
-abbrev map_fields : ℕ → FmapHead → List (List ℕ)
-map_fields q h = codes "fmap" ∷ hexadecimal q ∷ printed_name (text_of h.name) ∷ decimal h.size ∷ decimal h.nareas ∷ []
-
-map_shape : (q : ℕ) (h : FmapHead) (more : List ℕ) → map_line q h ++ more ≡ line (map_fields q h) more
+map_shape : (m : FoundMap) (more : List ℕ) → map_line m ++ more ≡ line (map_fields m) more
 unfolding map_line
-map_shape q h more = simp append_assoc
+map_shape m more = simp append_assoc
 
-are_map_fields : (q : ℕ) (h : FmapHead) → HasMapNumbers q h → Fields (map_fields q h)
-are_map_fields q h f = (refl, (hexadecimal_field q f.0, (name_field _, (decimal_field _ f.1, (decimal_field _ f.2, tt)))))
-
-pub maps_read_back : (q p : ℕ) (h k : FmapHead) (more rest : List ℕ) → HasMapNumbers q h → HasMapNumbers p k → map_line q h ++ more ≡ map_line p k ++ rest → (map_values q h ≡ map_values p k) × (more ≡ rest)
-maps_read_back q p h k more rest fh fk e =
-    let s = split_line (map_fields q h) (map_fields p k) more rest (are_map_fields q h fh) (are_map_fields p k fk) refl (sym (map_shape q h more) ∙ e ∙ map_shape p k rest) in
-    let place = same_hexadecimals q p fh.0 fk.0 (cc) in
-    let name = same_names (text_of h.name) (text_of k.name) (cc) in
-    let size = same_decimals _ _ fh.1 fk.1 (cc) in
-    let nareas = same_decimals _ _ fh.2 fk.2 (cc) in
+maps_read_back : (a b : FoundMap) (more rest : List ℕ) → (let small = λ (m : FoundMap). All (λ n. n < 2 ^ 64) (m.at ∷ m.head.size ∷ m.head.nareas ∷ []) in small a → small b → map_line a ++ more ≡ map_line b ++ rest
+    → ((let v : List ℕ × List ℕ = (text_of a.head.name, a.at ∷ a.head.size ∷ a.head.nareas ∷ []) in v) ≡ (text_of b.head.name, b.at ∷ b.head.size ∷ b.head.nareas ∷ [])) × (more ≡ rest))
+maps_read_back a b more rest fa fb e =
+    let s = split_line (map_fields a) (map_fields b) more rest (are_fields_of a fa) (are_fields_of b fb) refl (sym (map_shape a more) ∙ e ∙ map_shape b rest) in
+    let place = same_hexadecimals a.at b.at (fa 0 0 (omega arith)) (fb 0 0 (omega arith)) (cc) in
+    let name = same_names (text_of a.head.name) (text_of b.head.name) (cc) in
+    let size = same_decimals _ _ (fa 1 0 (omega arith)) (fb 1 0 (omega arith)) (cc) in
+    let nareas = same_decimals _ _ (fa 2 0 (omega arith)) (fb 2 0 (omega arith)) (cc) in
     (cc, s.1)
+  where
+    are_fields_of : (m : FoundMap) → All (λ n. n < 2 ^ 64) (m.at ∷ m.head.size ∷ m.head.nareas ∷ []) → Fields (map_fields m)
+    are_fields_of m f = (refl, (hexadecimal_field m.at (f 0 0 (omega arith)), (name_field _, (decimal_field _ (f 1 0 (omega arith)), (decimal_field _ (f 2 0 (omega arith)), tt)))))
+
+pub lines_read_back : LinesAreReadBack
+lines_read_back = record {
+  cells = are_read_back _ _ (λ c more e. begun _ _ (e ∙ row_shape (is_free (head_of c.1)) c.0 c.1 more)) (λ a b more rest. rows_read_back (is_free (head_of a.1)) (is_free (head_of b.1)) a.0 b.0 a.1 b.1 more rest refl refl);
+  areas = are_read_back _ _ (λ a more e. begun _ _ (e ∙ area_shape a more)) areas_read_back;
+  maps = are_read_back _ _ (λ m more e. let none = e ∙ map_shape m more in cc) maps_read_back;
+}

@@ -1,13 +1,12 @@
 -- The outcome of a command on a region depends only on the region's bytes.
 use Rattle.std.proofs.Common.{arith}
 use Rattle.std.proofs.lemmas.Grind.{common_steps}
-use Rattle.std.proofs.Common.{◌≡◌, ℕ, false, List, [], Result, Ok, Err, refl}
-use Rattle.std.specs.Result.{result_unwrap_or}
+use Rattle.std.proofs.Common.{◌≡◌, ℕ, false, List, Result, Ok, Err, refl}
 use Rattle.flash_device.specs.Device.{overwritten}
 use Rattle.flash_device.specs.Regions.{Range, bytes_in}
 use Rattle.flash_map.specs.Regions.{region_of}
 use Rattle.cbfs_commands.specs.declared.refusal.Refusal.{Refusal}
-use Rattle.cbfs_commands.specs.Effects.{changes, effect, edits, outcome, Task, on_region}
+use Rattle.cbfs_commands.specs.Effects.{changes, effect, edits, Task, on_region}
 use Rattle.cbfs_commands.specs.Refusals.{fault_or}
 use Rattle.cbfs_commands.specs.Outcomes.{Outcome, StopsIn}
 use Rattle.cbfs_commands.specs.Laws.{OutcomesAreOfTheRegion}
@@ -19,19 +18,17 @@ module _ (name : List ℕ) (region : Range) (image other : List ℕ) (here : reg
   abbrev Alike : Outcome → Outcome → Type 0
   Alike a b = (b.printout ≡ a.printout) × (bytes_in region b.image ≡ bytes_in region a.image)
 
-  made : (source : List ℕ) (make : Range → List ℕ → List ℕ → Result (List ℕ) Refusal) → let d = changes (edits name false make StopsIn) in Alike (outcome d image source) (outcome d other source)
+  made : (source : List ℕ) (make : Range → List ℕ → List ℕ → Result (List ℕ) Refusal) → let d = edits name false make StopsIn in Alike (d.outcome image source) (d.outcome other source)
   made source make = rw (here, there, same) (go (make region (bytes_in region image) source))
     where
       over : List ℕ → Result (List ℕ) Refusal → Outcome
-      over whole r =
-          let made : Result (List ℕ) Refusal = fault_or Err r (λ bytes. Ok (overwritten whole region.start bytes)) in
-          record { printout = record { written = []; answer = fault_or Err made (λ now. Ok tt) }; image = result_unwrap_or made whole }
+      over whole r = changes whole (fault_or Err r (λ bytes. Ok (overwritten whole region.start bytes)))
 
       go : (r : Result (List ℕ) Refusal) → Alike (over image r) (over other r)
       go (Err refusal) = (refl, same)
       go (Ok bytes) = (refl, alike_over region image other bytes (region_lies image name region here) (region_lies other name region there) same)
 
-  each : (task : Task) (source : List ℕ) → let d = effect (on_region name task) in Alike (outcome d image source) (outcome d other source)
+  each : (task : Task) (source : List ℕ) → let d = effect (on_region name task) in Alike (d.outcome image source) (d.outcome other source)
   each task source = grind (arith, common_steps, made)
 
 pub outcomes_of_region : OutcomesAreOfTheRegion

@@ -1,14 +1,15 @@
 -- The effect of `create`. This project defines the conditions and the order of the checks.
 use Rattle.std.specs.Prelude.{◌≡◌, ℕ, ◌+◌, ◌≤◌, Bool, false, ◌&&◌, ◌||◌, All, List, [], ◌∷◌, take}
 use Rattle.std.specs.Prelude.{map, drop, fold, replicate, nat_lt, Option, Result, Ok, Err, ◌==◌}
-use Rattle.std.specs.Prelude.{if◌then◌else◌}
+use Rattle.std.specs.Prelude.{IsErrOf, ◌⊎◌, if◌then◌else◌}
 use Rattle.std.specs.List.{find, list_any}
 use Rattle.std.specs.Option.{ok_or}
 use lib.Chars.{codes}
 use Rattle.flash_format.specs.declared.flashmap.FmapHead.{FmapHead}
 use Rattle.flash_format.specs.declared.flashmap.Area.{Area}
 use Rattle.flash_format.specs.Flashmap.{fmap_head_len, map_len, areas_from, is_area}
-use Rattle.flash_device.specs.Device.{overwritten}
+use Rattle.flash_device.specs.Device.{Device, Reads, fault_count, overwritten}
+use Rattle.flash_device.specs.Pages.{OnHonest}
 use Rattle.flash_map.specs.Fmap.{map_head}
 use Rattle.flash_device.specs.Laws.{with_edit}
 use Rattle.flash_device.specs.Regions.{Range}
@@ -18,7 +19,15 @@ use Rattle.cbfs_edit.specs.Formats.{formatted}
 use Rattle.cbfs_commands.specs.declared.create.plan.Plan.{Plan}
 use Rattle.cbfs_commands.specs.declared.refusal.Refusal.{Refusal}
 use Rattle.cbfs_commands.specs.declared.refusal.Refusal.TheVariants as refusals
-use Rattle.cbfs_commands.specs.Refusals.{fault_or, store_refusal}
+use Rattle.cbfs_commands.specs.Refusals.{by_source, fault_or, store_refusal}
+
+-- An answer by the source's content, unless a read fails, after at most n reads.
+pub record AnswersBySource {S T : Type 0} (facts : S → Device) (n : ℕ) (source source_now : S)
+    (result : Result T Refusal) (tell : List ℕ → Result T Refusal) : Type 0 where
+  pub calls : Reads n (fault_count by_source result) (facts source) (facts source_now)
+  pub no_other : IsErrOf result refusals.Device ⊎ IsErrOf result refusals.Output → ⊥
+  pub answer : OnHonest (facts source)
+      (λ content. IsErrOf result refusals.Source ⊎ (result ≡ tell content))
 
 -- ---- the flashmap
 

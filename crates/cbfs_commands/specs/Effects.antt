@@ -1,15 +1,15 @@
 -- The meaning of commands: outcome, allowed changes, used devices, and effect of an interruption.
-use Rattle.std.specs.Prelude.{ℕ, Bool, List, map, ◌≡◌, ◌+◌, ◌/◌, ◌⊎◌, true, false, []}
-use Rattle.std.specs.Prelude.{length, Option, Some, None, is_some, MatchOption, Result, Ok, Err}
+use Rattle.std.specs.Prelude.{ℕ, Bool, List, map, ◌≡◌, ◌+◌, ◌/◌, ◌<◌, ◌⊎◌, true, false, [], length}
+use Rattle.std.specs.Prelude.{Option, Some, None, MatchOption, Result, Ok, Err}
 use Rattle.std.specs.Prelude.{IsErrOf, IsTrue, ◌==◌, if◌then◌else◌}
 use Rattle.cbfs_edit.specs.declared.addition.HashChoice.{HashChoice}
 use Rattle.cbfs_edit.specs.declared.place.Spot.{Spot}
 use Rattle.cbfs_commands.specs.declared.command.Command.{Command}
 use Rattle.cbfs_commands.specs.declared.command.Command.TheVariants as commands
-use Rattle.std.specs.Option.{option_map_or}
-use Rattle.std.specs.Result.{ForOk, result_ok, result_unwrap_or}
+use Rattle.std.specs.Result.{ForOk, result_map_both, result_ok, result_unwrap_or}
 use Rattle.flash_format.specs.Flashmap.{area_len}
-use Rattle.flash_device.specs.Device.{SameOutside, overwritten, Device, Calls, fault_count}
+use Rattle.flash_device.specs.Device.{SameOutside, overwritten, Device, Calls, call_limit}
+use Rattle.flash_device.specs.Device.{fault_count}
 use Rattle.flash_device.specs.Pages.{Pages, OnHonest}
 use Rattle.flash_device.specs.Regions.{Range, bytes_in}
 use Rattle.flash_map.specs.Regions.{region_of}
@@ -20,11 +20,11 @@ use Rattle.cbfs_commands.specs.declared.refusal.Refusal.{Refusal}
 use Rattle.cbfs_commands.specs.declared.refusal.Refusal.TheVariants as refusals
 use Rattle.cbfs_commands.specs.Creations.{created_image, plan_for}
 use Rattle.cbfs_commands.specs.Rows as rows
-use Rattle.cbfs_commands.specs.Refusals.{by_device, by_source, edit_refusal, fault_or}
-use Rattle.cbfs_commands.specs.Refusals.{store_refusal}
-use Rattle.cbfs_commands.specs.Outcomes.{Outcome, StopsIn, AddStopsIn, LeavesOr, print_region}
+use Rattle.cbfs_commands.specs.Refusals.{IsFault, by_device, by_source, edit_refusal}
+use Rattle.cbfs_commands.specs.Refusals.{fault_or, store_refusal}
+use Rattle.cbfs_commands.specs.Outcomes.{Outcome, StopsIn, AddStopsIn, print_region}
 use Rattle.cbfs_commands.specs.Outcomes.{extract_region, printed_in}
-use Rattle.cbfs_commands.specs.Printouts.{CommandResult, Printout, PrintsOut, shows}
+use Rattle.cbfs_commands.specs.Printouts.{CommandResult, Printout, shows}
 
 -- a request on a region
 pub data Task : Type 0 where
@@ -52,156 +52,112 @@ request_of (commands.Read region) = on_region region.now read
 request_of (commands.Write region) = on_region region.now write
 request_of (commands.Create regions) = create (map (λ name. name.now) regions.items)
 
--- A change of the image: its result for the image and the source, the region with allowed changes,
--- the number of source calls by the source's length, if any, and the effect of an interruption by
--- image, source, answer and resulting image.
-pub record Change : Type 1 where
-  pub made : List ℕ → List ℕ → Result (List ℕ) Refusal
+-- The effect of a command: its outcome by image and source, the region with allowed changes, the
+-- maximum number of source calls (0 if it reads no source), whether it writes output, and the
+-- effect of an interruption by image, source, answer and resulting image.
+pub record Effect : Type 1 where
+  pub outcome : List ℕ → List ℕ → Outcome
   pub target : List ℕ → Option Range
-  pub source_calls : Option (ℕ → ℕ)
+  pub source_calls : Device → ℕ
+  pub prints : Bool
   pub Stopped : List ℕ → List ℕ → CommandResult → List ℕ → Type 0
 
--- a report on the image, or a change without output
-pub data Effect : Type 1 where
-  prints : (List ℕ → Printout) → Effect
-  changes : Change → Effect
-
--- ---- the meaning
-
-abbrev pub outcome : Effect → List ℕ → List ℕ → Outcome
-outcome (prints printout) image source = record { printout = printout image; image = image }
-outcome (changes c) image source =
-    let made = c.made image source in
-    record {
-      printout = record { written = []; answer = fault_or Err made (λ now. Ok tt) };
-      image = result_unwrap_or made image;
-    }
-
--- a report changes nothing and reads no source
-abbrev pub change_of : Effect → Change
-change_of (prints printout) = record {
-  made = λ image source. Ok image;
+-- a report on the image changes nothing
+abbrev pub reports : (List ℕ → Printout) → Effect
+reports tell = record {
+  outcome = λ image source. record { printout = tell image; image = image };
   target = λ image. None;
-  source_calls = None;
+  source_calls = λ source. 0;
+  prints = true;
   Stopped = λ image source answer now. now ≡ image;
 }
-change_of (changes c) = c
 
-abbrev pub writes_output : Effect → Bool
-writes_output (prints printout) = true
-writes_output (changes c) = false
+-- the new image, or an error without a change
+abbrev pub changes : List ℕ → Result (List ℕ) Refusal → Outcome
+changes image made = record {
+  printout = record { written = []; answer = fault_or Err made (λ now. Ok tt) };
+  image = result_unwrap_or made image;
+}
 
-abbrev pub reads_source : Effect → Bool
-reads_source d = is_some (change_of d).source_calls
-
-abbrev pub source_calls : Effect → ℕ → ℕ
-source_calls d n = option_map_or (λ calls. calls n) (change_of d).source_calls 0
-
--- ---- the commands
-
--- The change of a named region: whether the command reads the source (once), the result and new
--- bytes by region, bytes and source, and the effect of an interruption.
+-- The change of a named region: whether the command reads the source (once), the new bytes by
+-- region, bytes and source, and the effect of an interruption.
 abbrev pub edits : List ℕ → Bool → (Range → List ℕ → List ℕ → Result (List ℕ) Refusal)
-    → (Range → List ℕ → List ℕ → CommandResult → List ℕ → Type 0) → Change
+    → (Range → List ℕ → List ℕ → CommandResult → List ℕ → Type 0) → Effect
 edits name reads make Stops = record {
-  made = λ image source. fault_or (λ fault. Err (store_refusal fault)) (region_of image name)
-      (λ region. fault_or Err (make region (bytes_in region image) source)
-      (λ bytes. Ok (overwritten image region.start bytes)));
+  outcome = λ image source. changes image (fault_or (λ fault. Err (store_refusal fault))
+      (region_of image name) (λ region. fault_or Err (make region (bytes_in region image) source)
+      (λ bytes. Ok (overwritten image region.start bytes))));
   target = λ image. result_ok (region_of image name);
-  source_calls = if reads then Some (λ n. n / 4096 + 1) else None;
+  source_calls = λ source. if reads then length source.content / 4096 + 1 else 0;
+  prints = false;
   Stopped = λ image source answer now.
       ForOk (region_of image name) (λ region. Stops region image source answer now);
 }
 
+abbrev pub effect : Request → Effect
+effect layout = reports rows.layout
+effect (on_region region (print verbose)) =
+    reports (λ image. printed_in image region (λ x. print_region x verbose))
+effect (on_region region (extract name)) =
+    reports (λ image. printed_in image region (λ x. extract_region x name))
+effect (on_region region read) = reports (λ image. printed_in image region shows)
 -- a source of the region's size
-abbrev pub replaces : List ℕ → Change
-replaces name =
-    edits name true
+effect (on_region name write) = edits name true
     (λ region x source. if length source == region.size then Ok source else Err refusals.SourceSize)
     StopsIn
-
--- the least allowed place in the first free space with room
-abbrev pub adds : List ℕ → List ℕ → ℕ → HashChoice → Spot → Change
-adds region name kind hash spot =
+-- at the least allowed place in the first free space with room
+effect (on_region region (add name kind hash spot)) =
+    let new = new_component name kind hash in
     edits region true
-    (λ found x source. let new = new_component name kind hash source in
-    fault_or (λ fault. Err (edit_refusal fault)) (addition_in x new spot)
-    (λ place. Ok (added x new place)))
-    (λ found image source answer now.
-    AddStopsIn found image (new_component name kind hash source) spot answer now)
-
+    (λ found x source. result_map_both (added x (new source)) edit_refusal
+    (addition_in x (new source) spot))
+    (λ found image source. AddStopsIn found image (new source) spot)
 -- an empty entry replaces a component and its adjacent free space
-abbrev pub removes : List ℕ → List ℕ → Change
-removes region name =
-    edits region false
-    (λ found x source. fault_or (λ fault. Err (edit_refusal fault)) (removal_in x name)
-    (λ group. Ok (removed x group)))
-    (λ found image source answer now.
-    IsErrOf answer refusals.Device → LeavesWhole (bytes_in found image) name (bytes_in found now))
-
+effect (on_region region (remove name)) = edits region false
+    (λ found x source. result_map_both (removed x) edit_refusal (removal_in x name))
+    (λ found image source answer now. IsErrOf answer refusals.Device
+    → LeavesWhole (bytes_in found image) name (bytes_in found now))
 -- an interruption only preserves the size
-abbrev pub creates : List (List ℕ) → Change
-creates names = record {
-  made = λ image source. fault_or Err (plan_for (length image) names source)
-      (λ plan. Ok (created_image (length image) plan source));
+effect (create names) = record {
+  outcome = λ image source. changes image (fault_or Err (plan_for (length image) names source)
+      (λ plan. Ok (created_image (length image) plan source)));
   target = λ image. Some (record { start = 0; size = length image });
-  source_calls = Some (λ n. n / area_len + n / 4096 + 3);
+  source_calls = λ source. let size = length source.content in size / area_len + size / 4096 + 3;
+  prints = false;
   Stopped = λ image source answer now. length now ≡ length image;
 }
-
-abbrev pub effect : Request → Effect
-effect (on_region region (print verbose)) =
-    prints (λ image. printed_in image region (λ x. print_region x verbose))
-effect (on_region region (extract name)) =
-    prints (λ image. printed_in image region (λ x. extract_region x name))
-effect (on_region region (add name kind hash spot)) = changes (adds region name kind hash spot)
-effect (on_region region (remove name)) = changes (removes region name)
-effect (on_region region read) = prints (λ image. printed_in image region shows)
-effect (on_region region write) = changes (replaces region)
-effect layout = prints rows.layout
-effect (create names) = changes (creates names)
 
 abbrev pub effect_of : Command → Effect
 effect_of command = effect (request_of command)
 
--- an honest source, if the command reads it
-abbrev pub Serves : Effect → Device → Type 0
-Serves d source = IsTrue (reads_source d) → IsTrue source.honest
+-- ---- the meaning
 
--- all bytes outside the region remain, or all bytes without a region
-abbrev pub SparesOutside : Option Range → List ℕ → List ℕ → Type 0
-SparesOutside target image now =
-    MatchOption target (now ≡ image) (λ region. SameOutside region.start region.size image now)
+-- P of the contents of an honest device and an honest source, which may be dishonest if not read
+abbrev pub OnAllHonest : Effect → Device → Device → (List ℕ → List ℕ → Type 0) → Type 0
+OnAllHonest d device source P = IsTrue device.honest
+    → (0 < d.source_calls source → IsTrue source.honest) → P device.content source.content
 
--- the answer, output and effect of the effect, or an interruption
-abbrev pub Meets : Effect → Option (List ℕ) → Option (List ℕ) → List ℕ → List ℕ → List ℕ
-    → CommandResult → Type 0
-Meets (prints printout) old new image source now answer =
-    PrintsOut old new answer (printout image) × (now ≡ image)
-Meets (changes c) old new image source now answer =
-    LeavesOr now answer (outcome (changes c) image source)
-
--- any other answer implies no change
-abbrev pub MayHaveWritten : CommandResult → Type 0
-MayHaveWritten answer =
-    (answer ≡ Ok tt) ⊎ (answer ≡ Err refusals.Device) ⊎ (answer ≡ Err refusals.Source)
+-- The effect of a command on an honest device.
+pub record HasEffect (d : Effect) (old new source : Device) (answer : CommandResult) : Type 0 where
+  -- all bytes outside the region remain, or all bytes without a region
+  pub spares : OnHonest old (λ image. MatchOption (d.target image) (new.content ≡ image)
+      (λ region. SameOutside region.start region.size image new.content))
+  -- any error but a fault of the device or the source implies no change
+  pub refused : OnHonest old (λ image. (answer ≡ Ok tt) ⊎ IsErrOf answer refusals.Device
+      ⊎ IsErrOf answer refusals.Source ⊎ (new.content ≡ image))
+  -- the answer and the image of the outcome, or a fault
+  pub left : OnAllHonest d old source (λ image content. let o = d.outcome image content in
+      ((answer ≡ o.printout.answer) × (new.content ≡ o.image)) ⊎ IsFault answer)
+  pub stopped : OnAllHonest d old source
+      (λ image content. d.Stopped image content answer new.content)
 
 abbrev pub no_source : Device
 no_source = record { content = []; calls = 0; faults = 0; honest = true }
 
--- A change by at most n device calls. A fault implies a failure of the device or source. An honest
--- device keeps all bytes outside the allowed region, and all bytes after any other error. For an
--- honest source, the result is the change or an interruption.
-pub record HasApplied {F : Type 0} (n : ℕ) (change : Change)
-    (old new : Pages F) (source source_now : Device) (answer : CommandResult) : Type 0 where
-  pub calls : Calls n (fault_count by_device answer) old.device new.device
-  pub source_calls : Calls (source_calls (changes change) (length source.content))
-      (fault_count by_source answer) source source_now
+-- A change without output. A fault implies a failure of the device or the source.
+pub record HasApplied {F : Type 0} (d : Effect) (old new : Pages F)
+    (source source_now : Device) (answer : CommandResult) : Type 0 where
+  pub calls : Calls (call_limit old.device) (fault_count by_device answer) old.device new.device
+  pub source_calls : Calls (d.source_calls source) (fault_count by_source answer) source source_now
   pub no_output : IsErrOf answer refusals.Output → ⊥
-  pub spares : OnHonest old.device (λ image.
-      SparesOutside (change.target image) image new.device.content)
-  pub refused : OnHonest old.device (λ image. MayHaveWritten answer ⊎ (new.device.content ≡ image))
-  pub left : OnHonest old.device (λ image. Serves (changes change) source
-      → LeavesOr new.device.content answer (outcome (changes change) image source.content))
-  pub stopped : OnHonest old.device (λ image. Serves (changes change) source
-      → change.Stopped image source.content answer new.device.content)
+  pub effect : HasEffect d old.device new.device source answer

@@ -1,5 +1,5 @@
 -- The outcomes of commands on a region, and the effect of an interruption.
-use Rattle.std.specs.Prelude.{◌≡◌, ◌≢◌, ℕ, ◌⊎◌, Bool, List, length, Ok, Err, if◌then◌else◌}
+use Rattle.std.specs.Prelude.{◌≡◌, ◌≢◌, ℕ, Bool, List, length, Ok, Err, if◌then◌else◌}
 use Rattle.std.specs.Option.{option_map_or}
 use Rattle.flash_format.specs.Components.{Component, is_packed}
 use Rattle.flash_format.specs.Cut.{Cut, cut}
@@ -68,8 +68,3 @@ pub record AddStopsIn (region : Range) (image : List ℕ) (new : NewComponent) (
       → AddLeavesWhole (bytes_in region image) new spot (bytes_in region now)
   pub by_source : answer ≡ Err refusals.Source
       → AddLeavesBefore (bytes_in region image) new spot (bytes_in region now)
-
--- the answer and effect of the outcome, or a fault of the device or the source
-abbrev pub LeavesOr : List ℕ → CommandResult → Outcome → Type 0
-LeavesOr now answer o = ((answer ≡ o.printout.answer) × (now ≡ o.image))
-    ⊎ (answer ≡ Err refusals.Device) ⊎ (answer ≡ Err refusals.Source)

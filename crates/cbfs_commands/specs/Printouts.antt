@@ -3,7 +3,7 @@ use Rattle.std.specs.Prelude.{◌≡◌, ℕ, ◌<◌, ◌≤◌, ◌⊎◌, IsE
 use Rattle.std.specs.Prelude.{Err, length, take}
 use Rattle.std.specs.Io.KnownBytes.{Appends}
 use Rattle.flash_format.specs.Head.{is_free}
-use Rattle.flash_device.specs.Device.{Device, fault_count}
+use Rattle.flash_device.specs.Device.{Device}
 use Rattle.flash_device.specs.Pages.{Pages, HasReadBy, OnHonest, OnHonestIn}
 use Rattle.flash_device.specs.declared.sink.Sink.{Ghosts as SinkOf}
 use Rattle.flash_device.specs.Output.{AppendsPart}
@@ -30,16 +30,13 @@ shows text = record { written = text; answer = Ok tt }
 abbrev pub refuses : Refusal → Printout
 refuses refusal = record { written = []; answer = Err refusal }
 
--- the writer failed after a proper prefix of the text, or the device after a prefix
-abbrev pub StopsWriting : Option (List ℕ) → Option (List ℕ) → CommandResult → List ℕ → Type 0
-StopsWriting old new answer text =
-    ((answer ≡ Err refusals.Output) × AppendsPart old new text) ⊎ ((answer ≡ Err refusals.Device)
-    × ((n : ℕ) × (n ≤ length text) × Appends old new (take n text)))
-
--- the output and answer, or an interruption
+-- The output and answer, or an interruption: the writer failed after a proper prefix of the text,
+-- or the device or the source after a prefix.
 abbrev pub PrintsOut : Option (List ℕ) → Option (List ℕ) → CommandResult → Printout → Type 0
-PrintsOut old new answer t =
-    ((answer ≡ t.answer) × Appends old new t.written) ⊎ StopsWriting old new answer t.written
+PrintsOut old new answer t = ((answer ≡ t.answer) × Appends old new t.written)
+    ⊎ (IsErrOf answer refusals.Output × AppendsPart old new t.written)
+    ⊎ ((IsErrOf answer refusals.Device ⊎ IsErrOf answer refusals.Source)
+    × ((n : ℕ) × (n ≤ length t.written) × Appends old new (take n t.written)))
 
 -- A cell of a region within bounds. An honest device has the cell at its offset.
 pub record IsCellOf (r : Range) (c : Cell) (device : Device) : Type 0 where

@@ -53,7 +53,7 @@ abbrev pub by_source : Refusal → ℕ
 by_source refusals.Source = 1
 by_source _ = 0
 
--- no fault of the device, the output or the source
-abbrev pub HasNoFault : {T : Type 0} → Result T Refusal → Type 0
-HasNoFault answer = IsErrOf answer refusals.Device ⊎ IsErrOf answer refusals.Output
-    ⊎ IsErrOf answer refusals.Source → ⊥
+-- of the device, the output or the source
+abbrev pub IsFault : {T : Type 0} → Result T Refusal → Type 0
+IsFault answer = IsErrOf answer refusals.Device ⊎ IsErrOf answer refusals.Output
+    ⊎ IsErrOf answer refusals.Source

@@ -1,18 +1,19 @@
 -- The output of `print` and `layout`, in this project's own formats.
 use Rattle.std.specs.Prelude.{ℕ, List, ◌++◌, drop, if◌then◌else◌, Option, Some, None}
-use Rattle.std.specs.Prelude.{◌+◌, ◌/◌, Bool, not, ◌&&◌, [], ◌∷◌, length, map}
-use Rattle.std.specs.List.{flat_map}
+use Rattle.std.specs.Prelude.{◌+◌, ◌/◌, Bool, not, ◌&&◌, [], length, map}
+use Rattle.std.specs.List.{flat_map, scan}
 use Rattle.std.specs.Option.{option_map_or}
 use Rattle.std.specs.Fmt.{decimal}
 use lib.Chars.{codes}
 use Rattle.flash_format.specs.Head.{head_of, is_free}
 use Rattle.flash_format.specs.Components.{cell_name, cell_attributes, packing, cell_content}
-use Rattle.flash_format.specs.Flashmap.{fmap_head_of, text_of, map_of, areas_at}
-use Rattle.flash_format.specs.declared.flashmap.FmapHead.{FmapHead}
+use Rattle.flash_format.specs.Flashmap.{areas_from, fmap_head_len, text_of}
 use Rattle.flash_format.specs.declared.flashmap.Area.{Area}
 use Rattle.flash_format.specs.declared.head.Head.{Head}
 use Rattle.flash_format.specs.Texts.{hexadecimal, line_feed, printed_compression, printed_name}
 use Rattle.flash_format.specs.Texts.{printed_type, tab}
+use Rattle.flash_map.specs.Fmap.{found_in}
+use Rattle.flash_map.specs.declared.search.FoundMap.{FoundMap}
 use Rattle.cbfs_commands.specs.Printouts.{Printout, shows, refuses}
 use Rattle.cbfs_commands.specs.declared.refusal.Refusal.TheVariants as refusals
 use Rattle.byteorder.specs.Endian.{big_bytes}
@@ -40,9 +41,10 @@ cell_row at x = if is_free (head_of x) then row_text at (head_of x) None 0
 -- ---- layout
 
 -- offset, name, size and number of areas
-unfoldable pub map_line : ℕ → FmapHead → List ℕ
-map_line q h = codes "fmap" ++ tab ++ hexadecimal q ++ tab ++ printed_name (text_of h.name) ++ tab
-    ++ decimal h.size ++ tab ++ decimal h.nareas ++ line_feed
+unfoldable pub map_line : FoundMap → List ℕ
+map_line map = codes "fmap" ++ tab ++ hexadecimal map.at ++ tab
+    ++ printed_name (text_of map.head.name) ++ tab
+    ++ decimal map.head.size ++ tab ++ decimal map.head.nareas ++ line_feed
 
 -- name, offset, size and flags
 unfoldable pub area_line : Area → List ℕ
@@ -50,9 +52,9 @@ area_line a = printed_name (text_of a.name) ++ tab ++ hexadecimal a.offset ++ ta
     ++ tab ++ hexadecimal a.flags ++ line_feed
 
 unfoldable pub layout : List ℕ → Printout
-layout image = option_map_or
-    (λ q. shows (map_line q (fmap_head_of (drop q image)) ++ flat_map area_line (areas_at image q)))
-    (map_of image) (refuses refusals.NoFmap)
+layout image = option_map_or (λ map. shows (map_line map ++ flat_map area_line
+    (areas_from map.head.nareas (drop (map.at + fmap_head_len) image))))
+    (found_in image) (refuses refusals.NoFmap)
 
 -- the tag in eight digits, and the length including the header
 unfoldable pub attribute_line : AttrHead → List ℕ
@@ -71,12 +73,10 @@ hash_line (Valid d) = digest_line d (codes "valid")
 hash_line (Invalid d) = digest_line d (codes "invalid")
 hash_line Unsupported = codes "\thash\tunsupported\n"
 
-abbrev pub hash_text : List ℕ → List ℕ
-hash_text x = hash_line (hash_state (cell_attributes x) (cell_content x))
-
 -- all lines of a component
 abbrev pub details : List ℕ → List ℕ
-details x = flat_map attribute_line (map head_of_attribute (cell_attributes x)) ++ hash_text x
+details x = let all = cell_attributes x in
+    flat_map attribute_line (map head_of_attribute all) ++ hash_line (hash_state all (cell_content x))
 
 -- the maximum number of calls for the lines of a component
 abbrev pub details_reads : ℕ → ℕ
@@ -87,8 +87,9 @@ abbrev pub shown_cell : Bool → ℕ → List ℕ → List ℕ
 shown_cell verbose at x =
     cell_row at x ++ (if verbose && not (is_free (head_of x)) then details x else [])
 
--- consecutive cells
+-- consecutive cells, with their offsets
+abbrev pub placed : ℕ → List (List ℕ) → List (ℕ × List ℕ)
+placed at cells = scan (λ place x. place + length x) (λ place x. (place, x)) at cells
+
 unfoldable pub rows_from : Bool → ℕ → List (List ℕ) → List ℕ
-rows_from verbose at [] = []
-rows_from verbose at (x ∷ cells) =
-    shown_cell verbose at x ++ rows_from verbose (at + length x) cells
+rows_from verbose at cells = flat_map (λ cell. shown_cell verbose cell.0 cell.1) (placed at cells)

@@ -1,7 +1,6 @@
 //! The command `add`.
 
-ghost use Rattle.cbfs_commands.specs.Effects.{HasApplied, adds};
-ghost use Rattle.flash_device.specs.Device.{call_limit};
+ghost use Rattle.cbfs_commands.specs.Effects.{HasApplied, add, effect, on_region};
 
 use crate::refusal::Refusal;
 use cbfs_edit::{HashChoice, Spot};
@@ -17,7 +16,7 @@ pub fn add<F: Flash, S: Source>(
     spot: Spot,
     source: &mut S,
 ) -> Result<(), Refusal>
-    ensures { HasApplied (call_limit paged.old.device) (adds region.now name.now kind hash spot)
+    ensures { HasApplied (effect (on_region region.now (add name.now kind hash spot)))
         paged.old paged.new (S.facts source.old) (S.facts source.new) result }
 {
     let region = flash_map::region(paged, region)?;

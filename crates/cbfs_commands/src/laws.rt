@@ -1,9 +1,15 @@
 //! Laws of outcomes: functions without code.
-ghost use Rattle.cbfs_commands.specs.Laws.{AddedFilesAreExtracted, AdditionsAreExtracted};
-ghost use Rattle.cbfs_commands.specs.Laws.{CreatedRegionsAreFree, LinesAreReadBack};
+
+ghost use Rattle.std.specs.Prelude.{◌≡◌, ℕ, List, Ok};
+ghost use Rattle.cbfs_edit.specs.Additions.{NewComponent};
+ghost use Rattle.cbfs_edit.specs.Laws.{IsAdded};
+ghost use Rattle.cbfs_edit.specs.declared.place.Place.{Place};
+ghost use Rattle.cbfs_edit.specs.declared.place.Spot.{Spot};
+ghost use Rattle.cbfs_commands.specs.Creations.{plan_for};
+ghost use Rattle.cbfs_commands.specs.Laws.{AdditionsAreExtracted, LinesAreReadBack};
 ghost use Rattle.cbfs_commands.specs.Laws.{OutcomesAreOfTheRegion, OutcomesHaveNoFault};
-ghost use Rattle.cbfs_commands.specs.Laws.{PlansAreLaid, RowsAreReadBack};
-ghost use Rattle.cbfs_commands.specs.Laws.{WritingBackChangesNothing};
+ghost use Rattle.cbfs_commands.specs.Laws.{PlansAreLaid, WritingBackChangesNothing};
+ghost use Rattle.cbfs_commands.specs.declared.create.plan.Plan.{Plan};
 
 /// Proves that an outcome's own answer is never a fault of the device, the output or the source.
 pub fn outcomes_have_no_fault()
@@ -21,33 +27,25 @@ pub fn outcomes_are_of_the_region()
 {}
 
 /// Proves that the flashmap of a plan fits its area, that all named regions lie in the image with
-/// valid sizes, and that these ranges don't overlap. Other areas are not covered.
+/// valid sizes, and that these ranges don't overlap. For an image below 2^32, `create` formats each
+/// named region as an empty entry. Other areas are not covered.
 pub fn plans_are_laid()
-    ensures { PlansAreLaid }
-{}
-
-/// Proves that `create` formats each named region as an empty entry, for an image below 2^32.
-pub fn created_regions_are_free()
-    ensures { CreatedRegionsAreFree }
+    ensures { (n : ℕ) (names : List (List ℕ)) (source : List ℕ) (plan : Plan)
+        → plan_for n names source ≡ Ok plan → PlansAreLaid n source plan }
 {}
 
 /// Proves that `extract` returns the content of an addition, if the image's map keeps the region.
 /// Contents with a valid map, and regions over the map, can change the map. Preconditions: region,
 /// type and content below 2^32, and a digest of the algorithm's length.
 pub fn additions_are_extracted()
-    ensures region { AdditionsAreExtracted }
-    ensures image { AddedFilesAreExtracted }
+    ensures { (x : List ℕ) (new : NewComponent) (spot : Spot) (place : Place)
+        → IsAdded x new spot place → AdditionsAreExtracted x new place }
 {}
 
-/// Proves that a cell's row determines the offset, type and content length, and a component's name
-/// and compression, for any later text and numbers below 2^64.
-pub fn rows_are_read_back()
-    ensures { RowsAreReadBack }
-{}
-
-/// Proves that an area's line determines its name up to the NUL, offset, size and flags, and a
-/// map's line its offset, name, size and number of areas, for any later text and numbers below
-/// 2^64.
+/// Proves that printed lines determine their values, for any later text and numbers below 2^64: a
+/// cell's row the offset, type and content length, and a component's name and compression; an
+/// area's line its name up to the NUL, offset, size and flags; a map's line its offset, name, size
+/// and number of areas.
 pub fn lines_are_read_back()
     ensures { LinesAreReadBack }
 {}

@@ -8,15 +8,15 @@ ghost use Rattle.cbfs_commands.specs.Rows.{layout, map_line, area_line};
 ghost use Rattle.cbfs_commands.specs.Printouts.{HasOutput, shows};
 
 use crate::refusal::Refusal;
-use crate::row::{Row, push_decimal, put_row};
+use crate::row::{Row, push_decimal};
 use arrayvec::ArrayVec;
-use flash_device::{Flash, Paged, Sink};
+use flash_device::{Flash, Paged, Sink, put_all};
 use flash_format::{Area, push_hexadecimal, push_name, push_text};
 use flash_map::{FoundMap, area, find_fmap};
 
 #[tactic(auto, unfolding(crate::specs::Rows::map_line))]
 fn set_map_row(row: &mut Row, map: &FoundMap)
-    ensures { row.new.items ≡ map_line map.now.at map.now.head }
+    ensures { row.new.items ≡ map_line map.now }
 {
     row.clear();
     push_text(row, b"fmap");
@@ -46,24 +46,6 @@ fn set_area_row(row: &mut Row, area: &Area)
     push_text(row, b"\n");
 }
 
-fn list_area<F: Flash, W: Sink>(
-    paged: &mut Paged<F>,
-    map: &FoundMap,
-    i: u16,
-    row: &mut Row,
-    out: &mut W,
-) -> Result<(), Refusal>
-    requires inside { map.now.at + map_len map.now.head ≤ length paged.old.device.content }
-    requires number { i < map.now.head.nareas }
-
-    ensures { HasOutput W.Sink 1 paged.old paged.new out.old out.new result (λ image.
-        shows (area_line (area_of (drop (map.now.at + fmap_head_len + area_len * i) image)))) }
-{
-    let listed = area(paged, map, i)?;
-    set_area_row(row, &listed);
-    put_row(out, row)
-}
-
 fn list_areas<F: Flash, W: Sink>(
     paged: &mut Paged<F>,
     map: &FoundMap,
@@ -77,7 +59,9 @@ fn list_areas<F: Flash, W: Sink>(
         (areas_from map.now.head.nareas (drop (map.now.at + fmap_head_len) image)))) }
 {
     for i in 0..map.head.nareas {
-        list_area(paged, map, i, row, out)?;
+        let listed = area(paged, map, i)?;
+        set_area_row(row, &listed);
+        put_all(out, row.as_slice())?;
     }
     Ok(())
 }
@@ -93,6 +77,6 @@ pub fn layout<F: Flash, W: Sink>(paged: &mut Paged<F>, out: &mut W) -> Result<()
     };
     let mut row = ArrayVec::new();
     set_map_row(&mut row, &map);
-    put_row(out, &row)?;
+    put_all(out, row.as_slice())?;
     list_areas(paged, &map, &mut row, out)
 }

@@ -1,17 +1,14 @@
 //! The printed row of a cell.
 
-ghost use Rattle.std.specs.Prelude.{◌≡◌, ◌+◌, ◌<◌, ◌≤◌, length, unwrap_or, Err, OnErr};
+ghost use Rattle.std.specs.Prelude.{◌≡◌, ◌+◌, ◌≤◌, length, unwrap_or};
 ghost use Rattle.std.specs.Fmt.{decimal};
 ghost use Rattle.std.specs.Option.{ForSome, option_copied, option_map_or};
 ghost use lib.Chars.{codes};
 ghost use Rattle.arrayvec.specs.ArrayVec.{array_vec_len};
 ghost use Rattle.flash_format.specs.Texts.{Pushes, hexadecimal, printed_name};
 ghost use Rattle.cbfs_commands.specs.Rows.{row_text};
-ghost use Rattle.cbfs_commands.specs.Printouts.{PrintsOut, shows};
 
-use crate::refusal::Refusal;
 use arrayvec::ArrayVec;
-use flash_device::{Sink, put_all};
 use flash_format::{Head, compression_name, push_hexadecimal, push_name, push_text, type_name};
 use itoa::Buffer;
 
@@ -41,19 +38,6 @@ fn push_name_or(row: &mut Row, name: Option<&str>, value: u32)
     }
 }
 
-/// Appends a component's name, or a placeholder.
-fn push_label(row: &mut Row, name: Option<&[u8]>)
-    requires room { array_vec_len row.old + 1020 ≤ ROW_LEN }
-    requires short { ForSome name (λ n. length n.now ≤ 255) }
-    ensures { Pushes row.old
-        (option_map_or printed_name (option_copied name.entry) (codes "(empty)")) 1020 row.new }
-{
-    match name {
-        Some(name) => push_name(row, name),
-        None => push_text(row, b"(empty)"),
-    }
-}
-
 /// Replaces the buffer's content with a cell's row.
 #[tactic(auto, unfolding(crate::specs::Rows::row_text))]
 pub fn set_row_text(row: &mut Row, at: u64, head: &Head, name: Option<&[u8]>, packing: u32)
@@ -61,7 +45,10 @@ pub fn set_row_text(row: &mut Row, at: u64, head: &Head, name: Option<&[u8]>, pa
     ensures { row.new.items ≡ row_text at head.now (option_copied name.entry) packing }
 {
     row.clear();
-    push_label(row, name);
+    match name {
+        Some(name) => push_name(row, name),
+        None => push_text(row, b"(empty)"),
+    }
     push_text(row, b"\t");
     push_hexadecimal(row, at);
     push_text(row, b"\t");
@@ -71,16 +58,4 @@ pub fn set_row_text(row: &mut Row, at: u64, head: &Head, name: Option<&[u8]>, pa
     push_text(row, b"\t");
     push_name_or(row, compression_name(packing), packing);
     push_text(row, b"\n");
-}
-
-/// Writes a row to the sink.
-pub fn put_row<W: Sink>(out: &mut W, row: &Row) -> Result<(), Refusal>
-    ensures faults { W.faults out.old ≤ W.faults out.new }
-    ensures output { OnErr result (W.faults out.old < W.faults out.new) }
-    ensures only { OnErr result (result ≡ Err Refusal.Output) }
-    ensures printout { PrintsOut (W.contents out.old) (W.contents out.new) result
-        (shows row.now.items) }
-{
-    put_all(out, row.as_slice())?;
-    Ok(())
 }

@@ -1,7 +1,6 @@
 //! The command `write`.
 
-ghost use Rattle.cbfs_commands.specs.Effects.{HasApplied, replaces};
-ghost use Rattle.flash_device.specs.Device.{call_limit};
+ghost use Rattle.cbfs_commands.specs.Effects.{HasApplied, effect, on_region, write};
 
 use crate::refusal::Refusal;
 use flash_device::{Flash, Paged, Source};
@@ -12,7 +11,7 @@ pub fn write<F: Flash, S: Source>(
     name: &[u8],
     source: &mut S,
 ) -> Result<(), Refusal>
-    ensures { HasApplied (call_limit paged.old.device) (replaces name.now) paged.old paged.new
+    ensures { HasApplied (effect (on_region name.now write)) paged.old paged.new
         (S.facts source.old) (S.facts source.new) result }
 {
     let region = flash_map::region(paged, name)?;

@@ -2,13 +2,13 @@
 
 ghost use Rattle.std.specs.Prelude.{◌≡◌, ◌+◌, ◌*◌, ◌/◌, ◌≤◌, All, fold, length, map, OnOk, OnErr};
 ghost use Rattle.std.specs.Prelude.{Err};
-ghost use Rattle.flash_device.specs.Device.{Calls, refusals, call_limit};
+ghost use Rattle.flash_device.specs.Device.{Calls, refusals};
 ghost use Rattle.flash_device.specs.Laws.{with_edit};
 ghost use Rattle.flash_device.specs.Pages.{OnHonest};
 ghost use Rattle.cbfs_edit.specs.Formats.{formatted};
 ghost use Rattle.cbfs_commands.specs.declared.create.flashmap.TheConstants.{MOST_REGIONS};
 ghost use Rattle.cbfs_commands.specs.Creations.{IsPlace};
-ghost use Rattle.cbfs_commands.specs.Effects.{HasApplied, creates};
+ghost use Rattle.cbfs_commands.specs.Effects.{HasApplied, create, effect};
 
 use crate::create::plan::read_plan;
 use crate::refusal::Refusal;
@@ -57,7 +57,7 @@ pub fn create<F: Flash, S: Source>(
     source: &mut S,
 ) -> Result<(), Refusal>
     requires { length names.now ≤ MOST_REGIONS }
-    ensures { HasApplied (call_limit paged.old.device) (creates (map (λ name. name.now) names.now))
+    ensures { HasApplied (effect (create (map (λ name. name.now) names.now)))
         paged.old paged.new (S.facts source.old) (S.facts source.new) result }
 {
     let image_len = paged.len();

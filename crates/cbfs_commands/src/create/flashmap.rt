@@ -1,15 +1,15 @@
 //! The source's flashmap.
 
 ghost use Rattle.std.specs.Prelude.{◌≡◌, ◌⊎◌, ◌<◌, ◌≤◌, ◌++◌, ◌∷◌, [], List, Option, length, map};
-ghost use Rattle.std.specs.Prelude.{take, drop, IsTrue, IsErrOf, IfOk, IfErr};
+ghost use Rattle.std.specs.Prelude.{take, drop, IfOk, IfErr};
 ghost use Rattle.std.specs.Option.{ok_or, option_map};
 ghost use lib.Chars.{codes};
 ghost use Rattle.flash_format.specs.declared.flashmap.Area.{Area};
 ghost use Rattle.flash_format.specs.Flashmap.{fmap_head_len, map_len, areas_from};
-ghost use Rattle.flash_device.specs.Device.{Reads, fault_count, refusals};
+ghost use Rattle.flash_device.specs.Device.{Reads, refusals};
+ghost use Rattle.flash_device.specs.Pages.{OnHonest};
 ghost use Rattle.flash_map.specs.Fmap.{map_head};
-ghost use Rattle.cbfs_commands.specs.Creations.{head_for, first_area};
-ghost use Rattle.cbfs_commands.specs.Refusals.{by_source};
+ghost use Rattle.cbfs_commands.specs.Creations.{AnswersBySource, head_for, first_area};
 
 use crate::refusal::Refusal;
 use flash_device::{Source, SourceFault};
@@ -24,11 +24,9 @@ const MAP_AREA: &[u8] = b"FMAP";
 /// Returns the image's size according to the flashmap's header. Errors: an invalid or truncated
 /// flashmap (18), and read errors (3).
 pub fn create_size<S: Source>(source: &mut S) -> Result<u32, Refusal>
-    ensures calls { Reads 1 (fault_count by_source result) (S.facts source.old)
-        (S.facts source.new) }
+    ensures size { AnswersBySource S.facts 1 source.old source.new result
+        (λ content. ok_or (option_map (λ h. h.size) (map_head content)) Refusal.TableBad) }
     ensures refusals { IfErr result (λ r. (r ≡ Refusal.Source) ⊎ (r ≡ Refusal.TableBad)) }
-    ensures size { IsTrue (S.facts source.old).honest → IsErrOf result Refusal.Source ⊎ (result ≡
-        ok_or (option_map (λ h. h.size) (map_head (S.facts source.old).content)) Refusal.TableBad) }
 {
     match map_in_source(source)? {
         Some(head) => Ok(head.size),
@@ -38,12 +36,8 @@ pub fn create_size<S: Source>(source: &mut S) -> Result<u32, Refusal>
 
 /// Returns the header of a flashmap for an image of `image_len` bytes.
 pub fn head_for<S: Source>(source: &mut S, image_len: u64) -> Result<FmapHead, Refusal>
-    ensures calls { Reads 1 (fault_count by_source result) (S.facts source.old)
-        (S.facts source.new) }
-    ensures by_source { IsErrOf result Refusal.Device ⊎ IsErrOf result Refusal.Output → ⊥ }
+    ensures head { AnswersBySource S.facts 1 source.old source.new result (head_for image_len) }
     ensures fits { IfOk result (λ head. map_len head ≤ length (S.facts source.old).content) }
-    ensures head { IsTrue (S.facts source.old).honest →
-        IsErrOf result Refusal.Source ⊎ (result ≡ head_for image_len (S.facts source.old).content) }
 {
     match map_in_source(source)? {
         Some(head) if u64::from(head.size) == image_len => Ok(head),
@@ -94,10 +88,10 @@ pub fn first_areas<S: Source>(
     ensures calls { Reads head.now.nareas (refusals result) (S.facts source.old)
         (S.facts source.new) }
 
-    ensures areas { IsTrue (S.facts source.old).honest → IfOk result (λ found.
-        let areas = areas_from head.now.nareas (drop fmap_head_len (S.facts source.old).content) in
+    ensures areas { OnHonest (S.facts source.old) (λ content. IfOk result (λ found.
+        let areas = areas_from head.now.nareas (drop fmap_head_len content) in
         (found.map ≡ first_area areas (codes "FMAP")) × (take (length names.now) found.regions
-        ≡ map (first_area areas) (map (λ n. n.now) names.now))) }
+        ≡ map (first_area areas) (map (λ n. n.now) names.now)))) }
 {
     let mut found = FoundAreas {
         map: None,

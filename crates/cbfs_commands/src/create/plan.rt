@@ -1,14 +1,12 @@
 //! The plan of a new image.
 
-ghost use Rattle.std.specs.Prelude.{◌≡◌, ◌⊎◌, ◌+◌, ◌/◌, ◌≤◌, length, map, nat_lt, IsTrue, IsErrOf};
-ghost use Rattle.std.specs.Prelude.{IfOk};
+ghost use Rattle.std.specs.Prelude.{◌≡◌, ◌+◌, ◌/◌, ◌≤◌, length, map, nat_lt, IfOk};
 ghost use Rattle.std.specs.List.{list_any};
 ghost use Rattle.std.specs.Result.{result_map_both};
 ghost use Rattle.flash_format.specs.Flashmap.{area_len, map_len};
-ghost use Rattle.flash_device.specs.Device.{Reads, fault_count};
-ghost use Rattle.cbfs_commands.specs.Creations.{FitsImage, map_place, share_bytes, plan_for, plan_of};
+ghost use Rattle.cbfs_commands.specs.Creations.{AnswersBySource, FitsImage, map_place, plan_for};
+ghost use Rattle.cbfs_commands.specs.Creations.{plan_of, share_bytes};
 ghost use Rattle.cbfs_commands.specs.Creations.{region_place, region_places, some_overlap};
-ghost use Rattle.cbfs_commands.specs.Refusals.{by_source};
 
 use crate::create::flashmap::{MOST_REGIONS, first_areas, head_for};
 use crate::refusal::Refusal;
@@ -126,12 +124,9 @@ pub fn read_plan<S: Source>(
 ) -> Result<Plan, Refusal>
     requires { length names.now ≤ MOST_REGIONS }
 
-    ensures calls { Reads (length (S.facts source.old).content / area_len + 1)
-        (fault_count by_source result) (S.facts source.old) (S.facts source.new) }
-    ensures by_source { IsErrOf result Refusal.Device ⊎ IsErrOf result Refusal.Output → ⊥ }
+    ensures plan { AnswersBySource S.facts (length (S.facts source.old).content / area_len + 1)
+        source.old source.new result (plan_for image_len (map (λ name. name.now) names.now)) }
     ensures fits { IfOk result (FitsImage image_len (length (S.facts source.old).content)) }
-    ensures plan { IsTrue (S.facts source.old).honest → IsErrOf result Refusal.Source
-        ⊎ (result ≡ plan_for image_len (map (λ n. n.now) names.now) (S.facts source.old).content) }
 {
     let head = head_for(source, image_len)?;
     let found = first_areas(source, &head, names)?;

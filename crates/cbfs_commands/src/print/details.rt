@@ -10,14 +10,13 @@ ghost use Rattle.flash_format.specs.Components.{cell_attributes};
 ghost use Rattle.flash_format.specs.Texts.{Pushes};
 ghost use Rattle.cbfs_walk.specs.AttrWalks.{head_of_attribute};
 ghost use Rattle.cbfs_commands.specs.Rows.{attribute_line, details, digest_line, hash_line};
-ghost use Rattle.cbfs_commands.specs.Rows.{hash_text};
 ghost use Rattle.cbfs_commands.specs.Printouts.{HasOutput, IsComponentOf, cell_bytes, shows};
 
 use crate::refusal::Refusal;
-use crate::row::{ROW_LEN, Row, push_decimal, put_row};
+use crate::row::{ROW_LEN, Row, push_decimal};
 use byteorder::{BigEndian, ByteOrder};
 use cbfs_walk::{Cell, HashState, attributes, cells_stand_in_their_image, check_hash};
-use flash_device::{Flash, Paged, Sink};
+use flash_device::{Flash, Paged, Sink, put_all};
 use flash_format::{AttrHead, Digest, digest_text, push_text};
 use flash_map::Region;
 
@@ -99,26 +98,9 @@ fn print_attributes<F: Flash, W: Sink>(
     let mut walk = attributes(cell);
     while let Some(head) = walk.next(paged, region)? {
         set_attribute_row(row, &head);
-        put_row(out, row)?;
+        put_all(out, row.as_slice())?;
     }
     Ok(())
-}
-
-fn print_hash<F: Flash, W: Sink>(
-    paged: &mut Paged<F>,
-    region: Region,
-    cell: &Cell,
-    row: &mut Row,
-    out: &mut W,
-) -> Result<(), Refusal>
-    requires { IsComponentOf region cell.now paged.old.device }
-
-    ensures { HasOutput W.Sink (1 + cell.now.span / 3840) paged.old paged.new out.old out.new result
-        (λ image. shows (hash_text (cell_bytes region cell.now image))) }
-{
-    let state = check_hash(paged, region, cell)?;
-    set_hash_row(row, &state);
-    put_row(out, row)
 }
 
 /// Prints a component's attributes and digest.
@@ -136,5 +118,8 @@ pub fn print_details<F: Flash, W: Sink>(
         (λ image. shows (details (cell_bytes region cell.now image))) }
 {
     print_attributes(paged, region, cell, row, out)?;
-    print_hash(paged, region, cell, row, out)
+    let state = check_hash(paged, region, cell)?;
+    set_hash_row(row, &state);
+    put_all(out, row.as_slice())?;
+    Ok(())
 }

@@ -10,10 +10,10 @@ ghost use Rattle.flash_device.specs.Device.{call_limit};
 
 use crate::print::details::print_details;
 use crate::refusal::Refusal;
-use crate::row::{Row, put_row, set_row_text};
+use crate::row::{Row, set_row_text};
 use arrayvec::ArrayVec;
 use cbfs_walk::{Cell, Step, Walk, cells_stand_in_their_image, name, packing};
-use flash_device::{Flash, FlashFault, Paged, Sink};
+use flash_device::{Flash, FlashFault, Paged, Sink, put_all};
 use flash_map::Region;
 
 /// Formats a cell's row. A fault leaves arbitrary bytes in the buffer.
@@ -41,22 +41,6 @@ fn set_cell_row<F: Flash>(
     Ok(())
 }
 
-fn print_row<F: Flash, W: Sink>(
-    paged: &mut Paged<F>,
-    region: Region,
-    cell: &Cell,
-    buffer: &mut Row,
-    out: &mut W,
-) -> Result<(), Refusal>
-    requires { IsCellOf region cell.now paged.old.device }
-
-    ensures { HasOutput W.Sink (2 + cell.now.span / 3840) paged.old paged.new out.old out.new result
-        (λ image. shows (cell_row cell.now.at (cell_bytes region cell.now image))) }
-{
-    set_cell_row(paged, region, cell, buffer)?;
-    put_row(out, buffer)
-}
-
 /// Prints a cell's row, and if verbose a component's lines.
 fn print_cell<F: Flash, W: Sink>(
     paged: &mut Paged<F>,
@@ -73,7 +57,8 @@ fn print_cell<F: Flash, W: Sink>(
         (λ image. shows (shown_cell verbose cell.now.at (cell_bytes region cell.now image))) }
 {
     cells_stand_in_their_image();
-    print_row(paged, region, cell, buffer, out)?;
+    set_cell_row(paged, region, cell, buffer)?;
+    put_all(out, buffer.as_slice())?;
     if verbose && !cell.head.is_free() {
         return print_details(paged, region, cell, buffer, out);
     }

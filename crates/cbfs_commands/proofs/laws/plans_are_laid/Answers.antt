@@ -1,4 +1,4 @@
-use Rattle.cbfs_commands.proofs.PlanLaws.{plans_laid}
+use Rattle.cbfs_commands.proofs.CreatedRegions.{plans_laid}
 use Rattle.cbfs_commands.proofs.laws.plans_are_laid.Goals as goal
 
 pub returns : goal.returns

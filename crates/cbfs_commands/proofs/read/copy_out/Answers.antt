@@ -1,5 +1,5 @@
 use Rattle.std.proofs.lemmas.Grind.{common_steps}
-use Rattle.std.proofs.Common.{◌≡◌, ℕ, ◌+◌, List, Option, Err, arith}
+use Rattle.std.proofs.Common.{◌≡◌, ℕ, ◌+◌, Err, arith}
 use Rattle.std.specs.Prelude.{slice_range}
 use Rattle.std.specs.Result.{IsErrAnd}
 use Rattle.flash_device.specs.declared.sink.Sink.{Ghosts as SinkOf}

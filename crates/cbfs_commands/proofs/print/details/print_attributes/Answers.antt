@@ -2,7 +2,7 @@ use Rattle.std.proofs.Common.{◌≡◌, ◌+◌, ◌∙◌, IsTrue, List, ℕ, 
 use Rattle.flash_device.specs.Regions.{bytes_in}
 use Rattle.cbfs_walk.specs.AttrWalks.{AttrWalking, after_first, attr_reads, attributes_left}
 use Rattle.cbfs_commands.proofs.AttributeLines.{lines-first, lines-none, lines_left}
-use Rattle.cbfs_commands.proofs.OutputParts.{so_far-ends, so_far-more, printout-after, printout-none, printout-refusal, printout-row, printout-stopped}
+use Rattle.cbfs_commands.proofs.OutputParts.{so_far-ends, so_far-more, printout-after, printout-none, printout-refusal, printout-part, printout-put}
 use Rattle.cbfs_commands.proofs.print.details.print_attributes.Goals as goal
 
 pub loop-head-preserved : goal.loop-head-preserved
@@ -14,8 +14,8 @@ loop-head-preserved g c =
     let given = rw is at printout.attribute in
     let moved = rw is at printout.moved in
     let at : c.next.new.self.at ≡ c.loop-head.walk.at + head.len = ap (λ (q : AttrWalking). q.at) moved in
-    let put = c.in_ok-put_row.ensures in
-    let row = printout-row printout.after.read put.faults put.output put.only (rw c.set_attribute_row.ensures at put.printout) in
+    let put = c.in_ok-put_all.ensures in
+    let row = printout-put printout.after.read put.faults (rw (c.as_slice.ensures.value, c.set_attribute_row.ensures) at put.put) in
     record {
       same_cell = ap (λ (q : AttrWalking). q.cell) moved ∙ had.same_cell;
       same_offset = ap (λ (q : AttrWalking). q.cell.head.offset) moved ∙ had.same_offset;
@@ -29,16 +29,15 @@ loop-head-preserved g c =
       printout = so_far-more had.printout _ _ row (λ h. let left = had.left h in lines-first _ _ left.0 head left.1 (sym is ∙ (printout.list h left.0 left.1).0) ((printout.list h left.0 left.1).1)) (omega (arith, given.head, at));
     }
 
-pub returns-in_err-put_row : goal.returns-in_err-put_row
-returns-in_err-put_row g c =
+pub returns-in_err-put_all : goal.returns-in_err-put_all
+returns-in_err-put_all g c =
     let had = c.loop-head.invariant in
     let head = c.in-Some.head in
     let printout = c.in_ok-head.ensures in
     let is = c.in-Some.is in
     let given = rw is at printout.attribute in
-    let put = c.in_err-put_row.ensures in
-    let row = printout-row printout.after.read put.faults put.output put.only (rw c.set_attribute_row.ensures at put.printout) in
-    let stopped = printout-stopped (λ image. lines_left (attributes_left (bytes_in c.args.region image) c.next.new.self)) row c.from_residual-in_err-put_row.ensures.1 in
+    let put = c.in_err-put_all.ensures in
+    let stopped = printout-part printout.after.read _ put.cause (rw (c.as_slice.ensures.value, c.set_attribute_row.ensures) at put.part) c.from_residual-in_err-put_all.ensures.1 (λ image. lines_left (attributes_left (bytes_in c.args.region image) c.next.new.self)) in
     so_far-ends had.printout _ stopped (λ h. let left = had.left h in lines-first _ _ left.0 head left.1 (sym is ∙ (printout.list h left.0 left.1).0) ((printout.list h left.0 left.1).1)) (omega (arith, given.head, given.inside, had.same_offset))
 
 pub returns : goal.returns
