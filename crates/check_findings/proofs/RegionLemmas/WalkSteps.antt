@@ -4,7 +4,6 @@ use Rattle.std.specs.Prelude.{IsErrOf}
 use Rattle.std.proofs.lemmas.Grind.{common_steps}
 use mathlib.Core.Path.{fun_ext}
 use Rattle.flash_format.specs.Cut.{Cut, End, after, cut}
-use Rattle.flash_device.specs.Device.{Device}
 use Rattle.flash_device.specs.Pages.{Pages, HasRead, OnHonestIn}
 use Rattle.flash_device.proofs.WindowLemmas.{HasRead-then}
 use Rattle.flash_device.specs.Regions.{Range, LiesOn, bytes_in}

@@ -30,8 +30,7 @@ fn push_cell<F: Flash>(
 ) -> Result<(), CheckFault>
     requires { IsCellOn IsCellIn region cell.now paged.old.device }
 
-    ensures after
-        { HasReadBy by_device (3 + 2 * (cell.now.span / 3840)) paged.old paged.new result }
+    ensures after { HasReadBy by_device (3 + 2 * (cell.now.span / 3840)) paged.old paged.new result }
     ensures found { OnHonestIn paged.old.device region (λ x. StandsIn x cell.now →
         OnOk result (findings.new.items
         ≡ findings.old.items ++ cell_findings cell.now.at (cell_in x cell.now))) }
