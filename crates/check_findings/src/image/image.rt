@@ -38,7 +38,8 @@ fn area_finding<F: Flash>(
 ) -> Result<ImageFinding, CheckFault>
     requires { area_end area.area ≤ length paged.old.device.content }
 
-    ensures after { HasReadBy by_device ((left.old - left.new) / 16 + 2) paged.old paged.new result }
+    ensures after { HasReadBy by_device
+        ((left.old - left.new) / 16 + 2) paged.old paged.new result }
     ensures left { left.new ≡ left_after left.old area }
     ensures area { IfOk result (λ finding. region_area finding
         ≡ (if nat_le area.area.size left.old then area ∷ [] else [])) }
