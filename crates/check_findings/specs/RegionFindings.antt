@@ -1,7 +1,6 @@
 -- Findings of a region.
-use Rattle.std.specs.Prelude.{ℕ, ◌+◌, ◌-◌, ◌*◌, ◌/◌, Bool, true, false, not, ◌||◌}
+use Rattle.std.specs.Prelude.{ℕ, ◌+◌, ◌-◌, ◌*◌, ◌/◌, Bool, false, not, ◌||◌}
 use Rattle.std.specs.Prelude.{List, [], ◌∷◌, ◌++◌, drop, filter, length, map, max, slice_range}
-use Rattle.std.specs.Prelude.{slice_index_or, slice_set}
 use Rattle.std.specs.Prelude.{Option, Some, None, nat_le, is_some, ◌==◌, if◌then◌else◌}
 use Rattle.std.specs.List.{flat_map, list_any, position_from, range_with_len, scan, sum_by}
 use Rattle.std.specs.Option.{option_map_or}
@@ -143,15 +142,6 @@ marked earlier other = other
 
 unfoldable pub all_marked : List RegionFinding → List RegionFinding → List RegionFinding
 all_marked earlier all = scan (λ earlier finding. finding ∷ earlier) marked earlier all
-
--- with a mark
-abbrev pub shadowed : RegionFinding → RegionFinding
-shadowed (Found at name is content) = Found at name true content
-shadowed other = other
-
--- the component at this index is marked
-abbrev pub mark_at : List RegionFinding → ℕ → List RegionFinding
-mark_at all i = slice_set all i (shadowed (slice_index_or all i findings.NotCbfs))
 
 -- of the walk, with marks
 unfoldable pub region_findings : List ℕ → List RegionFinding
