@@ -19,7 +19,7 @@ loop-pair-preserved g c =
     let had = c.loop-pair.invariant in
     let done = c.in_ok-push_content_changes.ensures in
     record {
-      within = omega (arith, had.within, done.fewer);
-      read = both-within _ _ (omega (arith, had.within, done.fewer)) (omega (arith, had.within, done.fewer)) (both-then had.read done.after);
+      within = omega (arith, had.within, done.left);
+      read = both-within _ _ (omega (arith, had.within, done.left)) (omega (arith, had.within, done.left)) (both-then had.read done.after);
       changes = changes_in-more c.args.pairs.now _ _ _ (λ x y. c.args.changes.now.items ++ area_changes_in x y c.args.pairs.now (8 * length y) c.args.pairs.now) c.loop-pair-test.true had.read had.changes c.in_ok-push_entry_changes.ensures done.left done.changes;
     }
