@@ -1,8 +1,7 @@
-use Rattle.std.proofs.Common.{◌*◌, ◌++◌, length, arith, rules}
-use Rattle.check_changes.specs.declared.fault.ChangeFault.TheVariants as faults
+use Rattle.std.proofs.Common.{◌*◌, ◌++◌, length, arith}
 use Rattle.check_changes.specs.Areas.{area_changes_in}
 use Rattle.check_changes.proofs.AreaLemmas.ChangeSteps.{changes_in-more}
-use Rattle.check_changes.proofs.ImageLemmas.{both-handed, both-then, both-within}
+use Rattle.check_changes.proofs.ImageLemmas.{both-then, both-within}
 use Rattle.check_changes.proofs.areas.areas.push_changes.Goals as goal
 
 pub returns-in_err-push_entry_changes-clause-after : goal.returns-in_err-push_entry_changes-clause-after
