@@ -1,9 +1,6 @@
 -- Reads of both images, and their bytes before and after.
-use Rattle.std.proofs.Common.{◌≡◌, ℕ, ◌+◌, ◌≤◌, List, Ok, Err, arith, subst}
+use Rattle.std.proofs.Common.{◌≡◌, ℕ, ◌+◌, ◌≤◌, List, Ok, Err, arith}
 use Rattle.std.specs.Prelude.{Result, IsErrAnd}
-use Rattle.flash_device.specs.Device.{Device}
-use Rattle.flash_device.proofs.DeviceLemmas.{honest_still}
-use Rattle.flash_device.proofs.WindowLemmas.{HasRead-none, HasRead-then, HasRead-within}
 use Rattle.check_changes.specs.declared.images.Images.{Images}
 use Rattle.check_changes.specs.declared.fault.ChangeFault.{ChangeFault}
 use Rattle.check_changes.specs.Images.{by_old, by_new}

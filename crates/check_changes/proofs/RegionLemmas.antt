@@ -1,9 +1,8 @@
 -- The changes of regions, in the order of their findings.
-use Rattle.std.proofs.Common.{◌≡◌, ◌∙◌, ℕ, ◌+◌, ◌-◌, ◌*◌, ◌/◌, ◌<◌, ◌≤◌, List, [], ◌++◌, length, get_or, drop, refl, sym, ap, add-one, arith, length-append, rules}
+use Rattle.std.proofs.Common.{◌≡◌, ◌∙◌, ℕ, ◌+◌, ◌-◌, ◌*◌, ◌/◌, ◌<◌, ◌≤◌, List, [], ◌++◌, length, get_or, drop, refl, sym, ap, add-one, arith, length-append}
 use Rattle.std.proofs.Math.Seq.{drop-cons}
 use Rattle.std.proofs.lemmas.List.{append-nil, drop_all}
 use Rattle.std.proofs.lemmas.List.Sums.{sum_by-append}
-use Rattle.flash_device.specs.Device.{Device}
 use Rattle.flash_map.specs.declared.areas.NumberedArea.{NumberedArea}
 use Rattle.check_findings.specs.declared.image.finding.ImageFinding.{ImageFinding}
 use Rattle.check_findings.specs.ImageFindings.{region_area, region_areas, sum_sizes}
@@ -11,7 +10,7 @@ use Rattle.check_changes.specs.declared.images.Images.{Images}
 use Rattle.check_changes.specs.declared.regions.change.RegionChange.{RegionChange}
 use Rattle.check_changes.specs.Images.{HasReadBoth, OnBoth, lengths}
 use Rattle.check_changes.specs.Regions.{region_changes_in, region_changes}
-use Rattle.check_changes.proofs.ImageLemmas.{both-none, both-then, both-within, OnBoth-before}
+use Rattle.check_changes.proofs.ImageLemmas.{both-then, both-within, OnBoth-before}
 
 module _ {F G : Type 0} (olds : List NumberedArea) (findings : List ImageFinding) where
   -- the changes of the first i findings are listed, with `left` bytes of the old image for comparisons

@@ -1,5 +1,5 @@
 -- Changes of components. This project defines their choice and order.
-use Rattle.std.specs.Prelude.{ℕ, Bool, not, false, ◌&&◌, List, [], ◌∷◌, ◌++◌, length, slice_range, map, is_none, Option, Some, None, ◌==◌, if◌then◌else◌}
+use Rattle.std.specs.Prelude.{ℕ, Bool, not, false, ◌&&◌, List, [], ◌∷◌, ◌++◌, length, slice_range, map, is_none, Option, Some, ◌==◌, if◌then◌else◌}
 use Rattle.std.specs.Bool.{then_some}
 use Rattle.std.specs.List.{find, flat_map}
 use Rattle.std.specs.Option.{option_map_or, option_to_list}
@@ -16,6 +16,7 @@ use Rattle.check_changes.specs.declared.components.change.ComponentDifference.{C
 use Rattle.check_changes.specs.declared.components.change.ComponentDifference.TheVariants.{Added, Removed, «Type», Length, Content, Attributes, MovedFrom}
 use Rattle.check_changes.specs.declared.components.change.ComponentChange.{ComponentChange}
 use Rattle.check_changes.specs.declared.components.listing.Listed.{Listed}
+use Rattle.check_changes.specs.declared.images.Both.{Both}
 
 -- a component by its name and cell
 abbrev pub listed_of : Component → Listed
@@ -44,30 +45,25 @@ difference x y old new = if not (old.head.kind == new.head.kind) then Some «Typ
     else (if not (bytes_eq (content_at x old) (content_at y new)) then Some Content
     else then_some (not (bytes_eq (attributes_at x old) (attributes_at y new))) Attributes))
 
--- the differences from the first old namesake, if any
-abbrev pub differences : List ℕ → List ℕ → Option Listed → Listed → List ComponentDifference
-differences x y None new = Added ∷ []
-differences x y (Some old) new = option_to_list (difference x y old.cell new.cell)
-    ++ if_changed old.cell.at new.cell.at MovedFrom
-
 abbrev pub component_change : Listed → ComponentDifference → ComponentChange
 component_change l what = record { at = l.cell.at; name = l.name; what = what }
 
--- the changes of a new component, if no namesake precedes it
-abbrev pub new_changes : List ℕ → List ℕ → List Listed → List Listed → Listed → List ComponentChange
-new_changes x y old new l = if is_first_of new l
-    then map (component_change l) (differences x y (first_of l.name old) l) else []
+-- the changes of a new component from its first old namesake, if no namesake precedes it
+abbrev pub new_changes : List ℕ → List ℕ → Both (List Listed) → Listed → List ComponentChange
+new_changes x y lists l = if is_first_of lists.new l then map (component_change l)
+    (option_map_or (λ old. option_to_list (difference x y old.cell l.cell)
+    ++ if_changed old.cell.at l.cell.at MovedFrom) (first_of l.name lists.old) (Added ∷ [])) else []
 
 -- the removal of an old component without a new namesake
-abbrev pub removal_of : List Listed → List Listed → Listed → List ComponentChange
-removal_of old new l =
-    only_if (is_none (first_of l.name new) && is_first_of old l) (component_change l Removed)
+abbrev pub removal_of : Both (List Listed) → Listed → List ComponentChange
+removal_of lists l = only_if
+    (is_none (first_of l.name lists.new) && is_first_of lists.old l) (component_change l Removed)
 
 -- changes in the order of the new region, then removals in the order of the old region
-unfoldable pub changes_between : List ℕ → List ℕ → List Listed → List Listed → List ComponentChange
-changes_between x y old new =
-    flat_map (new_changes x y old new) new ++ flat_map (removal_of old new) old
+unfoldable pub changes_between : List ℕ → List ℕ → Both (List Listed) → List ComponentChange
+changes_between x y lists =
+    flat_map (new_changes x y lists) lists.new ++ flat_map (removal_of lists) lists.old
 
 -- the changes from region x to region y
 abbrev pub component_changes : List ℕ → List ℕ → List ComponentChange
-component_changes x y = changes_between x y (listed_in x) (listed_in y)
+component_changes x y = changes_between x y (record { old = listed_in x; new = listed_in y })

@@ -1,6 +1,6 @@
 -- Two images on two devices, and the faults of a comparison.
 use Rattle.std.specs.Prelude.{ℕ, ◌+◌, ◌≤◌, List, Result, length}
-use Rattle.flash_device.specs.Device.{Device, fault_count}
+use Rattle.flash_device.specs.Device.{fault_count}
 use Rattle.flash_device.specs.Pages.{HasRead, OnHonest}
 use Rattle.flash_device.specs.Regions.{Range, LiesOn, bytes_in}
 use Rattle.flash_map.specs.declared.fault.CheckFault.{CheckFault}

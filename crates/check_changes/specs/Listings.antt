@@ -7,7 +7,6 @@ use Rattle.std.specs.Str.{bytes_eq}
 use Rattle.std.specs.declared.alloc.Global.{Global}
 use Rattle.flash_format.specs.Components.{cell_name}
 use Rattle.flash_format.specs.Head.{is_free}
-use Rattle.flash_device.specs.Device.{Device}
 use Rattle.flash_device.specs.Pages.{Pages, OnHonestIn}
 use Rattle.flash_device.specs.Regions.{Range}
 use Rattle.cbfs_walk.specs.Cells.{IsCellIn}

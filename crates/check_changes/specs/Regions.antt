@@ -7,6 +7,7 @@ use Rattle.check_findings.specs.ImageFindings.{region_areas}
 use Rattle.check_findings.specs.Lists.{only_if}
 use Rattle.check_changes.specs.declared.areas.pairs.AreaPair.{AreaPair}
 use Rattle.check_changes.specs.declared.components.first.Listing.{Listing}
+use Rattle.check_changes.specs.declared.components.listing.Listed.{Listed}
 use Rattle.check_changes.specs.declared.images.Both.{Both}
 use Rattle.check_changes.specs.declared.regions.change.RegionChange.{RegionChange}
 use Rattle.check_changes.specs.declared.regions.change.RegionChange.TheVariants.{Compared, NotCompared}
@@ -16,6 +17,9 @@ use Rattle.check_changes.specs.Images.{lengths_of}
 
 abbrev pub listed_regions : Both Listing → Both Range
 listed_regions lists = record { old = lists.old.region; new = lists.new.region }
+
+abbrev pub lists_of : Both Listing → Both (List Listed)
+lists_of lists = record { old = lists.old.all.now; new = lists.new.all.now }
 
 -- the changes of an area's components from an old namesake, by the compared regions
 abbrev pub changes_of : List ℕ → List ℕ → AreaPair → Option (Both Range) → List RegionChange

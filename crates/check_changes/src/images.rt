@@ -1,5 +1,5 @@
 //! The two images.
-ghost use Rattle.std.specs.Prelude.{◌≡◌, ◌+◌, ◌*◌, ◌^◌, ◌<◌, ◌≤◌, Some, IfSome};
+ghost use Rattle.std.specs.Prelude.{◌≡◌, ◌+◌, ◌*◌, ◌^◌, ◌<◌, ◌≤◌, min, Some, IfSome};
 ghost use Rattle.check_changes.specs.Areas.{compared, left_after};
 ghost use Rattle.check_changes.specs.Blocks.{differs};
 ghost use Rattle.check_changes.specs.Images.{HasCompared, LieOn, OnBothIn, lengths};
@@ -22,25 +22,10 @@ pub type Lengths = Both<u64>;
 /// Two compared regions, one of each image.
 pub type RegionPair = Both<Region>;
 
-pub fn whole(lens: Lengths) -> RegionPair
-    ensures { result ≡ record {
-      old = record { start = 0; size = lens.old };
-      new = record { start = 0; size = lens.new };
-    } }
-{
-    let old = Region::within(0, lens.old, lens.old);
-    let new = Region::within(0, lens.new, lens.new);
-    match (old, new) {
-        (Some(old), Some(new)) => RegionPair { old, new },
-        _ => unreachable!(),
-    }
-}
-
 /// Returns the regions, if the old one has at most `left` bytes, and subtracts its size.
 pub fn taken(left: &mut u64, regions: Option<RegionPair>) -> Option<RegionPair>
     ensures regions { result ≡ compared left.old regions }
     ensures left { left.new ≡ left_after left.old regions }
-    ensures fewer { left.new ≤ left.old }
     ensures given { IfSome result (λ r. (regions ≡ Some r) × (left.new + r.old.size ≡ left.old)) }
 {
     let regions = regions?;
@@ -74,8 +59,7 @@ impl<F: Flash, G: Flash> Images<F, G> {
     /// Returns whether the blocks with this number differ; they may begin at the ends.
     pub fn is_different(&mut self, regions: RegionPair, number: u64) -> Result<bool, ChangeFault>
         requires regions { LieOn self.old regions }
-        requires old_begins { 4096 * number ≤ regions.old.size }
-        requires new_begins { 4096 * number ≤ regions.new.size }
+        requires begins { 4096 * number ≤ min regions.old.size regions.new.size }
 
         ensures after { HasCompared 1 self.old self.new result }
         ensures different { OnBothIn self.old regions (λ x y. Returns result (differs x y number)) }

@@ -4,6 +4,7 @@ use Rattle.std.specs.Prelude.{[], ◌∷◌, ◌++◌, filter, length, map, is_n
 use Rattle.std.specs.Prelude.{◌==◌, if◌then◌else◌}
 use Rattle.std.specs.List.{enumerate_from, find, flat_map, list_any, scan, sum_by}
 use Rattle.std.specs.Option.{option_map_or}
+use Rattle.std.specs.Borrow.{Bor}
 use Rattle.std.specs.Ordering.{nat_cmp}
 use Rattle.std.specs.Str.{bytes_eq}
 use Rattle.std.specs.Cmp.Lexicographic.{slice_cmp}
@@ -27,6 +28,9 @@ range_of a = record { start = a.area.offset; size = a.area.size }
 
 abbrev pub bytes_of : List ℕ → NumberedArea → List ℕ
 bytes_of image a = bytes_in (range_of a) image
+
+abbrev pub names_in : List (Bor (List ℕ)) → List (List ℕ)
+names_in names = map (λ n. n.now) names
 
 -- the area has a name of the list
 abbrev pub has_one_of : List (List ℕ) → NumberedArea → Bool
@@ -76,9 +80,8 @@ missing_name areas n = only_if (is_none (find (has_name n.1) areas)) (NoArea n.0
 
 -- of the map, regions, and names without an area
 unfoldable pub image_findings : List ℕ → List (List ℕ) → List (List ℕ) → List ImageFinding
-image_findings image names expected =
-    let areas = image_areas image in let all = expected_names names expected in
-    map Map (map_findings image)
+image_findings image names expected = let areas = image_areas image in
+    let all = expected_names names expected in map Map (map_findings image)
     ++ areas_findings image all (2 * length image) (wanted_areas image all areas)
     ++ flat_map (missing_name areas) (enumerate_from 0 names)
 
@@ -94,7 +97,7 @@ region_areas findings = flat_map region_area findings
 abbrev pub sum_sizes : List NumberedArea → ℕ
 sum_sizes areas = sum_by (λ (a : NumberedArea). a.area.size) areas
 
--- at most `most` areas lie inside an image of n bytes, and leave `left` of 2n bytes
+-- at most `most` areas, inside an image of n bytes; they leave `left` of 2n bytes
 pub record AreChecked (n most left : ℕ) (areas : List NumberedArea) : Type 0 where
   pub count : length areas ≤ most
   pub inside : All (λ a. area_end a.area ≤ n) areas

@@ -1,6 +1,6 @@
 -- Laws about findings.
 use Rattle.std.specs.Prelude.{◌≡◌, ◌≢◌, Bool, true, false, ℕ, ◌+◌, ◌<◌, ◌≤◌, ◌⊎◌, All, Contains}
-use Rattle.std.specs.Prelude.{IsSomeAnd, List, length, None, Ok, Some}
+use Rattle.std.specs.Prelude.{IsOkAnd, IsSomeAnd, List, length, None, Ok, Some}
 use Rattle.std.specs.List.{find, list_any}
 use Rattle.std.specs.Str.{is_utf8}
 use lib.Chars.{codes}
@@ -81,9 +81,7 @@ InFitImages P = (needs : Bool) (image : List ℕ) (names expected : List (List �
     list_any (is_bad needs) all ≡ false → All (P image) (region_areas all)
 
 -- a search in the first checked area of the name finds the component at the position
-pub record IsMet (image : List ℕ) (areas : List NumberedArea) (wish : Wish) : Type 0 where
-  pub area : NumberedArea
-  pub named : find (has_name wish.area) areas ≡ Some area
-  pub component : Component
-  pub found : component_in (bytes_of image area) wish.name ≡ Ok (Some component)
-  pub placed : is_met wish.place (component_content component) area.area.size ≡ true
+abbrev pub IsMet : List ℕ → List NumberedArea → Wish → Type 0
+IsMet image areas wish = IsSomeAnd (find (has_name wish.area) areas)
+    (λ a. IsOkAnd (component_in (bytes_of image a) wish.name) (λ found. IsSomeAnd found
+    (λ c. is_met wish.place (component_content c) a.area.size ≡ true)))

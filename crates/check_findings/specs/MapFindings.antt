@@ -55,15 +55,16 @@ abbrev pub holds_map : FoundMap → NumberedArea → Bool
 holds_map m a = nat_le a.area.offset m.at && nat_le (m.at + map_len m.head) (area_end a.area)
 
 -- of the first area `FMAP`, if any
-abbrev pub map_area_findings : FoundMap → Option NumberedArea → List MapFinding
-map_area_findings map a = only_if (not (option_map_or (holds_map map) a false)) (MapAreaMisses a)
+abbrev pub map_area_findings : FoundMap → List NumberedArea → List MapFinding
+map_area_findings map areas = let area = find (has_name (codes "FMAP")) areas in
+    only_if (not (option_map_or (holds_map map) area false)) (MapAreaMisses area)
 
 -- of a map, the next map and the areas, in an image of n bytes
 abbrev pub findings_of : ℕ → FoundMap → Option FoundMap → List NumberedArea → List MapFinding
 findings_of n map next areas = Map map
     ∷ option_to_list (option_map OtherMap next) ++ only_if (not (map.head.size == n)) OtherSize
     ++ flat_map (area_findings n) areas ++ flat_map (name_findings areas) areas
-    ++ overlap_findings areas ++ map_area_findings map (find (has_name (codes "FMAP")) areas)
+    ++ overlap_findings areas ++ map_area_findings map areas
 
 unfoldable pub map_findings : List ℕ → List MapFinding
 map_findings image = option_map_or (λ (map : FoundMap). findings_of (length image) map

@@ -1,7 +1,9 @@
 -- Required components.
-use Rattle.std.specs.Prelude.{ℕ, ◌+◌, ◌==◌, Bool, true, List, [], ◌∷◌, Option, Some, None}
+use Rattle.std.specs.Prelude.{ℕ, ◌+◌, ◌==◌, Bool, not, true, List, [], ◌∷◌, Option, Some, None}
 use Rattle.std.specs.Prelude.{if◌then◌else◌}
+use Rattle.std.specs.Bool.{then_some}
 use Rattle.std.specs.List.{filter_map, slice_get}
+use Rattle.std.specs.Option.{option_map_or}
 use Rattle.std.specs.Str.{bytes_eq}
 use Rattle.flash_format.specs.Flashmap.{is_area}
 use Rattle.check_findings.specs.declared.region.finding.Content.{Content}
@@ -38,14 +40,10 @@ content_named name _ = None
 abbrev pub first_content : List ℕ → List RegionFinding → Option Content
 first_content name findings = slice_get (filter_map (content_named name) findings) 0
 
--- the reason if the content doesn't meet the need, in an area of this size
-abbrev pub unmet_by : NeededPlace → ℕ → Option Content → Option NeedFinding
-unmet_by place size None = Some Missing
-unmet_by place size (Some c) = if is_met place c size then None else Some (Elsewhere c.start)
-
 -- the reason if the findings don't meet the need, by the first area of this name
 abbrev pub unmet : List ImageFinding → Wish → Option NeedFinding
 unmet [] wish = Some Missing
-unmet (Region a all ∷ findings) wish = if is_area wish.area a.area
-    then unmet_by wish.place a.area.size (first_content wish.name all) else unmet findings wish
+unmet (Region a all ∷ findings) wish = if is_area wish.area a.area then option_map_or
+    (λ c. then_some (not (is_met wish.place c a.area.size)) (Elsewhere c.start))
+    (first_content wish.name all) (Some Missing) else unmet findings wish
 unmet (_ ∷ findings) wish = unmet findings wish

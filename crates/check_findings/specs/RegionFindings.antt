@@ -1,8 +1,7 @@
 -- Findings of a region.
-use Rattle.std.specs.Prelude.{ℕ, ◌+◌, ◌-◌, ◌*◌, ◌/◌, Bool, true, false, not, ◌||◌}
+use Rattle.std.specs.Prelude.{ℕ, ◌+◌, ◌-◌, ◌*◌, ◌/◌, Bool, false, not, ◌||◌}
 use Rattle.std.specs.Prelude.{List, [], ◌∷◌, ◌++◌, drop, filter, length, map, max, slice_range}
-use Rattle.std.specs.Prelude.{slice_index_or, slice_set}
-use Rattle.std.specs.Prelude.{Some, None, nat_le, is_some, ◌==◌, if◌then◌else◌}
+use Rattle.std.specs.Prelude.{Option, Some, None, nat_le, is_some, ◌==◌, if◌then◌else◌}
 use Rattle.std.specs.List.{flat_map, list_any, position_from, range_with_len, scan, sum_by}
 use Rattle.std.specs.Option.{option_map_or}
 use Rattle.std.specs.Str.{bytes_eq}
@@ -26,6 +25,7 @@ use Rattle.check_findings.specs.declared.region.finding.HashFinding.TheVariants 
 use Rattle.check_findings.specs.declared.region.finding.RegionFinding.{RegionFinding}
 use Rattle.check_findings.specs.declared.region.finding.RegionFinding.TheVariants as findings
 use Rattle.check_findings.specs.declared.region.finding.RegionFinding.TheVariants.{Component as Found}
+use Rattle.check_findings.specs.declared.region.finding.RegionFinding.TheVariants.{Deleted}
 use Rattle.check_findings.specs.declared.region.count.Count.{Count}
 
 abbrev pub hash_finding : HashState → HashFinding
@@ -44,8 +44,7 @@ component_finding shadowed c = Found c.at c.name shadowed (component_content c)
 
 -- of an entry; an empty entry of type 0 is a deleted component
 abbrev pub cell_findings : ℕ → List ℕ → List RegionFinding
-cell_findings at x =
-    if is_free (head_of x) then only_if ((head_of x).kind == 0) (findings.Deleted at)
+cell_findings at x = if is_free (head_of x) then only_if ((head_of x).kind == 0) (Deleted at)
     else component_finding false (component_at at x) ∷ []
 
 -- of entries from this offset on
@@ -65,6 +64,10 @@ is_filled b = not (b == 0xff || b == 0x00)
 abbrev pub tail_bytes : ℕ → List ℕ → List ℕ
 tail_bytes at x = slice_range x at (length x - 4)
 
+-- the offset of the tail's first filled byte
+abbrev pub first_filled : ℕ → List ℕ → Option ℕ
+first_filled at x = position_from is_filled at (tail_bytes at x)
+
 -- of the entries at n offsets in steps of 64
 abbrev pub entries_findings : ℕ → ℕ → List ℕ → List RegionFinding
 entries_findings n at x = map findings.TailEntry
@@ -73,8 +76,7 @@ entries_findings n at x = map findings.TailEntry
 -- of the tail, its first filled byte, and entries; a blank tail has no entries
 unfoldable pub tail_findings : ℕ → List ℕ → List RegionFinding
 tail_findings at x = findings.Tail at ∷ option_map_or (λ place. findings.TailFilled place
-    ∷ entries_findings ((length x - at) / 64) at x)
-    (position_from is_filled at (tail_bytes at x)) []
+    ∷ entries_findings ((length x - at) / 64) at x) (first_filled at x) []
 
 -- of the end of the entries
 abbrev pub end_findings : List ℕ → ℕ → End → List RegionFinding
@@ -140,15 +142,6 @@ marked earlier other = other
 
 unfoldable pub all_marked : List RegionFinding → List RegionFinding → List RegionFinding
 all_marked earlier all = scan (λ earlier finding. finding ∷ earlier) marked earlier all
-
--- with a mark
-abbrev pub shadowed : RegionFinding → RegionFinding
-shadowed (Found at name is content) = Found at name true content
-shadowed other = other
-
--- the component at this index is marked
-abbrev pub mark_at : List RegionFinding → ℕ → List RegionFinding
-mark_at all i = slice_set all i (shadowed (slice_index_or all i findings.NotCbfs))
 
 -- of the walk, with marks
 unfoldable pub region_findings : List ℕ → List RegionFinding

@@ -1,6 +1,6 @@
 //! Lists.
-ghost use Rattle.std.specs.Prelude.{◌≡◌, [], ◌∷◌, ◌++◌, OnOk};
-ghost use Rattle.check_findings.specs.Lists.{only_if};
+ghost use Rattle.std.specs.Prelude.{◌≡◌, [], ◌∷◌};
+ghost use Rattle.check_findings.specs.Lists.{Gains, only_if};
 
 use std::alloc::AllocError;
 use std::marker::Model;
@@ -8,14 +8,14 @@ use std::marker::Model;
 pub type Pushed = Result<(), AllocError>;
 
 pub fn push<T: Drop>(list: &mut Vec<T>, element: T) -> Pushed
-    ensures { OnOk result (list.new.items ≡ list.old.items ++ element ∷ []) }
+    ensures { Gains list.old list.new result (element ∷ []) }
 {
     list.push(element)?;
     Ok(())
 }
 
 pub fn push_if<T: Drop>(list: &mut Vec<T>, condition: bool, element: T) -> Pushed
-    ensures { OnOk result (list.new.items ≡ list.old.items ++ only_if condition element) }
+    ensures { Gains list.old list.new result (only_if condition element) }
 {
     if condition {
         list.push(element)?;

@@ -1,7 +1,6 @@
 -- The changes of areas, in order.
 use Rattle.std.proofs.Common.{◌≡◌, ◌∙◌, ℕ, ◌+◌, ◌<◌, ◌≤◌, List, [], ◌++◌, length, drop, get_or, map, refl, sym, ap, add-one, append_assoc}
 use Rattle.std.specs.List.{flat_map}
-use Rattle.flash_device.specs.Device.{Device}
 use Rattle.check_changes.specs.declared.areas.change.AreaChange.{AreaChange}
 use Rattle.check_changes.specs.declared.areas.pairs.AreaPair.{AreaPair}
 use Rattle.check_changes.specs.declared.images.Images.{Images}

@@ -5,7 +5,6 @@ use Rattle.std.proofs.lemmas.List.Elements.{All-get_or}
 use Rattle.std.proofs.Math.Seq.{take-suc}
 use Rattle.std.proofs.lemmas.List.Sums.{sum_by-append, sum_by-take-le}
 use Rattle.flash_format.specs.Entry.{name_end}
-use Rattle.flash_device.specs.Device.{Device}
 use Rattle.cbfs_walk.proofs.Checks.{checks_give}
 use Rattle.check_changes.specs.declared.components.listing.Listed.{Listed}
 use Rattle.check_changes.specs.declared.images.Images.{Images}

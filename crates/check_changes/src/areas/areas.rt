@@ -1,5 +1,6 @@
 //! The changes between areas.
-ghost use Rattle.std.specs.Prelude.{◌≡◌, ◌+◌, ◌-◌, ◌*◌, ◌/◌, ◌≤◌, ◌++◌, length, map, IfOk, OnOk};
+ghost use Rattle.std.specs.Prelude.{◌≡◌, ◌+◌, ◌-◌, ◌*◌, ◌/◌, length, map, IfOk};
+ghost use Rattle.check_findings.specs.Lists.{Gains};
 ghost use Rattle.check_changes.specs.Areas.{area_change, area_changes, area_changes_in, compared};
 ghost use Rattle.check_changes.specs.Areas.{content_differences, entry_differences, left_after};
 ghost use Rattle.check_changes.specs.Areas.{same_size_regions};
@@ -12,18 +13,18 @@ use crate::areas::change::{AreaChange, AreaDifference};
 use crate::areas::names::{NamedAreas, NamedBoth};
 use crate::areas::pairs::{AreaPair, pairs, push_gone};
 use crate::fault::ChangeFault;
-use crate::images::{Both, Images, taken, whole};
+use crate::images::{Both, Images, RegionPair, taken};
 use check_findings::{push, push_if};
 use flash_device::Flash;
-use flash_map::NumberedArea;
+use flash_map::{NumberedArea, Region};
 use std::alloc::{AllocError, Global};
 
 /// The limit of compared bytes, in lengths of the new image: 65535 areas may each have its length.
 const MOST_TIMES: u64 = 8;
 
 fn push_entry_changes(changes: &mut Vec<AreaChange>, pair: AreaPair) -> Result<(), AllocError>
-    ensures { OnOk result (changes.new.items ≡ changes.old.items
-        ++ map (area_change pair.new) (entry_differences pair.old pair.new)) }
+    ensures { Gains changes.old changes.new result
+        (map (area_change pair.new) (entry_differences pair.old pair.new)) }
 {
     let area = pair.new;
     let Some(old) = pair.old else {
@@ -49,10 +50,9 @@ fn push_content_changes<F: Flash, G: Flash>(
     ensures after { HasCompared (blocks_of (left.old - left.new)) images.old images.new result }
     ensures left { left.new ≡ left_after left.old
         (same_size_regions (lengths images.old) pair.now) }
-    ensures fewer { left.new ≤ left.old }
-    ensures changes { OnBoth images.old (λ x y. OnOk result (changes.new.items
-        ≡ changes.old.items ++ map (area_change pair.now.new) (content_differences x y pairs.now
-        pair.now (compared left.old (same_size_regions (lengths_of x y) pair.now))))) }
+    ensures changes { OnBoth images.old (λ x y. Gains changes.old changes.new result
+        (map (area_change pair.now.new) (content_differences x y pairs.now pair.now
+        (compared left.old (same_size_regions (lengths_of x y) pair.now))))) }
 {
     let area = pair.new;
     let Some(regions) = taken(left, pair.same_size_regions(images.lengths())) else {
@@ -72,8 +72,8 @@ fn push_changes<F: Flash, G: Flash>(
 ) -> Result<(), ChangeFault>
     ensures after { HasCompared
         (8 * (lengths images.old).new / 4096 + length pairs.now) images.old images.new result }
-    ensures changes { OnBoth images.old (λ x y. OnOk result (changes.new.items
-        ≡ changes.old.items ++ area_changes_in x y pairs.now (8 * length y) pairs.now)) }
+    ensures changes { OnBoth images.old (λ x y. Gains changes.old changes.new result
+        (area_changes_in x y pairs.now (8 * length y) pairs.now)) }
 {
     let mut left = MOST_TIMES * images.lengths().new;
     for pair in pairs {
@@ -90,8 +90,12 @@ fn different_blocks<F: Flash, G: Flash>(images: &mut Images<F, G>) -> Result<u32
     let lens = images.lengths();
     let shorter = blocks_of(lens.old.min(lens.new));
     let longer = blocks_of(lens.old.max(lens.new));
-    let whole = whole(lens);
-    let common = different_in(images, &whole, &[], shorter)?;
+    let old = Region::within(0, lens.old, lens.old);
+    let new = Region::within(0, lens.new, lens.new);
+    let (Some(old), Some(new)) = (old, new) else {
+        unreachable!()
+    };
+    let common = different_in(images, &RegionPair { old, new }, &[], shorter)?;
     Ok((longer - shorter) as u32 + common.blocks)
 }
 

@@ -1,5 +1,5 @@
 //! Counts of different blocks.
-ghost use Rattle.std.specs.Prelude.{◌≡◌, ◌^◌, ◌≤◌, IfOk};
+ghost use Rattle.std.specs.Prelude.{◌≡◌, ◌^◌, ◌≤◌, min, IfOk};
 ghost use Rattle.check_changes.specs.Areas.{is_difference, is_own_difference};
 ghost use Rattle.check_changes.specs.Blocks.{blocks_of, count_below};
 ghost use Rattle.check_changes.specs.Images.{HasCompared, LieOn, OnBoth};
@@ -31,8 +31,7 @@ pub fn different_in<F: Flash, G: Flash>(
     len: u64,
 ) -> Result<Differing, ChangeFault>
     requires regions { LieOn images.old regions.now }
-    requires old_begin { len ≤ blocks_of regions.now.old.size }
-    requires new_begin { len ≤ blocks_of regions.now.new.size }
+    requires begin { len ≤ blocks_of (min regions.now.old.size regions.now.new.size) }
 
     ensures after { HasCompared len images.old images.new result }
     ensures few { IfOk result (λ n. n.blocks ≤ len) }

@@ -1,7 +1,8 @@
 //! Pairs of areas.
-ghost use Rattle.std.specs.Prelude.{◌≡◌, ◌+◌, ◌*◌, ◌<◌, ◌≤◌, ◌++◌, ◌^◌, false, length, IfSome, IfOk, OnOk};
+ghost use Rattle.std.specs.Prelude.{◌≡◌, ◌+◌, ◌*◌, ◌<◌, ◌≤◌, ◌^◌, false, length, IfSome, IfOk};
 ghost use Rattle.std.specs.List.{flat_map};
 ghost use Rattle.std.specs.Option.{option_map_or};
+ghost use Rattle.check_findings.specs.Lists.{Gains};
 ghost use Rattle.check_changes.specs.Areas.{pairs, gone_of, has_block, is_held, is_same_size};
 ghost use Rattle.check_changes.specs.Areas.{regions_of, same_size_regions};
 ghost use Rattle.check_changes.specs.Images.{LieWithin};
@@ -100,8 +101,8 @@ pub fn pairs<'a>(alloc: Global, areas: &NamedBoth<'a>) -> Result<Vec<AreaPair>, 
 
 /// Pushes the old areas without a new namesake, the first of each name.
 pub fn push_gone<'a>(changes: &mut Vec<AreaChange>, areas: &NamedBoth<'a>) -> Result<(), AllocError>
-    ensures { OnOk result (changes.new.items ≡ changes.old.items
-        ++ flat_map (gone_of areas.now.old.all.now areas.now.new.all.now) areas.now.old.all.now) }
+    ensures { Gains changes.old changes.new result
+        (flat_map (gone_of areas.now.old.all.now areas.now.new.all.now) areas.now.old.all.now) }
 {
     for area in areas.old.all {
         let is_gone = areas.old.is_first(area) && areas.new.namesake(area).is_none();

@@ -1,11 +1,12 @@
 //! The changes between two regions.
-ghost use Rattle.std.specs.Prelude.{◌≡◌, ◌++◌, ◌∷◌, [], ◌+◌, ◌/◌, All, map, OnOk, option_to_list};
+ghost use Rattle.std.specs.Prelude.{◌≡◌, ◌++◌, ◌∷◌, [], ◌+◌, ◌/◌, All, map, option_to_list};
 ghost use Rattle.std.specs.List.{flat_map};
 ghost use Rattle.check_changes.specs.Areas.{if_changed};
 ghost use Rattle.check_changes.specs.Components.{changes_between, component_change};
 ghost use Rattle.check_changes.specs.Components.{component_changes, new_changes, removal_of};
 ghost use Rattle.check_changes.specs.Listings.{IsListedIn, spans};
-ghost use Rattle.check_changes.specs.Regions.{listed_regions};
+ghost use Rattle.check_findings.specs.Lists.{Gains};
+ghost use Rattle.check_changes.specs.Regions.{listed_regions, lists_of};
 ghost use Rattle.check_changes.specs.Images.{HasCompared, HasReadFor, LieOn, OnBothIn};
 ghost use Rattle.check_changes.specs.declared.components.change.ComponentDifference.TheVariants.{MovedFrom};
 ghost use Rattle.flash_device.specs.Pages.{Lists};
@@ -29,8 +30,7 @@ fn push_change(
     listed: &Listed,
     what: ComponentDifference,
 ) -> Result<(), AllocError>
-    ensures { OnOk result (changes.new.items
-        ≡ changes.old.items ++ component_change listed.now what ∷ []) }
+    ensures { Gains changes.old changes.new result (component_change listed.now what ∷ []) }
 {
     let (at, name) = (listed.cell.at, listed.copied_name(alloc)?);
     push(changes, ComponentChange { at, name, what })
@@ -44,8 +44,7 @@ fn push_pair(
     listed: &Listed,
     what: Option<ComponentDifference>,
 ) -> Result<(), AllocError>
-    ensures { OnOk result (changes.new.items ≡ changes.old.items
-        ++ map (component_change listed.now)
+    ensures { Gains changes.old changes.new result (map (component_change listed.now)
         (option_to_list what ++ if_changed old listed.now.cell.at MovedFrom)) }
 {
     if let Some(what) = what {
@@ -70,8 +69,7 @@ fn push_changes_of<'a, F: Flash, G: Flash>(
 
     ensures after { HasCompared (2 + listed.now.cell.span / 4096) images.old images.new result }
     ensures changes { OnBothIn images.old (listed_regions lists.now)
-        (λ x y. OnOk result (changes.new.items ≡ changes.old.items
-        ++ new_changes x y lists.now.old.all.now lists.now.new.all.now listed.now)) }
+        (λ x y. Gains changes.old changes.new result (new_changes x y (lists_of lists.now) listed.now)) }
 {
     if !lists.new.is_first(listed) {
         return Ok(());
@@ -97,8 +95,8 @@ fn push_changes<'a, F: Flash, G: Flash>(
 
     ensures after { HasCompared (spans lists.now.new.all.now / 24) images.old images.new result }
     ensures changes { OnBothIn images.old (listed_regions lists.now)
-        (λ x y. OnOk result (changes.new.items ≡ changes.old.items ++ flat_map
-        (new_changes x y lists.now.old.all.now lists.now.new.all.now) lists.now.new.all.now)) }
+        (λ x y. Gains changes.old changes.new result
+        (flat_map (new_changes x y (lists_of lists.now)) lists.now.new.all.now)) }
 {
     for listed in lists.new.all {
         push_changes_of(alloc, changes, images, lists, listed)?;
@@ -106,32 +104,19 @@ fn push_changes<'a, F: Flash, G: Flash>(
     Ok(())
 }
 
-/// Pushes an old component, the first of its name, if the new region lacks the name.
-fn push_if_removed<'a>(
-    alloc: Global,
-    changes: &mut Vec<ComponentChange>,
-    lists: &Listings<'a>,
-    listed: &'a Listed,
-) -> Result<(), AllocError>
-    ensures { OnOk result (changes.new.items ≡ changes.old.items
-        ++ removal_of lists.now.old.all.now lists.now.new.all.now listed.now) }
-{
-    if lists.new.namesake(listed).is_none() && lists.old.is_first(listed) {
-        push_change(alloc, changes, listed, ComponentDifference::Removed)?;
-    }
-    Ok(())
-}
-
+/// Pushes the old components, the first of each name, whose name the new region lacks.
 fn push_removed<'a>(
     alloc: Global,
     changes: &mut Vec<ComponentChange>,
     lists: &Listings<'a>,
 ) -> Result<(), AllocError>
-    ensures { OnOk result (changes.new.items ≡ changes.old.items ++ flat_map
-        (removal_of lists.now.old.all.now lists.now.new.all.now) lists.now.old.all.now) }
+    ensures { Gains changes.old changes.new result
+        (flat_map (removal_of (lists_of lists.now)) lists.now.old.all.now) }
 {
     for listed in lists.old.all {
-        push_if_removed(alloc, changes, lists, listed)?;
+        if lists.new.namesake(listed).is_none() && lists.old.is_first(listed) {
+            push_change(alloc, changes, listed, ComponentDifference::Removed)?;
+        }
     }
     Ok(())
 }
@@ -150,7 +135,7 @@ fn list_changes<'a, F: Flash, G: Flash>(
 
     ensures after { HasCompared (spans new.now / 24) images.old images.new result }
     ensures changes { OnBothIn images.old regions
-        (λ x y. Lists result (changes_between x y old.now new.now)) }
+        (λ x y. Lists result (changes_between x y (record { old = old.now; new = new.now }))) }
 {
     let lists = Listings {
         old: with_firsts(alloc, keys, regions.old, old)?,

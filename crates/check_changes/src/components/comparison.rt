@@ -1,7 +1,7 @@
 //! The comparison of components.
 ghost use Rattle.std.specs.Prelude.{◌≡◌, ◌+◌, ◌-◌, ◌/◌, ◌≤◌, ◌<◌, ◌^◌, slice_range};
 ghost use Rattle.std.specs.Str.{bytes_eq};
-ghost use Rattle.flash_format.specs.Entry.{name_end};
+ghost use Rattle.cbfs_walk.specs.Cells.{attributes_start, content_end, content_start};
 ghost use Rattle.check_changes.specs.Components.{difference};
 ghost use Rattle.check_changes.specs.Listings.{IsListedIn};
 ghost use Rattle.check_changes.specs.Images.{HasCompared, LieOn, OnBothIn};
@@ -53,18 +53,15 @@ pub fn difference<F: Flash, G: Flash>(
 
 fn content(cell: &Cell) -> Range<u64>
     requires { cell.now.at + (cell.now.head.offset + cell.now.head.len) < 2 ^ 32 }
-    ensures start { result.start ≡ cell.now.at + cell.now.head.offset }
-    ensures end { result.end ≡ cell.now.at + (cell.now.head.offset + cell.now.head.len) }
+    ensures { result ≡ record { start = content_start cell.now; end = content_end cell.now } }
 {
     let start = cell.at + u64::from(cell.head.offset);
     start..start + u64::from(cell.head.len)
 }
 
 fn attributes(cell: &Cell) -> Range<u64>
-    requires inside { cell.now.at + cell.now.head.offset < 2 ^ 32 }
-    requires order { name_end cell.now.head ≤ cell.now.head.offset }
-    ensures start { result.start ≡ cell.now.at + name_end cell.now.head }
-    ensures end { result.end ≡ cell.now.at + cell.now.head.offset }
+    requires { cell.now.at + cell.now.head.offset < 2 ^ 32 }
+    ensures { result ≡ record { start = attributes_start cell.now; end = content_start cell.now } }
 {
     let start = match cell.head.attributes_offset {
         0 => cell.head.offset,

@@ -1,5 +1,5 @@
 -- Names, in order.
-use Rattle.std.proofs.Common.{arith, ◌≡◌, cond, Some, ℕ, ◌+◌, ◌<◌, Bool, not, List, [], ◌∷◌, ◌++◌, length, map, get_or, drop, sym, append_assoc}
+use Rattle.std.proofs.Common.{arith, ◌≡◌, cond, Some, ℕ, ◌+◌, ◌<◌, Bool, not, List, [], ◌∷◌, ◌++◌, length, get_or, drop, sym, append_assoc}
 use Rattle.std.proofs.lemmas.List.{drop_more, map-append}
 use Rattle.std.specs.Prelude.{is_some}
 use Rattle.std.specs.Ordering.{nat_cmp}
@@ -17,13 +17,10 @@ use Rattle.std.proofs.lemmas.Grind.{common_steps}
 use Rattle.flash_map.specs.declared.areas.NumberedArea.{NumberedArea}
 use Rattle.check_findings.specs.declared.image.finding.ImageFinding.{ImageFinding}
 use Rattle.check_findings.specs.declared.image.finding.ImageFinding.TheVariants.{NoArea}
-use Rattle.check_findings.specs.ImageFindings.{missing_name}
+use Rattle.check_findings.specs.ImageFindings.{missing_name, names_in}
 
-abbrev pub texts : List (Bor (List ℕ)) → List (List ℕ)
-texts names = map (λ n. n.now) names
-
-pub has_more : (set : NameSet) (before : List (List ℕ)) (names : List (Bor (List ℕ))) (name : Bor (List ℕ)) → HasNames set ((before ++ texts names) ++ name.now ∷ []) → HasNames set (before ++ texts (names ++ name ∷ []))
-has_more set before names name has = rw (map-append (λ (n : Bor (List ℕ)). n.now) names (name ∷ []), sym (append_assoc before (texts names) (name.now ∷ []))) has
+pub has_more : (set : NameSet) (before : List (List ℕ)) (names : List (Bor (List ℕ))) (name : Bor (List ℕ)) → HasNames set ((before ++ names_in names) ++ name.now ∷ []) → HasNames set (before ++ names_in (names ++ name ∷ []))
+has_more set before names name has = rw (map-append (λ (n : Bor (List ℕ)). n.now) names (name ∷ []), sym (append_assoc before (names_in names) (name.now ∷ []))) has
 
 -- another name
 pub one_more : (old new : NameSet) (before : List (List ℕ)) (bs name : List ℕ) (x : Unit {0}) → UpdatesBy (λ x y. slice_cmp nat_cmp x.now y.now) (λ k. slice_cmp nat_cmp bs k.now) old.names new.names (Some x) → holds_name old name ≡ list_any (λ n. bytes_eq n name) before → holds_name new name ≡ list_any (λ n. bytes_eq n name) (before ++ bs ∷ [])
@@ -31,5 +28,5 @@ one_more old new before bs name x puts has = grind (arith, common_steps, list_an
 
 -- a finding for another name
 pub missing_more : (areas : List NumberedArea) (names : List (Bor (List ℕ))) (i : ℕ) (d : Bor (List ℕ)) (missing : Bool) (before after all : List ImageFinding) → i < length names → is_some (find (has_name (get_or names i d).now) areas) ≡ not missing
-    → after ≡ before ++ cond missing (NoArea i ∷ []) [] → before ++ flat_map (missing_name areas) (enumerate_from i (texts (drop i names))) ≡ all → after ++ flat_map (missing_name areas) (enumerate_from (i + 1) (texts (drop (i + 1) names))) ≡ all
+    → after ≡ before ++ cond missing (NoArea i ∷ []) [] → before ++ flat_map (missing_name areas) (enumerate_from i (names_in (drop i names))) ≡ all → after ++ flat_map (missing_name areas) (enumerate_from (i + 1) (names_in (drop (i + 1) names))) ≡ all
 missing_more areas names i d missing before after all lt is pushed so_far = grind (arith, common_steps, append_assoc, drop_more names i d lt, is, pushed, so_far)

@@ -14,7 +14,11 @@ use Rattle.cbfs_walk.specs.declared.walk.WalkFault.{WalkFault}
 use Rattle.cbfs_walk.specs.declared.walk.WalkFault.TheVariants as walk
 use Rattle.check_findings.specs.RegionFindings.{all_marked, cells_findings, component_content, count_findings, end_findings, marked, nothing, region_findings, shape_findings, walk_findings}
 use Rattle.flash_format.specs.Flashmap.{is_area}
-use Rattle.check_findings.specs.Needs.{Wish, content_named, first_content, unmet, unmet_by}
+use Rattle.check_findings.specs.Needs.{Wish, content_named, first_content, is_met, unmet}
+use Rattle.check_findings.specs.declared.image.needs.NeedFinding.TheVariants.{Missing, Elsewhere}
+use Rattle.std.specs.Bool.{then_some}
+use Rattle.std.specs.Option.{option_map_or}
+use Rattle.std.specs.Prelude.{not}
 use Rattle.check_findings.specs.Laws.{IsMet}
 use Rattle.check_findings.specs.ImageFindings.{areas_findings, bytes_of, expected_names, has_one_of, image_findings, left_after, missing_name, wanted_areas}
 use Rattle.check_findings.specs.ImageFindings.{region_areas}
@@ -90,11 +94,11 @@ has_content x name content is = go (shape_fault x) refl (sym (of_marks name [] (
 
 module _ (image : List ℕ) (wish : Wish) where
   met_here : (a : NumberedArea) (areas : List NumberedArea) (o : Option Content) → is_area wish.area a.area ≡ true
-      → first_content wish.name (region_findings (bytes_of image a)) ≡ o → unmet_by wish.place a.area.size o ≡ None → IsMet image (a ∷ areas) wish
+      → first_content wish.name (region_findings (bytes_of image a)) ≡ o → option_map_or (λ c. then_some (not (is_met wish.place c a.area.size)) (Elsewhere c.start)) o (Some Missing) ≡ None → IsMet image (a ∷ areas) wish
   met_here a areas None named first none = absurd cc
   met_here a areas (Some content) named first none =
       let has = has_content (bytes_of image a) wish.name content first in
-      record { area = a; named = rw named refl; component = has.0; found = has.1; placed = rw has.2 (grind (arith, common_steps, none)) }
+      rw (named, has.1, has.2) (grind (arith, common_steps, none))
 
   -- the first area with the name meets the need
   met_in : (names : List (List ℕ)) (last : List ImageFinding) → unmet last wish ≡ Some Missing → (left : ℕ) (areas : List NumberedArea)
@@ -109,7 +113,7 @@ module _ (image : List ℕ) (wish : Wish) where
           → (unmet (rest ++ last) wish ≡ None → IsMet image (region_areas rest) wish) → IsMet image (region_areas (cond checked (Region a (region_findings (bytes_of image a))) (NotChecked a (has_one_of names a)) ∷ rest)) wish
       go false named is e later = later e
       go true true is e later = met_here a (region_areas rest) (first_content wish.name (region_findings (bytes_of image a))) is refl (rw is at e)
-      go true false is e later = let m = later (rw is at e) in record { area = m.area; named = rw is m.named; component = m.component; found = m.found; placed = m.placed }
+      go true false is e later = rw is (later (rw is at e))
 
 -- findings without a region meet no need
 passed : (l rest : List ImageFinding) (wish : Wish) → region_areas l ≡ [] → unmet (l ++ rest) wish ≡ unmet rest wish

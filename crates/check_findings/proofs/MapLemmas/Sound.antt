@@ -93,7 +93,7 @@ nested areas none a b there here =
 
 -- ---- the whole map
 
-held : (map : FoundMap) (o : Option NumberedArea) → list_any every (map_area_findings map o) ≡ false → IsSomeAnd o (λ a. holds_map map a ≡ true)
+held : (map : FoundMap) (o : Option NumberedArea) → list_any every (only_if (not (option_map_or (holds_map map) o false)) (findings.MapAreaMisses o)) ≡ false → IsSomeAnd o (λ a. holds_map map a ≡ true)
 unfolding every
 held map None e = absurd cc
 held map (Some a) e = grind (arith, common_steps, e)
@@ -106,8 +106,8 @@ sound_of image map found e =
     let next = found_from (map.at + 1) image in
     let others = option_to_list (option_map findings.OtherMap next) in
     let size = only_if (not (nat_eq map.head.size n)) findings.OtherSize in
-    let rest : others ++ size ++ flat_map (area_findings n) areas ++ flat_map (name_findings areas) areas ++ overlap_findings areas ++ map_area_findings map (find (has_name (codes "FMAP")) areas) ≡ [] = ap (drop 1) e in
-    let a = none_of every _ (map_area_findings map (find (has_name (codes "FMAP")) areas)) (ap (list_any every) rest) in
+    let rest : others ++ size ++ flat_map (area_findings n) areas ++ flat_map (name_findings areas) areas ++ overlap_findings areas ++ map_area_findings map areas ≡ [] = ap (drop 1) e in
+    let a = none_of every _ (map_area_findings map areas) (ap (list_any every) rest) in
     let b = none_of every _ (overlap_findings areas) a.0 in
     let c = none_of every _ (flat_map (name_findings areas) areas) b.0 in
     let d = none_of every (others ++ size) (flat_map (area_findings n) areas) c.0 in

@@ -1,19 +1,41 @@
 -- Marks of shadowed components.
-use Rattle.std.proofs.Common.{arith, ◌≡◌, ◌∙◌, ℕ, ◌+◌, ◌≤◌, Bool, true, false, not, cond, ◌||◌, List, [], ◌∷◌, ◌++◌, length, drop, refl, sym, ap, subst, append_assoc, append-nil, length-append}
+use Rattle.std.proofs.Common.{arith, ◌≡◌, ◌∙◌, ℕ, ◌+◌, ◌≤◌, ◌<◌, get_or, Bool, true, false, not, cond, ◌||◌, List, [], ◌∷◌, ◌++◌, length, drop, refl, sym, ap, subst, append_assoc, append-nil, length-append}
 use Rattle.std.specs.Borrow.{Bor}
+use Rattle.std.proofs.Math.ListN.{set}
 use Rattle.std.specs.List.{fold, list_any}
 use Rattle.std.specs.Str.{bytes_eq}
 use Rattle.std.specs.HashSet.{HashSet, Updates}
 use Rattle.std.specs.Cmp.Lexicographic.{nat_list_eq_equiv}
 use Rattle.std.proofs.lemmas.Grind.{common_steps, fold-append}
 use Rattle.std.proofs.lemmas.List.{drop_all}
-use Rattle.check_findings.specs.RegionFindings.{all_marked, is_named, mark_at, marked, shadowed}
+use Rattle.check_findings.specs.RegionFindings.{all_marked, is_named, marked}
 use Rattle.check_findings.specs.declared.region.finding.Content.{Content}
 use Rattle.check_findings.specs.declared.region.finding.RegionFinding.{RegionFinding}
-use Rattle.check_findings.specs.declared.region.finding.RegionFinding.TheVariants.{Component}
+use Rattle.check_findings.specs.declared.region.finding.RegionFinding.TheVariants.{Component, NotCbfs}
+use Rattle.std.specs.Prelude.{slice_index_or, slice_set}
+
+-- with a mark
+abbrev pub shadowed : RegionFinding → RegionFinding
+shadowed (Component at name is content) = Component at name true content
+shadowed other = other
+
+-- the component at this index is marked
+abbrev pub mark_at : List RegionFinding → ℕ → List RegionFinding
+mark_at all i = slice_set all i (shadowed (slice_index_or all i NotCbfs))
 
 abbrev pub Key : Type 0
 Key = Bor (List ℕ)
+
+-- the mark of the finding at an index, and of none
+pub marked_here : (xs : List RegionFinding) (i : ℕ) (d : RegionFinding) → i < length xs → d ≡ get_or xs i d → set xs i (shadowed d) ≡ mark_at xs i
+marked_here xs i d lt is = grind (arith, common_steps)
+
+pub same_shadowed : (f : RegionFinding) → ((at : ℕ) (name : List ℕ) (is : Bool) (content : Content) → f ≡ Component at name is content → ⊥) → shadowed f ≡ f
+same_shadowed (Component at name is content) not = absurd (not at name is content refl)
+same_shadowed other not = refl
+
+pub marked_beyond : (xs : List RegionFinding) (i : ℕ) → length xs ≤ i → xs ≡ mark_at xs i
+marked_beyond xs i over = grind (arith, common_steps)
 
 -- the keys are the names of the earlier components, and `done` is these findings with their marks
 pub record Marking (keys : List Key) (all : List RegionFinding) (indices : List ℕ) (i : ℕ) : Type 0 where

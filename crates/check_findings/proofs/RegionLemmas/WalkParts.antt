@@ -1,7 +1,6 @@
 -- A walk that has reached an offset of a region.
 use Rattle.std.proofs.Common.{◌≡◌, ℕ, ◌+◌, ◌%◌, ◌≤◌, ◌⊎◌, inl, inr, IsTrue, List, length, None, refl, ap, ◌∙◌, arith}
 use Rattle.std.specs.Prelude.{IsErrOf}
-use Rattle.flash_device.specs.Device.{Device}
 use Rattle.flash_device.specs.Pages.{Pages, HasRead}
 use Rattle.flash_device.proofs.WindowLemmas.{HasRead-none, HasRead-then, HasRead-within}
 use Rattle.flash_device.specs.Regions.{Range, LiesOn, bytes_in}

@@ -1,10 +1,9 @@
 -- The findings so far, and of the rest of a region.
-use Rattle.std.proofs.Common.{◌≡◌, ℕ, ◌+◌, ◌*◌, ◌/◌, ◌%◌, ◌≤◌, IsTrue, Bool, true, false, List, [], ◌∷◌, ◌++◌, length, Option, Some, None, Ok, Err, refl, sym, ap, ◌∙◌, arith, append_assoc}
+use Rattle.std.proofs.Common.{◌≡◌, ℕ, ◌+◌, ◌/◌, ◌%◌, ◌≤◌, IsTrue, Bool, true, false, List, [], ◌∷◌, ◌++◌, length, Option, Some, None, Ok, Err, refl, sym, ap, ◌∙◌, arith, append_assoc}
 use Rattle.std.specs.Prelude.{IsErrOf}
 use Rattle.std.proofs.lemmas.Grind.{common_steps}
 use mathlib.Core.Path.{fun_ext}
 use Rattle.flash_format.specs.Cut.{Cut, End, after, cut}
-use Rattle.flash_device.specs.Device.{Device}
 use Rattle.flash_device.specs.Pages.{Pages, HasRead, OnHonestIn}
 use Rattle.flash_device.proofs.WindowLemmas.{HasRead-then}
 use Rattle.flash_device.specs.Regions.{Range, LiesOn, bytes_in}
@@ -114,7 +113,7 @@ module _ {F : Type 0} (r : Range) (w : Walking) (found : List RegionFinding) (co
 
   -- another cell
   pub checking_more : (c : Cell) (v : Walking) (next : List RegionFinding) (more : Count) (mid new : Pages F) (n m : ℕ) → IsCellIn w.region.size c × (c.at ≡ w.at)
-      → HasRead n 0 now mid → n ≡ reads_over c.span → HasRead m 0 mid new → m ≡ 3 + 2 * (c.span / 3840)
+      → HasRead n 0 now mid → n ≡ reads_over c.span → HasRead m 0 mid new → m ≡ 3 + c.span / 1920
       → Answers w now (Ok (steps.Cell c))
       → v ≡ record w { at = w.at + c.span; steps = w.steps + 1 }
       → more ≡ count_after count (is_free c.head) c.at c.span

@@ -9,10 +9,9 @@ ghost use Rattle.check_findings.specs.declared.image.finding.ImageFinding.TheVar
 ghost use Rattle.flash_map.specs.Faults.{by_device};
 ghost use Rattle.check_findings.specs.ImageFindings as of;
 ghost use Rattle.check_findings.specs.ImageFindings.{image_findings};
-ghost use Rattle.check_findings.specs.ImageFindings.{left_after};
-ghost use Rattle.check_findings.specs.ImageFindings.{HasNames};
+ghost use Rattle.check_findings.specs.ImageFindings.{HasNames, left_after, names_in};
 ghost use Rattle.check_findings.specs.ImageFindings.{AreChecked, region_area, region_areas};
-ghost use Rattle.check_findings.specs.ImageFindings.{sum_sizes};
+ghost use Rattle.check_findings.specs.Lists.{GivesPart};
 ghost use Rattle.flash_device.specs.Device.{call_limit};
 
 use crate::image::choice::wanted_areas;
@@ -39,8 +38,8 @@ fn area_finding<F: Flash>(
 ) -> Result<ImageFinding, CheckFault>
     requires { area_end area.area ≤ length paged.old.device.content }
 
-    ensures after
-        { HasReadBy by_device ((left.old - left.new) / 16 + 2) paged.old paged.new result }
+    ensures after { HasReadBy by_device
+        ((left.old - left.new) / 16 + 2) paged.old paged.new result }
     ensures left { left.new ≡ left_after left.old area }
     ensures area { IfOk result (λ finding. region_area finding
         ≡ (if nat_le area.area.size left.old then area ∷ [] else [])) }
@@ -119,23 +118,16 @@ pub fn check_image<F: Flash>(
 ) -> Result<CheckedImage, CheckFault>
     // On any device.
     ensures after { HasReadBy by_device (call_limit paged.old.device) paged.old paged.new result }
-    ensures total { IfOk result (λ checked. sum_sizes (region_areas checked.findings.items)
-        ≤ 2 * length paged.old.device.content) }
-    ensures inside { IfOk result (λ checked. All (λ a. area_end a.area
-        ≤ length paged.old.device.content) (region_areas checked.findings.items)) }
     ensures count { IfOk result (λ checked.
         area_len * length checked.areas.items ≤ length paged.old.device.content) }
-    ensures fits { IfOk result (λ checked. area_len * length (region_areas checked.findings.items)
-        ≤ length paged.old.device.content) }
+    ensures regions { IfOk result (λ checked. AreChecked (length paged.old.device.content)
+        (length paged.old.device.content / area_len) 0 (region_areas checked.findings.items)) }
 
     // On an honest device.
-    ensures findings { OnHonest paged.old.device (λ image. IfOk result (λ checked.
-        checked.findings.items ≡ image_findings image
-        (map (λ n. n.now) names.now) (map (λ n. n.now) expected.now))) }
-    ensures found { OnHonest paged.old.device (λ image. IfOk result (λ checked.
-        checked.found ≡ found_in image)) }
-    ensures areas { OnHonest paged.old.device (λ image. IfOk result (λ checked.
-        checked.areas.items ≡ image_areas image)) }
+    ensures findings { GivesPart paged.old result (λ checked. checked.findings.items)
+        (λ image. image_findings image (names_in names.now) (names_in expected.now)) }
+    ensures found { GivesPart paged.old result (λ checked. checked.found) found_in }
+    ensures areas { GivesPart paged.old result (λ checked. checked.areas.items) image_areas }
 {
     let map = check_map(alloc, paged)?;
     let mut findings = map_part(alloc, &map.findings)?;

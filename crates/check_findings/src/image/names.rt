@@ -1,9 +1,9 @@
 //! Expected names of areas.
-ghost use Rattle.std.specs.Prelude.{◌≡◌, [], ◌++◌, List, ℕ, map, IfOk, OnOk};
+ghost use Rattle.std.specs.Prelude.{◌≡◌, [], ◌++◌, List, ℕ, IfOk, OnOk};
 ghost use Rattle.check_findings.specs.ImageFindings.{expected_names, has_one_of};
-ghost use Rattle.check_findings.specs.ImageFindings.{missing_name};
 ghost use Rattle.std.specs.List.{enumerate_from, flat_map};
-ghost use Rattle.check_findings.specs.ImageFindings.{HasNames};
+ghost use Rattle.check_findings.specs.ImageFindings.{HasNames, missing_name, names_in};
+ghost use Rattle.check_findings.specs.Lists.{Gains};
 
 use crate::image::finding::ImageFinding;
 use crate::lists::push_if;
@@ -32,7 +32,7 @@ impl<'a> NameSet<'a> {
         expected: &[&'a [u8]],
     ) -> Result<NameSet<'a>, AllocError>
         ensures { IfOk result (λ set. HasNames set
-            (expected_names (map (λ n. n.now) names.now) (map (λ n. n.now) expected.now))) }
+            (expected_names (names_in names.now) (names_in expected.now))) }
     {
         let mut set = NameSet::new(alloc);
         set.add_all(names)?;
@@ -43,7 +43,7 @@ impl<'a> NameSet<'a> {
 
     fn add_all(&mut self, names: &[&'a [u8]]) -> Result<(), AllocError>
         ensures { (before : List (List ℕ)) → HasNames self.old before →
-            OnOk result (HasNames self.new (before ++ map (λ n. n.now) names.now)) }
+            OnOk result (HasNames self.new (before ++ names_in names.now)) }
     {
         for name in names {
             self.names.insert(*name, ())?;
@@ -66,8 +66,8 @@ pub fn push_missing<'a>(
     names: &[&'a [u8]],
     areas: &'a [NumberedArea],
 ) -> Result<(), AllocError>
-    ensures { OnOk result (findings.new.items ≡ findings.old.items
-        ++ flat_map (missing_name areas.now) (enumerate_from 0 (map (λ n. n.now) names.now))) }
+    ensures { Gains findings.old findings.new result
+        (flat_map (missing_name areas.now) (enumerate_from 0 (names_in names.now))) }
 {
     let areas = AreaNames::of(alloc, areas)?;
     for number in 0..names.len() {

@@ -1,10 +1,11 @@
 //! The check of a flash map.
 
-ghost use Rattle.std.specs.Prelude.{◌≡◌, ◌+◌, ◌*◌, ◌/◌, ◌≤◌, length, IfOk};
+ghost use Rattle.std.specs.Prelude.{◌+◌, ◌*◌, ◌/◌, ◌≤◌, length, IfOk};
 ghost use Rattle.flash_format.specs.Flashmap.{area_len};
 ghost use Rattle.flash_map.specs.Fmap.{found_in};
-ghost use Rattle.flash_device.specs.Pages.{OnHonest, HasReadBy};
+ghost use Rattle.flash_device.specs.Pages.{HasReadBy};
 ghost use Rattle.flash_map.specs.Faults.{by_device};
+ghost use Rattle.check_findings.specs.Lists.{GivesPart};
 ghost use Rattle.check_findings.specs.MapFindings.{map_findings};
 ghost use Rattle.flash_map.specs.Areas.{image_areas};
 
@@ -30,12 +31,9 @@ pub fn check_map<F: Flash>(alloc: Global, paged: &mut Paged<F>) -> Result<Checke
         + length paged.old.device.content / area_len + 16) paged.old paged.new result }
     ensures fits { IfOk result (λ map.
         area_len * length map.areas.items ≤ length paged.old.device.content) }
-    ensures found { OnHonest paged.old.device (λ image.
-        IfOk result (λ map. map.found ≡ found_in image)) }
-    ensures answer { OnHonest paged.old.device (λ image.
-        IfOk result (λ map. map.findings.items ≡ map_findings image)) }
-    ensures areas { OnHonest paged.old.device (λ image.
-        IfOk result (λ map. map.areas.items ≡ image_areas image)) }
+    ensures found { GivesPart paged.old result (λ map. map.found) found_in }
+    ensures answer { GivesPart paged.old result (λ map. map.findings.items) map_findings }
+    ensures areas { GivesPart paged.old result (λ map. map.areas.items) image_areas }
 {
     let len = paged.len();
     let ImageMap { found, areas } = image_map(alloc, paged)?;

@@ -1,13 +1,13 @@
 //! The findings of a map and its areas.
 
-ghost use Rattle.std.specs.Prelude.{◌≡◌, ◌+◌, ◌^◌, ◌<◌, ◌≤◌, ◌++◌, OnOk};
+ghost use Rattle.std.specs.Prelude.{◌≡◌, ◌+◌, ◌^◌, ◌<◌, ◌≤◌};
 ghost use Rattle.std.specs.List.{find, flat_map};
 ghost use Rattle.std.specs.Str.{is_utf8};
 ghost use lib.Chars.{codes};
-ghost use Rattle.flash_format.specs.Flashmap.{map_len};
-ghost use Rattle.check_findings.specs.MapFindings.{area_findings, findings_of};
-ghost use Rattle.check_findings.specs.MapFindings.{holds_map, map_area_findings};
 ghost use Rattle.flash_map.specs.Areas.{has_name};
+ghost use Rattle.flash_format.specs.Flashmap.{map_len};
+ghost use Rattle.check_findings.specs.Lists.{Gains};
+ghost use Rattle.check_findings.specs.MapFindings.{area_findings, findings_of, map_area_findings};
 ghost use Rattle.flash_device.specs.Pages.{Lists};
 
 use crate::lists::{Pushed, push_if};
@@ -43,8 +43,7 @@ pub fn findings_of(
 }
 
 fn push_area_findings(findings: &mut MapFindings, len: u64, areas: &[NumberedArea]) -> Pushed
-    ensures { OnOk result (findings.new.items
-        ≡ findings.old.items ++ flat_map (area_findings len) areas.now) }
+    ensures { Gains findings.old findings.new result (flat_map (area_findings len) areas.now) }
 {
     for a in areas {
         let end = u64::from(a.area.offset) + u64::from(a.area.size);
@@ -69,12 +68,15 @@ fn push_map_area_findings(
     areas: &[NumberedArea],
 ) -> Pushed
     requires { map.now.at + map_len map.now.head < 2 ^ 64 }
-    ensures { OnOk result (findings.new.items ≡ findings.old.items
-        ++ map_area_findings map.now (find (has_name (codes "FMAP")) areas.now)) }
+    ensures { Gains findings.old findings.new result (map_area_findings map.now areas.now) }
 {
+    let map_end = map.at + map.head.map_len();
     let area = map_area(areas);
     let is_held = match area {
-        Some(a) => holds_map(map, a),
+        Some(NumberedArea { area, .. }) => {
+            let area_end = u64::from(area.offset) + u64::from(area.size);
+            u64::from(area.offset) <= map.at && map_end <= area_end
+        }
         None => false,
     };
     push_if(findings, !is_held, MapFinding::MapAreaMisses(area))
@@ -84,14 +86,4 @@ fn map_area(areas: &[NumberedArea]) -> Option<NumberedArea>
     ensures { result ≡ find (has_name (codes "FMAP")) areas.now }
 {
     areas.iter().copied().find(|a| a.area.name_is(b"FMAP"))
-}
-
-fn holds_map(map: &FoundMap, found: NumberedArea) -> bool
-    requires { map.now.at + map_len map.now.head < 2 ^ 64 }
-    ensures { result ≡ holds_map map.now found }
-{
-    let area = found.area;
-    let map_end = map.at + map.head.map_len();
-    let area_end = u64::from(area.offset) + u64::from(area.size);
-    u64::from(area.offset) <= map.at && map_end <= area_end
 }

@@ -1,8 +1,8 @@
 //! Areas with the name of an earlier area.
 
-ghost use Rattle.std.specs.Prelude.{◌≡◌, ◌++◌, OnOk};
 ghost use Rattle.std.specs.List.{flat_map};
 ghost use Rattle.flash_map.specs.declared.areas.NumberedArea.{NumberedArea};
+ghost use Rattle.check_findings.specs.Lists.{Gains};
 ghost use Rattle.check_findings.specs.MapFindings.{name_findings};
 
 use crate::lists::{Pushed, push_if};
@@ -16,8 +16,8 @@ pub fn push_name_findings(
     findings: &mut MapFindings,
     areas: &[NumberedArea],
 ) -> Pushed
-    ensures { OnOk result (findings.new.items
-        ≡ findings.old.items ++ flat_map (name_findings areas.now) areas.now) }
+    ensures { Gains findings.old findings.new result
+        (flat_map (name_findings areas.now) areas.now) }
 {
     let names = AreaNames::of(alloc, areas)?;
     for a in areas {

@@ -1,7 +1,8 @@
 //! Areas that overlap without nesting.
 
-ghost use Rattle.std.specs.Prelude.{◌≡◌, ◌++◌, OnOk};
+ghost use Rattle.std.specs.Prelude.{◌≡◌};
 ghost use Rattle.std.specs.List.{find};
+ghost use Rattle.check_findings.specs.Lists.{Gains};
 ghost use Rattle.check_findings.specs.MapFindings.{ends_inside, overlap, overlap_findings};
 
 use crate::lists::{Pushed, push};
@@ -13,7 +14,7 @@ use flash_map::NumberedArea;
 const MOST_COMPARED: usize = 4096;
 
 pub fn push_overlap_findings(findings: &mut MapFindings, areas: &[NumberedArea]) -> Pushed
-    ensures { OnOk result (findings.new.items ≡ findings.old.items ++ overlap_findings areas.now) }
+    ensures { Gains findings.old findings.new result (overlap_findings areas.now) }
 {
     if areas.len() > MOST_COMPARED {
         return push(findings, MapFinding::TooManyAreas);

@@ -1,10 +1,11 @@
 //! The region check.
-ghost use Rattle.std.specs.Prelude.{◌≡◌, ◌+◌, ◌*◌, ◌/◌, ◌++◌, OnOk};
+ghost use Rattle.std.specs.Prelude.{◌+◌, ◌/◌};
 ghost use Rattle.flash_device.specs.Pages.{OnHonestIn, Lists, HasReadBy};
 ghost use Rattle.flash_device.specs.Regions.{LiesOn};
 ghost use Rattle.cbfs_walk.specs.Cells.{IsCellOn, IsCellIn, cell_in};
 ghost use Rattle.cbfs_walk.specs.Walks.{StandsIn};
 ghost use Rattle.flash_map.specs.Faults.{by_device};
+ghost use Rattle.check_findings.specs.Lists.{Gains};
 ghost use Rattle.check_findings.specs.RegionFindings.{cell_findings, region_findings};
 ghost use Rattle.check_findings.specs.RegionFindings.{walk_findings};
 
@@ -30,11 +31,9 @@ fn push_cell<F: Flash>(
 ) -> Result<(), CheckFault>
     requires { IsCellOn IsCellIn region cell.now paged.old.device }
 
-    ensures after
-        { HasReadBy by_device (3 + 2 * (cell.now.span / 3840)) paged.old paged.new result }
-    ensures found { OnHonestIn paged.old.device region (λ x. StandsIn x cell.now →
-        OnOk result (findings.new.items
-        ≡ findings.old.items ++ cell_findings cell.now.at (cell_in x cell.now))) }
+    ensures after { HasReadBy by_device (3 + cell.now.span / 1920) paged.old paged.new result }
+    ensures found { OnHonestIn paged.old.device region (λ x. StandsIn x cell.now → Gains
+        findings.old findings.new result (cell_findings cell.now.at (cell_in x cell.now))) }
 {
     cells_stand_in_their_image();
     if cell.head.is_free() {

@@ -50,7 +50,6 @@ impl Count {
     pub fn with(self, cell: &Cell) -> Count
         requires before { (self.components ≤ cell.now.at) × (self.free ≤ cell.now.at) }
         requires small { cell.now.at + cell.now.span < 2 ^ 32 }
-        requires some { 0 < cell.now.span }
 
         ensures { result ≡ count_after self (is_free cell.now.head) cell.now.at cell.now.span }
     {

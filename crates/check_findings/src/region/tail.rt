@@ -1,11 +1,11 @@
 //! The bytes after the entries.
-ghost use Rattle.std.specs.Prelude.{◌≡◌, ◌+◌, ◌-◌, ◌/◌, ◌^◌, ◌<◌, ◌++◌, length, OnOk};
+ghost use Rattle.std.specs.Prelude.{◌≡◌, ◌+◌, ◌-◌, ◌/◌, ◌^◌, ◌<◌, length};
 ghost use Rattle.std.specs.List.{position_from};
 ghost use Rattle.flash_device.specs.Pages.{HasAnswered, OnHonestIn, HasReadBy, ReadsAs};
 ghost use Rattle.flash_device.specs.Regions.{Reaches};
 ghost use Rattle.flash_map.specs.Faults.{by_device};
-ghost use Rattle.check_findings.specs.RegionFindings.{is_filled, tail_bytes};
-ghost use Rattle.check_findings.specs.RegionFindings.{entries_findings};
+ghost use Rattle.check_findings.specs.Lists.{Gains};
+ghost use Rattle.check_findings.specs.RegionFindings.{entries_findings, first_filled, is_filled};
 ghost use Rattle.check_findings.specs.RegionFindings.{tail_findings};
 
 use crate::lists::push_if;
@@ -36,8 +36,7 @@ fn find_filled<F: Flash>(
     requires { Reaches region at paged.old.device }
 
     ensures after { HasAnswered ((region.size - at + 4095) / 4096) paged.old paged.new result }
-    ensures found { ReadsAs paged.old region result
-        (λ x. position_from is_filled at (tail_bytes at x)) }
+    ensures found { ReadsAs paged.old region result (first_filled at) }
 {
     let len = (region.size() - at).saturating_sub(4);
     for i in 0..(len + 4095) / 4096 {
@@ -61,8 +60,8 @@ fn push_entries<F: Flash>(
     requires { Reaches region at paged.old.device }
 
     ensures after { HasReadBy by_device ((region.size - at) / 64) paged.old paged.new result }
-    ensures found { OnHonestIn paged.old.device region (λ x. OnOk result
-        (findings.new.items ≡ findings.old.items ++ entries_findings ((length x - at) / 64) at x)) }
+    ensures found { OnHonestIn paged.old.device region (λ x. Gains findings.old findings.new result
+        (entries_findings ((length x - at) / 64) at x)) }
 {
     let lines = (region.size() - at) / 64;
     for i in 0..lines {
@@ -82,10 +81,9 @@ pub fn push_tail<F: Flash>(
 ) -> Result<(), CheckFault>
     requires { Reaches region at paged.old.device }
 
-    ensures after { HasReadBy by_device
-        ((region.size - at + 4095) / 4096 + (region.size - at) / 64) paged.old paged.new result }
-    ensures found { OnHonestIn paged.old.device region (λ x.
-        OnOk result (findings.new.items ≡ findings.old.items ++ tail_findings at x)) }
+    ensures after { HasReadBy by_device (1 + (region.size - at) / 32) paged.old paged.new result }
+    ensures found { OnHonestIn paged.old.device region
+        (λ x. Gains findings.old findings.new result (tail_findings at x)) }
 {
     findings.push(RegionFinding::Tail { at })?;
     let Some(filled) = find_filled(paged, region, at)? else {

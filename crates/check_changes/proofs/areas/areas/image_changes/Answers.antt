@@ -1,7 +1,7 @@
-use Rattle.std.proofs.Common.{◌≡◌, ◌*◌, ◌++◌, ap, arith, length, sym}
+use Rattle.std.proofs.Common.{◌≡◌, ◌*◌, ◌++◌, arith, length, sym}
 use Rattle.check_changes.specs.Areas.{area_changes, area_changes_in}
 use Rattle.check_changes.proofs.AreaLemmas.ChangeSteps.{pushed-both}
-use Rattle.check_changes.proofs.ImageLemmas.{both-handed, both-then, both-within, OnBoth-before}
+use Rattle.check_changes.proofs.ImageLemmas.{OnBoth-before}
 use Rattle.check_changes.proofs.areas.areas.image_changes.Goals as goal
 
 pub returns-in_err-push_changes-clause-after : goal.returns-in_err-push_changes-clause-after

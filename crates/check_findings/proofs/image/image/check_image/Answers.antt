@@ -1,25 +1,18 @@
-use Rattle.std.proofs.Common.{◌≤◌, ◌∙◌, All, length, ap, subst, sym, arith}
+use Rattle.std.proofs.Common.{◌∙◌, length, ap, sym, arith}
 use Rattle.flash_device.proofs.DeviceLemmas.{honest_still}
-use Rattle.flash_map.specs.Areas.{area_end}
-use Rattle.check_findings.specs.ImageFindings.{region_areas, sum_sizes}
 use Rattle.check_findings.proofs.ImageLemmas.Regions.{regions_of, found_image}
 use Rattle.check_findings.proofs.image.image.check_image.Goals as goal
 
-pub returns-clause-total : goal.returns-clause-total
-returns-clause-total g c =
-    let is = regions_of c.deref.result.now c.deref-4.result.now _ _ c.in_ok-regions.regions.items _ _ c.in_ok-findings.ensures c.in_ok-append.ensures.items c.in_ok-push_missing.ensures in
-    omega (arith, ap sum_sizes is, c.in_ok-regions.ensures.checked.total, c.wanted_areas.ensures.after.device.calls.same_length, c.check_map.ensures.after.device.calls.same_length)
-
-pub returns-clause-inside : goal.returns-clause-inside
-returns-clause-inside g c =
+pub returns-clause-regions : goal.returns-clause-regions
+returns-clause-regions g c =
     let is = regions_of c.deref.result.now c.deref-4.result.now _ _ c.in_ok-regions.regions.items _ _ c.in_ok-findings.ensures c.in_ok-append.ensures.items c.in_ok-push_missing.ensures in
     let same = c.wanted_areas.ensures.after.device.calls.same_length ∙ c.check_map.ensures.after.device.calls.same_length in
-    subst (λ l. All (λ a. area_end a.area ≤ length c.args.paged.now.device.content) l) (sym is) (subst (λ n. All (λ a. area_end a.area ≤ n) (region_areas c.in_ok-regions.regions.items)) same c.in_ok-regions.ensures.checked.inside)
-
-pub returns-clause-fits : goal.returns-clause-fits
-returns-clause-fits g c =
-    let is = regions_of c.deref.result.now c.deref-4.result.now _ _ c.in_ok-regions.regions.items _ _ c.in_ok-findings.ensures c.in_ok-append.ensures.items c.in_ok-push_missing.ensures in
-    omega (arith, ap length is, c.in_ok-regions.ensures.checked.count, c.in_ok-wanted.ensures.count, ap length c.deref-2.ensures.value, ap length c.deref-3.ensures.value, c.in_ok-map.ensures.fits)
+    let had = c.in_ok-regions.ensures.checked in
+    rw (is, sym same) (record {
+      count = omega (arith, had.count, c.in_ok-wanted.ensures.count, ap length c.deref-2.ensures.value, ap length c.deref-3.ensures.value, c.in_ok-map.ensures.fits);
+      inside = had.inside;
+      total = had.total;
+    })
 
 pub returns-clause-findings : goal.returns-clause-findings
 returns-clause-findings g c = λ h.
