@@ -44,7 +44,7 @@ use Rattle.check_report.specs.declared.rows.row.Verdict.{Verdict}
 use Rattle.check_report.specs.declared.rows.row.Verdict.TheVariants.{Bad, Remark}
 use Rattle.check_report.specs.Rows.Rows.{SeenRow, area_name, at_component, in_area, of_area}
 use Rattle.check_report.specs.Rows.Rows.{of_component, row, row_at, row_of, with_count}
-use Rattle.check_report.specs.Rows.Rows.{with_field, with_number, with_other}
+use Rattle.check_report.specs.Rows.Rows.{with_number, with_other}
 
 abbrev pub finding_verdict : Bool → Verdict
 finding_verdict is_bad = if is_bad then Bad else Remark
@@ -131,7 +131,7 @@ region_rows asked region finding = option_map_or (λ row. in_area region row ∷
 
 -- the row of a name without an area
 abbrev pub missing_row : SeenValue → SeenRow
-missing_row name = with_field "area" name (row Bad "no-area" "no such area")
+missing_row name = record (row Bad "no-area" "no such area") { area = name }
 
 -- bad if its name is expected
 abbrev pub not_checked_row : NumberedArea → Bool → SeenRow
