@@ -1,9 +1,11 @@
 -- A writer after another row, and at the end.
-use Rattle.std.proofs.Common.{◌≡◌, ◌∙◌, ℕ, arith, nat_lt, List, [], ◌∷◌, ◌++◌, map, Bool, true, false, refl, ap, sym, append-nil, append_assoc}
+use Rattle.std.proofs.Common.{◌≡◌, ◌∙◌, ℕ, ◌+◌, ◌<◌, get_or, length, take, arith, nat_lt, List, [], ◌∷◌, ◌++◌, map, Bool, true, false, refl, ap, sym, append-nil, append_assoc}
 use Rattle.std.specs.Prelude.{◌||◌, count_by, if◌then◌else◌, Option, Result, Ok, Err, IfOk, OnOk}
 use Rattle.std.specs.List.{flat_map, list_any}
 use Rattle.std.specs.Io.KnownBytes.{Appends}
-use Rattle.std.proofs.lemmas.List.{map-append}
+use Rattle.std.proofs.lemmas.Grind.{flat_map-append}
+use Rattle.std.proofs.lemmas.List.Concat.{flat_map-cons}
+use Rattle.std.proofs.lemmas.List.{map-append, take_more}
 use Rattle.std.proofs.KnownBytes.{Appends-nil, Appends-trans}
 use Rattle.flash_device.specs.declared.sink.Sink.{Ghosts as SinkOf}
 use Rattle.check_report.specs.declared.fault.WriteFault.{WriteFault}
@@ -101,3 +103,10 @@ pub ends_after : {W : Type 0} {sink : SinkOf W} {result : Result Bool WriteFault
     → Adds sink (Ok tt) old mid xs → Ends sink result mid new [] → Ends sink result old new xs
 ends_after {result = Err e} a b = record { ended = tt; cause = omega (arith, a.cause, b.cause) }
 ends_after {result = Ok is_bad} {xs} a b = record { ended = λ start v rows s. rw (append-nil (rows ++ xs)) at (b.ended start v _ (a.added start v rows s)); cause = omega (arith, a.cause, b.cause) }
+
+-- the rows of another element
+pub adds_then : {W X : Type 0} {sink : SinkOf W} {first old new : RowWriter W} (f : X → List SeenRow) (xs : List X) (i : ℕ) (d x : X)
+    → i < length xs → x ≡ get_or xs i d → Adds sink (Ok tt) first old (flat_map f (take i xs)) → Adds sink (Ok tt) old new (f x)
+    → Adds sink (Ok tt) first new (flat_map f (take (i + 1) xs))
+adds_then f xs i d x lt is so_far more =
+    rw (take_more xs i d lt, ← is, flat_map-append f (take i xs) (x ∷ []), flat_map-cons f x [], append-nil (f x)) (adds_after so_far more)

@@ -10,7 +10,6 @@ use Rattle.check_findings.specs.declared.region.finding.RegionFinding.{RegionFin
 use Rattle.check_findings.specs.declared.region.finding.RegionFinding.TheVariants.{Component}
 use Rattle.check_findings.specs.declared.image.finding.ImageFinding.{ImageFinding}
 use Rattle.check_findings.specs.declared.image.finding.ImageFinding.TheVariants.{Region}
-use Rattle.check_findings.specs.Needs.{wish_of}
 use Rattle.check_report.specs.declared.rows.field.Value.TheVariants.{Count, Offset}
 use Rattle.check_report.specs.Rows.Fields.{Line, SeenField, name_value, seen_value, text_value}
 use Rattle.check_report.specs.Rows.Rows.{SeenRow, area_name}
@@ -67,6 +66,6 @@ change_rows request c = let new = c.comparison in
 -- rows of findings, unmet needs and changes
 abbrev pub inspection_rows : Request → Inspection → List SeenRow
 inspection_rows request i =
-    (finding_rows request.asked (names_in request.areas.now) i.findings.items
-    ++ flat_map (need_rows i.findings.items) (map wish_of request.needs.now))
+    (finding_rows request.asked request.areas.now i.findings.items
+    ++ need_rows i.findings.items request.needs.now)
     ++ option_map_or (change_rows request) i.changes []

@@ -16,7 +16,7 @@ use Rattle.check_report.specs.declared.rows.row.Verdict.{Verdict}
 use Rattle.check_report.specs.declared.rows.row.Verdict.TheVariants as verdicts
 use Rattle.check_report.specs.declared.rows.row.Row.{Row}
 use Rattle.check_report.specs.declared.rows.kinds.Counts.{Counts}
-use Rattle.check_report.specs.Rows.Fields.{Line, SeenField, SeenValue, json_value, name_value}
+use Rattle.check_report.specs.Rows.Fields.{Line, SeenValue, json_value, name_value}
 use Rattle.check_report.specs.Rows.Fields.{seen_value, text_value}
 
 abbrev pub verdict_word : Verdict → List ℕ
