@@ -49,13 +49,13 @@ abbrev pub need_areas : Request → Names
 need_areas request = map (λ n. n.area.now) request.needs.now
 
 -- the areas for a comparison: the new areas if the old image has no map
-abbrev pub old_areas : OldImage → List NumberedArea → List NumberedArea
-old_areas old news = if is_none old.map.found then news else old.map.areas.items
+abbrev pub areas_or : OldImage → List NumberedArea → List NumberedArea
+areas_or old news = if is_none old.map.found then news else old.map.areas.items
 
 -- rows of the images, their maps, areas and components, and of kept names without an area
 abbrev pub change_rows : Request → Changes → List SeenRow
 change_rows request c = let new = c.comparison in
-    let areas = old_areas c.old c.new_areas.items ++ c.new_areas.items in
+    let areas = areas_or c.old c.new_areas.items ++ c.new_areas.items in
     let kept = kept_by (names_in request.kept.now) request.keeps_preserved areas in
     let vital = kept ++ map area_name c.old.regions.items in
     (((image_rows new.old_len new.new_len new.blocks ++ map map_change_row new.map.items)

@@ -5,7 +5,7 @@ ghost use Rattle.std.specs.List.{list_any};
 ghost use Rattle.std.specs.Io.KnownBytes.{Appends};
 ghost use Rattle.flash_device.specs.Device.{fault_count};
 ghost use Rattle.check_report.specs.declared.rows.row.Verdict.TheVariants.{Bad};
-ghost use Rattle.check_report.specs.Reports.{change_rows, inspection_rows, listed, old_areas};
+ghost use Rattle.check_report.specs.Reports.{areas_or, change_rows, inspection_rows, listed};
 ghost use Rattle.check_report.specs.Rows.Reports.{heading, report};
 ghost use Rattle.check_report.specs.Rows.Rows.{has_verdict};
 ghost use Rattle.check_report.specs.Rows.Effects.{Adds, Ends, Prints, by_sink};
@@ -46,7 +46,7 @@ pub struct OldImage {
 impl OldImage {
     /// Returns the areas for a comparison: the new areas if the old image has no map.
     pub fn areas_or<'a>(&'a self, new_areas: &'a [NumberedArea]) -> &'a [NumberedArea]
-        ensures { result.now ≡ old_areas self.now new_areas.now }
+        ensures { result.now ≡ areas_or self.now new_areas.now }
     {
         if self.map.found.is_none() {
             new_areas
