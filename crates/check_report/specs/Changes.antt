@@ -1,7 +1,6 @@
 -- The result of a check, on honest devices.
 use Rattle.std.specs.Prelude.{◌≡◌, ℕ, List, None, IsSomeAnd, ◌++◌, length, map}
 use Rattle.flash_map.specs.Fmap.{found_in}
-use Rattle.flash_map.specs.declared.areas.NumberedArea.{NumberedArea}
 use Rattle.check_findings.specs.declared.image.finding.ImageFinding.{ImageFinding}
 use Rattle.flash_map.specs.Areas.{image_areas}
 use Rattle.check_findings.specs.ImageFindings.{cbfs_areas, image_findings}
@@ -9,9 +8,7 @@ use Rattle.check_changes.specs.Areas.{area_changes, map_changes}
 use Rattle.check_changes.specs.Blocks.{different_blocks}
 use Rattle.check_changes.specs.Regions.{region_changes}
 use Rattle.check_report.specs.declared.inspection.Changes.{Changes}
-use Rattle.check_report.specs.declared.inspection.Comparison.{Comparison}
 use Rattle.check_report.specs.declared.inspection.Inspection.{Inspection}
-use Rattle.check_report.specs.declared.inspection.OldImage.{OldImage}
 use Rattle.check_report.specs.Rows.Rows.{area_name}
 use Rattle.check_report.specs.declared.request.Request.{Request}
 use Rattle.check_report.specs.Names.{names_in}

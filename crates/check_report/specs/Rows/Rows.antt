@@ -3,7 +3,7 @@ use Rattle.std.specs.Prelude.{ℕ, ◌-◌, ◌==◌, nat_lt, List, [], ◌∷�
 use Rattle.std.specs.Prelude.{count_by, map, if◌then◌else◌}
 use Rattle.flash_format.specs.Flashmap.{text_of}
 use Rattle.flash_map.specs.declared.areas.NumberedArea.{NumberedArea}
-use Rattle.std.specs.List.{flat_map}
+use Rattle.std.specs.List.{flat_map, list_any}
 use Rattle.std.specs.Fmt.{decimal}
 use Rattle.std.specs.Str.{bytes_eq}
 use Rattle.json.specs.Json.{string}
@@ -81,6 +81,9 @@ row_line row = record { head = verdict_word row.verdict; fields =
 
 abbrev pub has_verdict : Verdict → SeenRow → Bool
 has_verdict verdict row = bytes_eq (verdict_word verdict) (verdict_word row.verdict)
+
+abbrev pub has_bad : List SeenRow → Bool
+has_bad rows = list_any (has_verdict verdicts.Bad) rows
 
 abbrev pub counts_of : List SeenRow → Counts
 counts_of rows = let n = λ (verdict : Verdict). count_by (has_verdict verdict) rows in

@@ -24,6 +24,7 @@ use Rattle.check_report.specs.Rows.Rows.{SeenRow, at_component, in_area}
 use Rattle.check_report.specs.FindingRows.{component_rows, has_hash_row, hash_row, map_row, plain_row, rows_of}
 use Rattle.check_report.specs.declared.rows.row.Verdict.TheVariants.{Bad}
 use Rattle.check_report.specs.Rows.Rows.{area_name, has_verdict}
+use Rattle.check_report.proofs.HiddenRows.{bad_after}
 use Rattle.check_report.proofs.laws.rows_tell_what_is_bad.Goals as goal
 
 -- the same for all findings
@@ -72,5 +73,7 @@ bad_finding asked names (NotChecked a true) = refl
 bad_finding asked names _ = refl
 
 pub returns : goal.returns
-returns c = λ asked names.
-    bad_rows (rows_of asked names) (is_bad asked.needs_hashes) (bad_finding asked names)
+returns c = record {
+  findings = λ asked names. bad_rows (rows_of asked names) (is_bad asked.needs_hashes) (bad_finding asked names);
+  limits = bad_after [];
+}
