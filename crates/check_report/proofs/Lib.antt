@@ -1,3 +1,4 @@
+mod HiddenRows
 mod Tokens
 mod RowCounts
 mod ReportParts

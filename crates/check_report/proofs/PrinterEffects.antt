@@ -1,6 +1,5 @@
 -- Consecutive lines of a printer.
 use Rattle.std.proofs.Common.{◌≡◌, ◌∙◌, ℕ, ◌<◌, ◌+◌, length, take, get_or, List, [], ◌∷◌, ◌++◌, Bool, true, Ok, refl, ap, sym, append-nil, arith}
-use Rattle.std.specs.Prelude.{Option}
 use Rattle.std.specs.List.{flat_map}
 use Rattle.std.proofs.KnownBytes.{Appends-nil, Appends-trans}
 use Rattle.std.proofs.lemmas.List.{take_more}

@@ -1,5 +1,5 @@
 -- The text of a report, part by part.
-use Rattle.std.proofs.Common.{◌≡◌, ◌∙◌, ℕ, List, [], ◌∷◌, ◌++◌, map, Bool, true, false, refl, ap, ap₂, sym, append_assoc, append-nil}
+use Rattle.std.proofs.Common.{None, ◌≡◌, ◌∙◌, ℕ, List, [], ◌∷◌, ◌++◌, map, Bool, true, false, refl, ap, ap₂, sym, append_assoc, append-nil}
 use Rattle.std.specs.Prelude.{fold, Option, Some, if◌then◌else◌}
 use Rattle.std.specs.List.{flat_map}
 use Rattle.std.specs.Option.{option_map_or}
@@ -18,7 +18,7 @@ use Rattle.check_report.specs.declared.rows.kinds.Counts.{Counts}
 use Rattle.check_report.specs.declared.rows.form.Form.{Form}
 use Rattle.check_report.specs.declared.rows.form.Form.TheVariants as forms
 use Rattle.check_report.specs.Rows.Fields.{Line, SeenField, line_json, line_text, members}
-use Rattle.check_report.specs.Rows.Reports.{count_fields, document, ending, file_fields, first_fields, follows_after, heading, lines_field, member_tokens, part, parts, start_tokens}
+use Rattle.check_report.specs.Rows.Reports.{count_fields, document, ending, first_fields, follows_after, heading, lines_field, member_tokens, part, parts, start_tokens}
 use Rattle.check_report.specs.Rows.Rows.{summary}
 use Rattle.check_report.proofs.Tokens.{fields_tokens, object_tokens}
 
@@ -82,11 +82,11 @@ array_text fields name lines rest =
 
 -- the part before the rows
 pub opening : (form : Form) (files : Files) (lines : List Line)
-    → (part form false [] (start_tokens (file_fields files) (codes "components")) ++ parts form false lines) ++ part form false [] (end_array ∷ key (codes "rows") ∷ begin_array ∷ [])
+    → (part form false [] (start_tokens (first_fields files None) (codes "components")) ++ parts form false lines) ++ part form false [] (end_array ∷ key (codes "rows") ∷ begin_array ∷ [])
     ≡ heading form files (Some lines)
 opening forms.Text files lines = append-nil (flat_map line_text lines)
 opening forms.Json files lines = let rest : List Token = key (codes "rows") ∷ begin_array ∷ [] in
-    sym (array_text (file_fields files) (codes "components") lines rest) ∙ sym (ap print (fields_tokens (file_fields files) [] (codes "components") lines rest))
+    sym (array_text (first_fields files None) (codes "components") lines rest) ∙ sym (ap print (fields_tokens (first_fields files None) [] (codes "components") lines rest))
 
 regroup : (a b c d : List ℕ) → a ++ (b ++ (c ++ d)) ≡ ((a ++ b) ++ c) ++ d
 regroup a b c d = simp append_assoc

@@ -1,22 +1,26 @@
 -- A writer after another row, and at the end.
-use Rattle.std.proofs.Common.{◌≡◌, ◌∙◌, ℕ, arith, nat_lt, List, [], ◌∷◌, ◌++◌, map, Bool, true, false, refl, ap, sym, append-nil, append_assoc}
-use Rattle.std.specs.Prelude.{◌||◌, count_by, if◌then◌else◌, Option, Result, Ok, Err, IfOk, OnOk}
+use Rattle.std.proofs.Common.{◌≡◌, ◌∙◌, ℕ, ◌+◌, ◌<◌, get_or, length, take, arith, nat_lt, List, [], ◌∷◌, ◌++◌, map, Bool, true, false, refl, ap, sym, append-nil, append_assoc}
+use Rattle.std.specs.Prelude.{◌||◌, count_by, if◌then◌else◌, Result, Ok, Err, OnOk}
 use Rattle.std.specs.List.{flat_map, list_any}
 use Rattle.std.specs.Io.KnownBytes.{Appends}
-use Rattle.std.proofs.lemmas.List.{map-append}
+use Rattle.std.proofs.lemmas.Grind.{flat_map-append}
+use Rattle.std.proofs.lemmas.List.Concat.{flat_map-cons}
+use Rattle.std.proofs.lemmas.List.{map-append, take_more}
 use Rattle.std.proofs.KnownBytes.{Appends-nil, Appends-trans}
 use Rattle.flash_device.specs.declared.sink.Sink.{Ghosts as SinkOf}
 use Rattle.check_report.specs.declared.fault.WriteFault.{WriteFault}
 use Rattle.check_report.specs.declared.rows.kinds.Kind.{Kind}
-use Rattle.check_report.specs.declared.request.Files.{Files}
 use Rattle.check_report.specs.declared.rows.kinds.Counts.{Counts}
 use Rattle.check_report.specs.declared.rows.printer.Printer.{Printer}
 use Rattle.check_report.specs.declared.rows.writer.RowWriter.{RowWriter}
-use Rattle.check_report.specs.Rows.Fields.{Line}
 use Rattle.check_report.specs.declared.rows.row.Verdict.TheVariants.{Bad}
-use Rattle.check_report.specs.Rows.Rows.{SeenRow, counts_of, has_verdict, is_like, kinds_of, more_of, report_lines, row_line, seen_kind, shown_rows}
+use Rattle.check_report.specs.Rows.Rows.{SeenRow, counts_of, has_bad, has_verdict, is_like, kinds_of, more_of, report_lines, row_line, seen_kind, shown_rows}
 use Rattle.check_findings.specs.Lists.{only_if}
-use Rattle.check_report.specs.Rows.Reports.{ending, follows_after, heading, parts, report}
+use Rattle.check_report.specs.Rows.Reports.{ending, follows_after, heading, parts}
+use Rattle.check_report.specs.Reports.{inspection_rows, listed, report}
+use Rattle.check_report.specs.declared.request.Request.{Request}
+use Rattle.check_report.specs.declared.inspection.Inspection.{Inspection}
+use Rattle.flash_device.specs.Pages.{Returns}
 use Rattle.check_report.specs.Rows.Effects.{Adds, Ends, HasPrinted, HasWritten, PrintsLines}
 use Rattle.check_report.proofs.RowCounts.{push_by, some_bad}
 use Rattle.check_report.proofs.PrinterEffects.{printed_both}
@@ -28,7 +32,7 @@ sound_empty sink w kinds counts follows = record {
   is_verbose = refl;
   kinds = ap (map seen_kind) kinds;
   counts = counts;
-  printed = rw (no_parts w.printer.form false) (record { text = Appends-nil (sink.contents w.printer.out); form = refl; follows = follows });
+  printed = record { text = rw (no_parts w.printer.form false) (Appends-nil (sink.contents w.printer.out)); form = refl; follows = follows };
 }
 
 -- another row
@@ -69,25 +73,24 @@ pub sound_end : {W : Type 0} (sink : SinkOf W) (w : RowWriter W) (mid out : Prin
     → let more = flat_map (λ k. map row_line (more_of (seen_kind k))) (if w.is_verbose then [] else w.kinds.items) in
     HasPrinted sink w.printer mid (parts w.printer.form w.printer.follows more) (follows_after w.printer.follows more)
     → Appends (sink.contents mid.out) (sink.contents out.out) (ending mid.form w.counts) → (start : Printer W) (v : Bool) (rows : List SeenRow) → HasWritten sink start v rows w
-    → (nat_lt 0 w.counts.bad ≡ list_any (has_verdict Bad) (rows ++ []))
-    × Appends (sink.contents start.out) (sink.contents out.out) (parts start.form false (report_lines v (rows ++ [])) ++ ending start.form (counts_of (rows ++ [])))
+    → (nat_lt 0 w.counts.bad ≡ list_any (has_verdict Bad) rows)
+    × Appends (sink.contents start.out) (sink.contents out.out) (parts start.form false (report_lines v rows) ++ ending start.form (counts_of rows))
 sound_end sink w mid out more end start v rows s =
     let all = printed_both sink start w.printer mid false (map row_line (shown_rows v rows)) _ s.printed (rw s.is_verbose at more) in
-    rw (append-nil rows)
     (ap (λ (c : Counts). nat_lt 0 c.bad) s.counts ∙ some_bad (has_verdict Bad) rows, rw (← limited v rows w.kinds.items s.kinds) (Appends-trans _ _ _ _ _ all.text (rw (all.form, s.counts) at end)))
 
 -- the heading, the rows and the end are the report
-pub report_text : {W : Type 0} (sink : SinkOf W) (result : Result Bool WriteFault) (first begun : Printer W) (made last : RowWriter W)
-    (verbose : Bool) (files : Files) (list : Option (List Line)) (rows : List SeenRow)
-    → HasPrinted sink first begun (heading first.form files list) false → HasWritten sink begun verbose [] made → Ends sink result made last rows
-    → IfOk result (λ is_bad. is_bad ≡ list_any (has_verdict Bad) rows) × OnOk result (Appends (sink.contents first.out) (sink.contents last.printer.out) (report first.form verbose files list rows))
+pub report_text : {W : Type 0} (sink : SinkOf W) (result : Result Bool WriteFault) (first begun : Printer W) (made last : RowWriter W) (r : Request) (i : Inspection)
+    → first.form ≡ r.form → HasPrinted sink first begun (heading first.form r.files (listed r i)) false → HasWritten sink begun r.asked.is_verbose (inspection_rows r i) made → Ends sink result made last
+    → Returns result (has_bad (inspection_rows r i)) × OnOk result (Appends (sink.contents first.out) (sink.contents last.printer.out) (report r i))
 unfolding report
-report_text sink (Err e) first begun made last verbose files list rows before sound ends = (tt, tt)
-report_text sink (Ok b) first begun made last verbose files list rows before sound ends =
-    let all = ends.ended begun verbose [] sound in (
+report_text sink (Err e) first begun made last r i form before sound ends = (tt, tt)
+report_text sink (Ok b) first begun made last r i form before sound ends =
+    let rows = inspection_rows r i in
+    let all = ends.ended begun r.asked.is_verbose rows sound in (
       all.0,
-      rw (← whole first.form files list (report_lines verbose rows) (counts_of rows))
-          (Appends-trans (sink.contents first.out) (sink.contents begun.out) (sink.contents last.printer.out) _ _ before.text (rw before.form at all.1)),
+      rw (← whole r.form r.files (listed r i) (report_lines r.asked.is_verbose rows) (counts_of rows))
+          (Appends-trans (sink.contents first.out) (sink.contents begun.out) (sink.contents last.printer.out) _ _ (rw form at before.text) (rw (before.form, form) at all.1)),
     )
 
 -- ---- rows after rows
@@ -97,7 +100,9 @@ pub adds_after : {W : Type 0} {sink : SinkOf W} {result : Result (Unit {0}) Writ
 adds_after {result = Err e} a b = record { added = tt; cause = omega (arith, a.cause, b.cause) }
 adds_after {result = Ok u} a b = record { added = λ start v rows s. rw append_assoc at (b.added start v _ (a.added start v rows s)); cause = omega (arith, a.cause, b.cause) }
 
-pub ends_after : {W : Type 0} {sink : SinkOf W} {result : Result Bool WriteFault} {old mid new : RowWriter W} {xs : List SeenRow}
-    → Adds sink (Ok tt) old mid xs → Ends sink result mid new [] → Ends sink result old new xs
-ends_after {result = Err e} a b = record { ended = tt; cause = omega (arith, a.cause, b.cause) }
-ends_after {result = Ok is_bad} {xs} a b = record { ended = λ start v rows s. rw (append-nil (rows ++ xs)) at (b.ended start v _ (a.added start v rows s)); cause = omega (arith, a.cause, b.cause) }
+-- the rows of another element
+pub adds_then : {W X : Type 0} {sink : SinkOf W} {first old new : RowWriter W} (f : X → List SeenRow) (xs : List X) (i : ℕ) (d x : X)
+    → i < length xs → x ≡ get_or xs i d → Adds sink (Ok tt) first old (flat_map f (take i xs)) → Adds sink (Ok tt) old new (f x)
+    → Adds sink (Ok tt) first new (flat_map f (take (i + 1) xs))
+adds_then f xs i d x lt is so_far more =
+    rw (take_more xs i d lt, ← is, flat_map-append f (take i xs) (x ∷ []), flat_map-cons f x [], append-nil (f x)) (adds_after so_far more)

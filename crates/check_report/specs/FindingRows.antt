@@ -1,6 +1,7 @@
 -- Rows of findings. This project defines their codes and texts.
 use Rattle.std.specs.Prelude.{ℕ, zero, Bool, true, not, ◌||◌, List, [], ◌∷◌, ◌++◌, Some, None}
 use Rattle.std.specs.Prelude.{is_none, slice_get, Option, if◌then◌else◌}
+use Rattle.std.specs.Borrow.{Bor}
 use Rattle.std.specs.List.{flat_map}
 use Rattle.std.specs.Option.{option_map_or}
 use Rattle.std.specs.Str.{is_utf8}
@@ -24,30 +25,25 @@ use Rattle.check_findings.specs.declared.region.finding.RegionFinding.TheVariant
 use Rattle.check_findings.specs.declared.region.finding.RegionFinding.TheVariants.{Tail}
 use Rattle.check_findings.specs.declared.region.finding.RegionFinding.TheVariants.{TailEntry}
 use Rattle.check_findings.specs.declared.region.finding.RegionFinding.TheVariants.{TailFilled}
-use Rattle.flash_map.specs.declared.areas.NumberedArea.{NumberedArea}
 use Rattle.check_findings.specs.declared.map.finding.MapFinding.{MapFinding}
 use Rattle.check_findings.specs.declared.map.finding.MapFinding.TheVariants as of_map
 use Rattle.check_findings.specs.declared.image.finding.ImageFinding.{ImageFinding}
 use Rattle.check_findings.specs.declared.image.finding.ImageFinding.TheVariants.{Map, Region}
 use Rattle.check_findings.specs.declared.image.finding.ImageFinding.TheVariants.{NotChecked}
 use Rattle.check_findings.specs.declared.image.finding.ImageFinding.TheVariants.{NoArea}
-use Rattle.check_findings.specs.Needs.{Wish, unmet}
+use Rattle.check_findings.specs.Needs.{unmet, wish_of}
+use Rattle.check_findings.specs.declared.image.needs.Need.{Need}
 use Rattle.check_findings.specs.declared.image.needs.NeedFinding.{NeedFinding}
 use Rattle.check_findings.specs.declared.image.needs.NeedFinding.TheVariants.{Missing, Elsewhere}
 use Rattle.check_findings.specs.Lists.{only_if}
 use Rattle.check_findings.specs.Verdicts.{is_bad_hash}
 use Rattle.check_report.specs.declared.request.Asked.{Asked}
-use Rattle.check_report.specs.Names.{Names}
 use Rattle.check_report.specs.declared.rows.field.Value.TheVariants.{Dash}
 use Rattle.check_report.specs.Rows.Fields.{SeenValue, name_value, seen_value}
-use Rattle.check_report.specs.declared.rows.row.Verdict.{Verdict}
 use Rattle.check_report.specs.declared.rows.row.Verdict.TheVariants.{Bad, Remark}
 use Rattle.check_report.specs.Rows.Rows.{SeenRow, area_name, at_component, in_area, of_area}
 use Rattle.check_report.specs.Rows.Rows.{of_component, row, row_at, row_of, with_count}
-use Rattle.check_report.specs.Rows.Rows.{with_field, with_number, with_other}
-
-abbrev pub finding_verdict : Bool → Verdict
-finding_verdict is_bad = if is_bad then Bad else Remark
+use Rattle.check_report.specs.Rows.Rows.{with_number, with_other}
 
 -- ---- the flash map; positions count from the image's start
 
@@ -81,7 +77,7 @@ has_hash_row asked hashes.Missing = asked.is_verbose || asked.needs_hashes
 has_hash_row asked _ = true
 
 abbrev pub hash_row : Asked → HashFinding → SeenRow
-hash_row asked hash = row_of (finding_verdict (is_bad_hash asked.needs_hashes hash))
+hash_row asked hash = row_of (if is_bad_hash asked.needs_hashes hash then Bad else Remark)
     (hash_words hash).0 (hash_words hash).1
 
 -- rows of a component: an earlier namesake, a name that isn't UTF-8, a type without a name, and the
@@ -123,30 +119,26 @@ plain_row (LargestContent (Some n)) =
     Some (with_count n (row Remark "largest-content" "largest content that add takes"))
 plain_row (LargestContent None) = Some (row Remark "no-room" "no room for a component")
 
-abbrev pub region_rows : Asked → List ℕ → RegionFinding → List SeenRow
-region_rows asked region finding = option_map_or (λ row. in_area region row ∷ [])
-    (plain_row finding) (component_rows asked region finding)
+abbrev pub region_rows : Asked → List ℕ → List RegionFinding → List SeenRow
+region_rows asked area findings = flat_map (λ finding. option_map_or
+    (λ row. in_area area row ∷ []) (plain_row finding) (component_rows asked area finding)) findings
 
 -- ---- the image
 
 -- the row of a name without an area
 abbrev pub missing_row : SeenValue → SeenRow
-missing_row name = with_field "area" name (row Bad "no-area" "no such area")
+missing_row name = record (row Bad "no-area" "no such area") { area = name }
 
--- bad if its name is expected
-abbrev pub not_checked_row : NumberedArea → Bool → SeenRow
-not_checked_row a named = of_area a (row (finding_verdict named)
-    "area-not-checked" "isn't checked: checked areas would exceed twice the image")
-
--- by the given area names
-abbrev pub rows_of : Asked → Names → ImageFinding → List SeenRow
+-- by the given area names; an area that isn't checked is bad if its name is expected
+abbrev pub rows_of : Asked → List (Bor (List ℕ)) → ImageFinding → List SeenRow
 rows_of asked names (Map finding) = map_row finding ∷ []
-rows_of asked names (Region a findings) = flat_map (region_rows asked (area_name a)) findings
-rows_of asked names (NotChecked a named) = not_checked_row a named ∷ []
-rows_of _ names (NoArea n) =
-    missing_row (option_map_or name_value (slice_get names n) (seen_value Dash)) ∷ []
+rows_of asked names (Region a findings) = region_rows asked (area_name a) findings
+rows_of asked names (NotChecked a named) = of_area a (row (if named then Bad else Remark)
+    "area-not-checked" "isn't checked: checked areas would exceed twice the image") ∷ []
+rows_of asked names (NoArea n) = missing_row
+    (option_map_or (λ name. name_value name.now) (slice_get names n) (seen_value Dash)) ∷ []
 
-abbrev pub finding_rows : Asked → Names → List ImageFinding → List SeenRow
+abbrev pub finding_rows : Asked → List (Bor (List ℕ)) → List ImageFinding → List SeenRow
 finding_rows asked names findings = flat_map (rows_of asked names) findings
 
 -- ---- needs
@@ -155,7 +147,8 @@ abbrev pub need_row : NeedFinding → SeenRow
 need_row Missing = row Bad "need-missing" "needed component isn't there"
 need_row (Elsewhere at) = row_at at (row Bad "need-elsewhere" "needed component is elsewhere")
 
--- the row of an unmet need
-abbrev pub need_rows : List ImageFinding → Wish → List SeenRow
-need_rows findings wish = option_map_or
-    (λ finding. of_component wish.area wish.name (need_row finding) ∷ []) (unmet findings wish) []
+-- rows of the unmet needs
+abbrev pub need_rows : List ImageFinding → List Need → List SeenRow
+need_rows findings needs = flat_map (λ need. option_map_or
+    (λ finding. of_component need.area.now need.name.now (need_row finding) ∷ [])
+    (unmet findings (wish_of need)) []) needs

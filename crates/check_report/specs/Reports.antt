@@ -1,19 +1,19 @@
 -- The components and the rows of a report. This project defines their choice and order.
-use Rattle.std.specs.Prelude.{ℕ, List, [], ◌∷◌, ◌++◌, map, is_none, if◌then◌else◌}
+use Rattle.std.specs.Prelude.{ℕ, List, [], ◌∷◌, ◌++◌, map, is_none, if◌then◌else◌, Option, false}
 use Rattle.std.specs.List.{flat_map}
 use Rattle.std.specs.Option.{option_map_or}
 use lib.Chars.{codes}
-use Rattle.flash_format.specs.Texts.{printed_compression, printed_type}
+use Rattle.flash_format.specs.Texts.{printed_compression, printed_type, line_feed}
 use Rattle.flash_map.specs.declared.areas.NumberedArea.{NumberedArea}
 use Rattle.check_findings.specs.declared.region.finding.Content.{Content}
 use Rattle.check_findings.specs.declared.region.finding.RegionFinding.{RegionFinding}
 use Rattle.check_findings.specs.declared.region.finding.RegionFinding.TheVariants.{Component}
 use Rattle.check_findings.specs.declared.image.finding.ImageFinding.{ImageFinding}
 use Rattle.check_findings.specs.declared.image.finding.ImageFinding.TheVariants.{Region}
-use Rattle.check_findings.specs.Needs.{wish_of}
 use Rattle.check_report.specs.declared.rows.field.Value.TheVariants.{Count, Offset}
 use Rattle.check_report.specs.Rows.Fields.{Line, SeenField, name_value, seen_value, text_value}
-use Rattle.check_report.specs.Rows.Rows.{SeenRow, area_name}
+use Rattle.check_report.specs.Rows.Fields.{line_text}
+use Rattle.check_report.specs.Rows.Rows.{SeenRow, area_name, counts_of, report_lines, summary}
 use Rattle.check_report.specs.FindingRows.{finding_rows, hash_words, need_rows}
 use Rattle.check_report.specs.ChangeRows.{area_change_rows, image_rows, kept_by, map_change_row}
 use Rattle.check_report.specs.ChangeRows.{missing_if, region_change_rows}
@@ -22,6 +22,9 @@ use Rattle.check_report.specs.declared.request.Request.{Request}
 use Rattle.check_report.specs.declared.inspection.Changes.{Changes}
 use Rattle.check_report.specs.declared.inspection.Inspection.{Inspection}
 use Rattle.check_report.specs.declared.inspection.OldImage.{OldImage}
+use Rattle.std.specs.Bool.{then_some}
+use Rattle.check_report.specs.Rows.Reports.{document, part}
+use Rattle.json.specs.Tree.{json_tokens}
 
 abbrev pub component_fields : List ℕ → ℕ → List ℕ → Content → List SeenField
 component_fields area at name content = (codes "area", name_value area)
@@ -40,9 +43,9 @@ abbrev pub components_in : ImageFinding → List Line
 components_in (Region a findings) = flat_map (component_lines (area_name a)) findings
 components_in _ = []
 
--- the components of the checked areas, in order
-abbrev pub listed : List ImageFinding → List Line
-listed findings = flat_map components_in findings
+-- the components of the checked areas in order, on request
+abbrev pub listed : Request → Inspection → Option (List Line)
+listed request i = then_some request.asked.lists (flat_map components_in i.findings.items)
 
 -- ---- rows
 
@@ -50,13 +53,13 @@ abbrev pub need_areas : Request → Names
 need_areas request = map (λ n. n.area.now) request.needs.now
 
 -- the areas for a comparison: the new areas if the old image has no map
-abbrev pub old_areas : OldImage → List NumberedArea → List NumberedArea
-old_areas old news = if is_none old.map.found then news else old.map.areas.items
+abbrev pub areas_or : OldImage → List NumberedArea → List NumberedArea
+areas_or old news = if is_none old.map.found then news else old.map.areas.items
 
 -- rows of the images, their maps, areas and components, and of kept names without an area
 abbrev pub change_rows : Request → Changes → List SeenRow
 change_rows request c = let new = c.comparison in
-    let areas = old_areas c.old c.new_areas.items ++ c.new_areas.items in
+    let areas = areas_or c.old c.new_areas.items ++ c.new_areas.items in
     let kept = kept_by (names_in request.kept.now) request.keeps_preserved areas in
     let vital = kept ++ map area_name c.old.regions.items in
     (((image_rows new.old_len new.new_len new.blocks ++ map map_change_row new.map.items)
@@ -67,6 +70,14 @@ change_rows request c = let new = c.comparison in
 -- rows of findings, unmet needs and changes
 abbrev pub inspection_rows : Request → Inspection → List SeenRow
 inspection_rows request i =
-    (finding_rows request.asked (names_in request.areas.now) i.findings.items
-    ++ flat_map (need_rows i.findings.items) (map wish_of request.needs.now))
+    (finding_rows request.asked request.areas.now i.findings.items
+    ++ need_rows i.findings.items request.needs.now)
     ++ option_map_or (change_rows request) i.changes []
+
+-- in text the list, the rows and the counts, in JSON the document; then a line feed
+unfoldable pub report : Request → Inspection → List ℕ
+report request i = let list = listed request i in let rows = inspection_rows request i in
+    let lines = report_lines request.asked.is_verbose rows in
+    part request.form false (option_map_or (flat_map line_text) list [] ++ flat_map line_text lines
+    ++ summary (counts_of rows)) (json_tokens (document request.files list lines (counts_of rows)))
+    ++ line_feed

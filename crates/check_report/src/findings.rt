@@ -1,12 +1,9 @@
 //! Rows of an image's findings, and of unmet needs.
-ghost use Rattle.std.specs.Prelude.{◌≡◌, map, slice_get};
-ghost use Rattle.std.specs.List.{flat_map};
-ghost use Rattle.check_findings.specs.Needs.{wish_of};
+ghost use Rattle.std.specs.Prelude.{◌≡◌, slice_get};
 ghost use Rattle.std.specs.Option.{option_map_or};
-ghost use Rattle.check_report.specs.Names.{names_in};
 ghost use Rattle.check_report.specs.declared.rows.field.Value.TheVariants.{Dash};
 ghost use Rattle.check_report.specs.Rows.Fields.{name_value, seen_value};
-ghost use Rattle.check_report.specs.Rows.Rows.{of_component, seen_row};
+ghost use Rattle.check_report.specs.Rows.Rows.{seen_row};
 ghost use Rattle.check_report.specs.Rows.Effects.{Adds};
 ghost use Rattle.check_findings.specs.declared.map.finding.MapFinding.TheVariants.{MapAreaMisses};
 ghost use Rattle.check_report.specs.FindingRows as of;
@@ -30,18 +27,10 @@ pub fn missing_row(area: Value<'_>) -> Row<'_>
 
 fn name_at<'a>(names: &[&'a [u8]], n: usize) -> Value<'a>
     ensures { seen_value result
-        ≡ option_map_or name_value (slice_get (names_in names.now) n) (seen_value Dash) }
+        ≡ option_map_or (λ name. name_value name.now) (slice_get names.now n) (seen_value Dash) }
 {
     let name = names.get(n).copied();
     name.map_or(Value::Dash, Value::Name)
-}
-
-fn not_checked_row<'a>(area: &'a NumberedArea, is_named: bool) -> Row<'a>
-    ensures { seen_row result ≡ of.not_checked_row area.now is_named }
-{
-    let what = "isn't checked: checked areas would exceed twice the image";
-    let row = Verdict::of_finding(is_named).row("area-not-checked", what);
-    row.of(area)
 }
 
 /// Returns the row of a finding of the flash map.
@@ -93,8 +82,7 @@ pub fn add_findings<W: Sink + Drop>(
     findings: &[ImageFinding],
     names: &[&[u8]],
 ) -> Result<(), WriteFault>
-    ensures { Adds W.Sink result rows.old rows.new
-        (of.finding_rows asked (names_in names.now) findings.now) }
+    ensures { Adds W.Sink result rows.old rows.new (of.finding_rows asked names.now findings.now) }
 {
     for finding in findings {
         match finding {
@@ -103,7 +91,9 @@ pub fn add_findings<W: Sink + Drop>(
                 add_region(rows, asked, area.area.text(), findings.as_slice())?;
             }
             ImageFinding::NotChecked { area, is_named } => {
-                rows.add(not_checked_row(area, *is_named))?;
+                let what = "isn't checked: checked areas would exceed twice the image";
+                let row = Verdict::of_finding(*is_named).row("area-not-checked", what);
+                rows.add(row.of(area))?;
             }
             ImageFinding::NoArea(number) => rows.add(missing_row(name_at(names, *number)))?,
         }
@@ -111,18 +101,16 @@ pub fn add_findings<W: Sink + Drop>(
     Ok(())
 }
 
-fn need_row<'a>(need: &Need<'a>, finding: NeedFinding) -> Row<'a>
-    ensures { seen_row result
-        ≡ of_component need.now.area.now need.now.name.now (of.need_row finding) }
+fn need_row<'a>(finding: NeedFinding) -> Row<'a>
+    ensures { seen_row result ≡ of.need_row finding }
 {
-    let row = match finding {
-        NeedFinding::Missing => Verdict::Bad.row("need-missing", "needed component isn't there"),
+    let bad = Verdict::Bad;
+    match finding {
+        NeedFinding::Missing => bad.row("need-missing", "needed component isn't there"),
         NeedFinding::Elsewhere(at) => {
-            let row = Verdict::Bad.row("need-elsewhere", "needed component is elsewhere");
-            row.at(at)
+            bad.row("need-elsewhere", "needed component is elsewhere").at(at)
         }
-    };
-    row.of_component(need.area, need.name)
+    }
 }
 
 /// Adds a row for each unmet need.
@@ -131,12 +119,11 @@ pub fn add_needs<W: Sink + Drop>(
     findings: &[ImageFinding],
     needs: &[Need<'_>],
 ) -> Result<(), WriteFault>
-    ensures { Adds W.Sink result rows.old rows.new
-        (flat_map (of.need_rows findings.now) (map wish_of needs.now)) }
+    ensures { Adds W.Sink result rows.old rows.new (of.need_rows findings.now needs.now) }
 {
     for need in needs {
         if let Some(finding) = unmet(findings, *need) {
-            rows.add(need_row(need, finding))?;
+            rows.add(need_row(finding).of_component(need.area, need.name))?;
         }
     }
     Ok(())

@@ -27,8 +27,7 @@ pub fn inspect_image<F: Flash>(
     ensures side { fault_count by_old result ≡ 0 }
 
     // On an honest device.
-    ensures inspection { OnHonest paged.old.device (λ image. IfOk result (λ inspection.
-        IsInspected request.entry image inspection)) }
+    ensures checked { OnHonest paged.old.device (λ x. IfOk result (IsInspected request.entry x)) }
 {
     let expected = need_areas(alloc, request.needs)?;
     let checked = check_image(alloc, keys, paged, request.areas, &expected);

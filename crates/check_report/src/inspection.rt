@@ -1,14 +1,13 @@
 //! The result of a check, and its report.
-ghost use Rattle.std.specs.Prelude.{◌≡◌, ◌+◌, ◌≤◌, false, IfOk, OnOk};
-ghost use Rattle.std.specs.Bool.{then_some};
-ghost use Rattle.std.specs.List.{list_any};
+ghost use Rattle.std.specs.Prelude.{◌≡◌, ◌+◌, ◌≤◌, false, OnOk};
 ghost use Rattle.std.specs.Io.KnownBytes.{Appends};
 ghost use Rattle.flash_device.specs.Device.{fault_count};
-ghost use Rattle.check_report.specs.declared.rows.row.Verdict.TheVariants.{Bad};
-ghost use Rattle.check_report.specs.Reports.{change_rows, inspection_rows, listed, old_areas};
-ghost use Rattle.check_report.specs.Rows.Reports.{heading, report};
-ghost use Rattle.check_report.specs.Rows.Rows.{has_verdict};
-ghost use Rattle.check_report.specs.Rows.Effects.{Adds, Ends, Prints, by_sink};
+ghost use Rattle.check_report.specs.Reports.{areas_or, change_rows, inspection_rows, listed};
+ghost use Rattle.check_report.specs.Reports.{report};
+ghost use Rattle.flash_device.specs.Pages.{Returns};
+ghost use Rattle.check_report.specs.Rows.Reports.{heading};
+ghost use Rattle.check_report.specs.Rows.Rows.{has_bad};
+ghost use Rattle.check_report.specs.Rows.Effects.{Adds, Prints, by_sink};
 
 use crate::changes::{add_area_changes, add_image_changes, add_map_changes, add_region_changes};
 use crate::fault::WriteFault;
@@ -46,7 +45,7 @@ pub struct OldImage {
 impl OldImage {
     /// Returns the areas for a comparison: the new areas if the old image has no map.
     pub fn areas_or<'a>(&'a self, new_areas: &'a [NumberedArea]) -> &'a [NumberedArea]
-        ensures { result.now ≡ old_areas self.now new_areas.now }
+        ensures { result.now ≡ areas_or self.now new_areas.now }
     {
         if self.map.found.is_none() {
             new_areas
@@ -123,8 +122,7 @@ impl Inspection {
         printer: &mut Printer<W>,
     ) -> Result<(), WriteFault>
         ensures { Prints W.Sink result printer.old printer.new
-            (heading printer.old.form request.entry.files
-            (then_some request.entry.asked.lists (listed self.now.findings.items))) false }
+            (heading printer.old.form request.entry.files (listed request.entry self.now)) false }
     {
         if request.asked.lists {
             printer.start(request.files, "components")?;
@@ -135,30 +133,13 @@ impl Inspection {
         }
     }
 
-    #[tactic(auto, using(crate::proofs::SoundRows::ends_after))]
-    fn print_rows<W: Sink + Drop>(
-        &self,
-        alloc: Global,
-        request: Request<'_>,
-        rows: &mut RowWriter<W>,
-    ) -> Result<bool, WriteFault>
-        ensures { Ends W.Sink result rows.old rows.new (inspection_rows request.entry self.now) }
-    {
-        self.add_rows(alloc, request, rows)?;
-        rows.finish()
-    }
-
     /// Writes the report row by row, after the list of components on request. Returns the sink, and
     /// whether a row is bad, or a fault: `Output` only if the sink failed, `Memory` if an
     /// allocation failed.
     pub fn write<W: Sink + Drop>(&self, alloc: Global, request: Request<'_>, out: W) -> Written<W>
-        ensures bad { IfOk result.is_bad (λ is_bad. is_bad ≡ list_any (has_verdict Bad)
-            (inspection_rows request.entry self.now)) }
+        ensures bad { Returns result.is_bad (has_bad (inspection_rows request.entry self.now)) }
         ensures text { OnOk result.is_bad (Appends (W.contents out) (W.contents result.out)
-            (report request.entry.form request.entry.asked.is_verbose
-            request.entry.files
-            (then_some request.entry.asked.lists (listed self.now.findings.items))
-            (inspection_rows request.entry self.now))) }
+            (report request.entry self.now)) }
         ensures cause { W.faults out + fault_count by_sink result.is_bad ≤ W.faults result.out }
     {
         let mut printer = Printer::new(alloc, request.form, out);
@@ -169,7 +150,10 @@ impl Inspection {
             };
         }
         let mut rows = RowWriter::new(alloc, printer, request.asked.is_verbose);
-        let is_bad = self.print_rows(alloc, request, &mut rows);
+        let is_bad = match self.add_rows(alloc, request, &mut rows) {
+            Ok(()) => rows.finish(),
+            Err(fault) => Err(fault),
+        };
         Written {
             out: rows.printer.out,
             is_bad,

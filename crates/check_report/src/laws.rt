@@ -1,12 +1,7 @@
-//! Laws about rows, as contracts of functions without effect.
-ghost use Rattle.check_report.specs.Laws.{LimitsLoseNoBadRow, RowsTellWhatIsBad};
+//! Laws about rows, as the contract of a function without effect.
+ghost use Rattle.check_report.specs.Laws.{RowsTellWhatIsBad};
 
-/// A row of the findings is bad exactly if a finding is bad.
+/// A row of the findings is bad exactly if a finding is bad, and a shown row exactly if a row is bad.
 pub fn rows_tell_what_is_bad()
     ensures { RowsTellWhatIsBad }
-{}
-
-/// A shown row is bad exactly if a row is bad.
-pub fn limits_lose_no_bad_row()
-    ensures { LimitsLoseNoBadRow }
 {}

@@ -25,6 +25,6 @@ pub use check_findings::{Need, NeededPlace};
 pub use fault::{ReportFault, WriteFault};
 pub use image::inspect_image;
 pub use inspection::{Changes, Comparison, Inspection, OldImage, Written};
-pub use laws::{limits_lose_no_bad_row, rows_tell_what_is_bad};
+pub use laws::rows_tell_what_is_bad;
 pub use request::{Asked, Files, Request};
 pub use rows::Form;

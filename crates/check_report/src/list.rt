@@ -2,7 +2,7 @@
 ghost use Rattle.std.specs.Prelude.{◌≡◌, map};
 ghost use Rattle.std.specs.List.{flat_map};
 ghost use Rattle.check_report.specs.Reports.{component_fields, component_lines};
-ghost use Rattle.check_report.specs.Reports.{listed};
+ghost use Rattle.check_report.specs.Reports.{components_in};
 ghost use Rattle.check_report.specs.Rows.Fields.{seen_field};
 ghost use Rattle.check_report.specs.Rows.Effects.{PrintsLines};
 
@@ -62,7 +62,7 @@ pub fn list_components<W: Sink + Drop>(
     printer: &mut Printer<W>,
     findings: &[ImageFinding],
 ) -> Result<(), WriteFault>
-    ensures { PrintsLines W.Sink result printer.old printer.new (listed findings.now) }
+    ensures { PrintsLines W.Sink result printer.old printer.new (flat_map components_in findings.now) }
 {
     for finding in findings {
         if let ImageFinding::Region { area, findings } = finding {

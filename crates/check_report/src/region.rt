@@ -1,9 +1,9 @@
 //! Rows of a region's findings.
 ghost use Rattle.std.specs.Prelude.{◌≡◌, option_map};
-ghost use Rattle.std.specs.List.{flat_map};
 ghost use Rattle.check_report.specs.Rows.Rows.{seen_row};
 ghost use Rattle.check_report.specs.Rows.Effects.{Adds};
 ghost use Rattle.check_report.specs.FindingRows as of;
+ghost use Rattle.check_report.specs.FindingRows.{component_rows, region_rows};
 
 use crate::fault::WriteFault;
 use crate::request::Asked;
@@ -14,8 +14,7 @@ use flash_format::{Algorithm, DamageKind, type_name};
 
 /// Returns the code and the text of a digest.
 pub fn hash_words(hash: HashFinding) -> (&'static str, &'static str)
-    ensures code { result.0.now ≡ (of.hash_words hash).0 }
-    ensures text { result.1.now ≡ (of.hash_words hash).1 }
+    ensures { (result.0.now, result.1.now) ≡ of.hash_words hash }
 {
     match hash {
         HashFinding::Missing => ("hash-missing", "no hash"),
@@ -43,8 +42,7 @@ fn add_component<W: Sink + Drop>(
     region: &[u8],
     finding: &RegionFinding,
 ) -> Result<(), WriteFault>
-    ensures
-        { Adds W.Sink result rows.old rows.new (of.component_rows asked region.now finding.now) }
+    ensures { Adds W.Sink result rows.old rows.new (component_rows asked region.now finding.now) }
 {
     let RegionFinding::Component {
         at,
@@ -124,8 +122,7 @@ pub fn add_region<W: Sink + Drop>(
     region: &[u8],
     findings: &[RegionFinding],
 ) -> Result<(), WriteFault>
-    ensures { Adds W.Sink result rows.old rows.new
-        (flat_map (of.region_rows asked region.now) findings.now) }
+    ensures { Adds W.Sink result rows.old rows.new (region_rows asked region.now findings.now) }
 {
     for finding in findings {
         match plain_row(finding) {

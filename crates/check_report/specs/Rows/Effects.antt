@@ -1,7 +1,6 @@
 -- The effects of printers and writers of rows.
-use Rattle.std.specs.Prelude.{◌≡◌, ℕ, ◌+◌, ◌≤◌, Bool, false, List, ◌++◌, Option}
+use Rattle.std.specs.Prelude.{◌≡◌, ℕ, ◌+◌, ◌≤◌, Bool, false, List, ◌++◌}
 use Rattle.std.specs.Prelude.{Result, IfOk, OnOk, map}
-use Rattle.std.specs.List.{list_any}
 use Rattle.std.specs.Io.KnownBytes.{Appends}
 use Rattle.std.specs.declared.alloc.AllocError.{AllocError}
 use Rattle.json.specs.Token.{Token}
@@ -10,11 +9,11 @@ use Rattle.flash_device.specs.Device.{fault_count}
 use Rattle.flash_device.specs.declared.sink.Sink.{Ghosts as SinkOf}
 use Rattle.check_report.specs.declared.fault.WriteFault.{WriteFault}
 use Rattle.check_report.specs.declared.fault.WriteFault.TheVariants as writes
-use Rattle.check_report.specs.declared.rows.row.Verdict.TheVariants.{Bad}
 use Rattle.check_report.specs.declared.rows.writer.RowWriter.{RowWriter}
 use Rattle.check_report.specs.declared.rows.printer.Printer.{Printer}
 use Rattle.check_report.specs.Rows.Fields.{Line}
-use Rattle.check_report.specs.Rows.Rows.{SeenRow, counts_of, has_verdict, kinds_of, report_lines}
+use Rattle.check_report.specs.Rows.Rows.{SeenRow, counts_of, kinds_of, report_lines}
+use Rattle.check_report.specs.Rows.Rows.{has_bad}
 use Rattle.check_report.specs.Rows.Rows.{row_line, seen_kind, shown_rows}
 use Rattle.check_report.specs.Rows.Reports.{ending, follows_after, parts}
 
@@ -44,14 +43,12 @@ module _ {W : Type 0} (sink : SinkOf W) where
     pub printed : let lines = map row_line (shown_rows verbose rows) in HasPrinted start
         writer.printer (parts start.form false lines) (follows_after false lines)
 
-  -- A successful call prints all rows, more rows and the ending, and tells whether a row is bad.
-  pub record Ends (result : Result Bool WriteFault) (old new : RowWriter W)
-      (more : List SeenRow) : Type 0 where
-    pub ended : IfOk result (λ is_bad. (start : Printer W) (verbose : Bool) (rows : List SeenRow)
-        → HasWritten start verbose rows old → let all = rows ++ more in
-        (is_bad ≡ list_any (has_verdict Bad) all)
+  -- A successful call prints the ending, and tells whether a row is bad.
+  pub record Ends (result : Result Bool WriteFault) (old new : RowWriter W) : Type 0 where
+    pub ended : IfOk result (λ bad. (start : Printer W) (verbose : Bool) (rows : List SeenRow)
+        → HasWritten start verbose rows old → (bad ≡ has_bad rows)
         × Appends (sink.contents start.out) (sink.contents new.printer.out)
-        (parts start.form false (report_lines verbose all) ++ ending start.form (counts_of all)))
+        (parts start.form false (report_lines verbose rows) ++ ending start.form (counts_of rows)))
     pub cause : sink.faults old.printer.out + fault_count by_sink result
         ≤ sink.faults new.printer.out
 

@@ -70,6 +70,9 @@ members (f ∷ fs) = option_map_or (λ j. member f.0 j (members fs)) f.1.json (m
 abbrev pub Line : Type 0
 Line = record { head : List ℕ; fields : List SeenField }
 
+abbrev pub seen_line : List ℕ → List (Bor (List ℕ) × Value) → Line
+seen_line head fields = record { head = head; fields = map seen_field fields }
+
 abbrev pub line_text : Line → List ℕ
 line_text line = line.head ++ flat_map field_text line.fields ++ line_feed
 

@@ -16,11 +16,7 @@ use Rattle.check_report.specs.declared.rows.form.Form.{Form}
 use Rattle.check_report.specs.declared.rows.form.Form.TheVariants as forms
 use Rattle.check_report.specs.Rows.Fields.{Line, SeenField, items, json_value, line_json}
 use Rattle.check_report.specs.Rows.Fields.{line_text, members, seen_value, text_value}
-use Rattle.check_report.specs.Rows.Rows.{SeenRow, counts_of, report_lines, summary}
-
-abbrev pub file_fields : Files → List SeenField
-file_fields f = (codes "format", seen_value (Count 1)) ∷ (codes "image", text_value f.image.now)
-    ∷ (codes "old", option_map_or text_value (option_copied f.old) (seen_value Absent)) ∷ []
+use Rattle.check_report.specs.Rows.Rows.{summary}
 
 abbrev pub count_fields : Counts → List SeenField
 count_fields c = (codes "bad", seen_value (Count c.bad))
@@ -32,8 +28,9 @@ lines_field name lines = (name, json_value (array (items (map line_json lines)))
 
 -- the fields before the rows
 abbrev pub first_fields : Files → Option (List Line) → List SeenField
-first_fields files list = file_fields files
-    ++ option_map_or (λ lines. lines_field (codes "components") lines ∷ []) list []
+first_fields f list = (codes "format", seen_value (Count 1)) ∷ (codes "image", text_value f.image.now)
+    ∷ (codes "old", option_map_or text_value (option_copied f.old) (seen_value Absent))
+    ∷ option_map_or (λ lines. lines_field (codes "components") lines ∷ []) list []
 
 abbrev pub document : Files → Option (List Line) → List Line → Counts → Json
 document files list rows counts = object (members
@@ -43,13 +40,6 @@ document files list rows counts = object (members
 abbrev pub part : Form → Bool → List ℕ → List Token → List ℕ
 part forms.Text follows text tokens = text
 part forms.Json follows text tokens = print_from follows tokens
-
--- in text the list, the rows and the counts, in JSON the document; then a line feed
-unfoldable pub report : Form → Bool → Files → Option (List Line) → List SeenRow → List ℕ
-report form is_verbose files list rows = let lines = report_lines is_verbose rows in
-    part form false (option_map_or (flat_map line_text) list [] ++ flat_map line_text lines
-    ++ summary (counts_of rows)) (json_tokens (document files list lines (counts_of rows)))
-    ++ line_feed
 
 -- ---- its parts
 

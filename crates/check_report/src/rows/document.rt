@@ -1,5 +1,5 @@
 //! Parts of the JSON document.
-ghost use Rattle.std.specs.Prelude.{◌≡◌, [], ◌∷◌, map};
+ghost use Rattle.std.specs.Prelude.{◌≡◌, [], ◌∷◌, None, map};
 ghost use Rattle.std.specs.List.{flat_map};
 ghost use Rattle.flash_format.specs.Texts.{hexadecimal};
 ghost use Rattle.json.specs.Json.{array};
@@ -8,8 +8,8 @@ ghost use Rattle.json.specs.Reads.{token_of};
 ghost use Rattle.json.specs.Token.{string};
 ghost use Rattle.json.specs.Tree.{json_tokens};
 ghost use Rattle.check_report.specs.declared.rows.form.Form.TheVariants as forms;
-ghost use Rattle.check_report.specs.Rows.Fields.{items, name_json, number_json, seen_field};
-ghost use Rattle.check_report.specs.Rows.Reports.{ending, file_fields, member_tokens};
+ghost use Rattle.check_report.specs.Rows.Fields.{items, name_json, number_json, seen_field, seen_line};
+ghost use Rattle.check_report.specs.Rows.Reports.{ending, first_fields, member_tokens};
 ghost use Rattle.check_report.specs.Rows.Reports.{parts, start_tokens};
 ghost use Rattle.check_report.specs.Rows.Effects.{AddsTokens};
 ghost use Rattle.flash_device.specs.Pages.{Lists};
@@ -91,8 +91,7 @@ pub fn line_object(
     follows: bool,
     fields: &[Field<'_>],
 ) -> Result<Vec<u8>, AllocError>
-    ensures { Lists result
-        (parts forms.Json follows (record { head = []; fields = map seen_field fields.now } ∷ [])) }
+    ensures { Lists result (parts forms.Json follows (seen_line [] fields.now ∷ [])) }
 {
     let mut text = Vec::new(alloc);
     push(&mut text, if follows { "," } else { "" }.as_bytes())?;
@@ -104,7 +103,7 @@ pub fn line_object(
 }
 
 fn file_fields<'a>(files: Files<'a>) -> [Field<'a>; 3]
-    ensures { map seen_field result ≡ file_fields files.entry }
+    ensures { map seen_field result ≡ first_fields files.entry None }
 {
     [
         ("format", Value::Count(1)),
@@ -115,7 +114,7 @@ fn file_fields<'a>(files: Files<'a>) -> [Field<'a>; 3]
 
 /// Returns the document up to the start of this array.
 pub fn json_start(alloc: Global, files: Files<'_>, array: &str) -> Result<Vec<u8>, AllocError>
-    ensures { Lists result (print (start_tokens (file_fields files.entry) array.now)) }
+    ensures { Lists result (print (start_tokens (first_fields files.entry None) array.now)) }
 {
     let mut writer = Writer::new(Vec::new(alloc));
     put(&mut writer, Token::BeginObject)?;

@@ -1,9 +1,9 @@
 //! A report, printed line by line.
-ghost use Rattle.std.specs.Prelude.{◌≡◌, ◌∷◌, [], false, map};
+ghost use Rattle.std.specs.Prelude.{◌≡◌, ◌∷◌, [], None, false};
 ghost use lib.Chars.{codes};
 ghost use Rattle.json.specs.Token.{begin_array, end_array, key};
-ghost use Rattle.check_report.specs.Rows.Fields.{seen_field};
-ghost use Rattle.check_report.specs.Rows.Reports.{ending, file_fields, part, start_tokens};
+ghost use Rattle.check_report.specs.Rows.Fields.{seen_line};
+ghost use Rattle.check_report.specs.Rows.Reports.{ending, first_fields, part, start_tokens};
 ghost use Rattle.check_report.specs.Rows.Effects.{Prints, PrintsLines};
 
 use crate::fault::WriteFault;
@@ -41,7 +41,7 @@ impl<W: Sink + Drop> Printer<W> {
     /// Prints the report up to this array's first item.
     pub fn start(&mut self, files: Files<'_>, array: &str) -> Result<(), WriteFault>
         ensures { Prints W.Sink result self.old self.new
-            (part self.old.form false [] (start_tokens (file_fields files.entry) array.now)) false }
+            (part self.old.form false [] (start_tokens (first_fields files.entry None) array.now)) false }
     {
         self.follows = false;
         match self.form {
@@ -51,8 +51,7 @@ impl<W: Sink + Drop> Printer<W> {
     }
 
     pub fn line(&mut self, head: &str, fields: &[Field<'_>]) -> Result<(), WriteFault>
-        ensures { PrintsLines W.Sink result self.old self.new
-            (record { head = head.now; fields = map seen_field fields.now } ∷ []) }
+        ensures { PrintsLines W.Sink result self.old self.new (seen_line head.now fields.now ∷ []) }
     {
         let part = match self.form {
             Form::Text => line(self.alloc, head, fields)?,
@@ -65,8 +64,8 @@ impl<W: Sink + Drop> Printer<W> {
     /// Prints the part between the components and the rows.
     #[tactic(auto, unfolding(json::specs::Print::print_from, json::specs::Print::escape_byte))]
     pub fn between(&mut self) -> Result<(), WriteFault>
-        ensures { Prints W.Sink result self.old self.new (part self.old.form false []
-            (end_array ∷ key (codes "rows") ∷ begin_array ∷ [])) false }
+        ensures { Prints W.Sink result self.old self.new
+            (part self.old.form false [] (end_array ∷ key (codes "rows") ∷ begin_array ∷ [])) false }
     {
         self.follows = false;
         match self.form {

@@ -1,10 +1,10 @@
 //! Rows.
 
-ghost use Rattle.std.specs.Prelude.{◌≡◌, map};
+ghost use Rattle.std.specs.Prelude.{◌≡◌, if◌then◌else◌, map};
 ghost use Rattle.check_report.specs.Rows.Rows as rows;
-ghost use Rattle.check_report.specs.Rows.Rows.{row_fields, seen_row, verdict_word};
+ghost use Rattle.check_report.specs.Rows.Rows.{row_line, seen_row, verdict_word};
 ghost use Rattle.check_report.specs.Rows.Fields.{seen_field};
-ghost use Rattle.check_report.specs.FindingRows.{finding_verdict};
+ghost use Rattle.check_report.specs.declared.rows.row.Verdict.TheVariants.{Bad, Remark};
 
 use crate::rows::field::{Field, Value};
 use flash_map::NumberedArea;
@@ -29,7 +29,7 @@ impl Verdict {
     }
 
     pub fn of_finding(is_bad: bool) -> Verdict
-        ensures { result ≡ finding_verdict is_bad }
+        ensures { result ≡ (if is_bad then Bad else Remark) }
     {
         if is_bad { Self::Bad } else { Self::Remark }
     }
@@ -71,7 +71,7 @@ pub struct Row<'a> {
 impl<'a> Row<'a> {
     /// Returns the fields after the verdict.
     pub fn fields(&self) -> [Field<'a>; 8]
-        ensures { map seen_field result ≡ row_fields (seen_row self.now) }
+        ensures { map seen_field result ≡ (row_line (seen_row self.now)).fields }
     {
         [
             ("verdict", Value::Code(self.verdict.word())),

@@ -1,8 +1,8 @@
 //! Lines as text.
-ghost use Rattle.std.specs.Prelude.{◌≡◌, ◌++◌, map, OnOk};
+ghost use Rattle.std.specs.Prelude.{◌≡◌, ◌++◌, OnOk};
 ghost use Rattle.std.specs.Fmt.{decimal};
 ghost use Rattle.flash_format.specs.Texts.{line_feed, printed_name};
-ghost use Rattle.check_report.specs.Rows.Fields.{field_text, line_text, seen_field};
+ghost use Rattle.check_report.specs.Rows.Fields.{field_text, line_text, seen_field, seen_line};
 ghost use Rattle.check_report.specs.Rows.Rows.{summary};
 ghost use Rattle.flash_device.specs.Pages.{Lists};
 
@@ -52,8 +52,7 @@ fn push_field(text: &mut Vec<u8>, field: Field<'_>) -> Result<(), AllocError>
 }
 
 pub fn line(alloc: Global, head: &str, fields: &[Field<'_>]) -> Result<Vec<u8>, AllocError>
-    ensures { Lists result
-        (line_text (record { head = head.now; fields = map seen_field fields.now })) }
+    ensures { Lists result (line_text (seen_line head.now fields.now)) }
 {
     let mut text = Vec::new(alloc);
     push(&mut text, head.as_bytes())?;

@@ -101,7 +101,7 @@ impl<W: Sink + Drop> RowWriter<W> {
 
     /// Prints the end. Returns whether a row is bad.
     pub fn finish(&mut self) -> Result<bool, WriteFault>
-        ensures { Ends W.Sink result self.old self.new [] }
+        ensures { Ends W.Sink result self.old self.new }
     {
         self.printer.more(limited(self.is_verbose, &self.kinds))?;
         self.printer.end(self.counts)?;

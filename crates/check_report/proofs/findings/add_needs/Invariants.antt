@@ -1,10 +1,8 @@
-use Rattle.std.proofs.Common.{Ok, map, take}
-use Rattle.std.specs.List.{flat_map}
-use Rattle.check_findings.specs.Needs.{wish_of}
+use Rattle.std.proofs.Common.{Ok, take}
 use Rattle.check_report.specs.Rows.Effects.{Adds}
 use Rattle.check_report.specs.FindingRows.{need_rows}
 use Rattle.check_report.proofs.findings.add_needs.Given as goal
 
 abbrev pub invariant-loop-need : goal.invariant-loop-need
 invariant-loop-need g l = Adds g.W.Sink (Ok tt) l.initial.rows l.rows
-    (flat_map (need_rows l.findings) (map wish_of (take l.need-index l.needs)))
+    (need_rows l.findings (take l.need-index l.needs))

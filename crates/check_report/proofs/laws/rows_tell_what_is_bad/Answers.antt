@@ -1,7 +1,9 @@
 -- A row is bad if its finding is bad.
 use Rattle.std.proofs.Common.{◌≡◌, ◌∙◌, ℕ, zero, List, [], ◌∷◌, ◌++◌, refl}
 use Rattle.std.specs.Prelude.{Bool, true, false, None, is_none, not}
+use Rattle.std.specs.Borrow.{Bor}
 use Rattle.std.specs.List.{flat_map, list_any}
+use Rattle.std.specs.Option.{option_map_or}
 use Rattle.std.specs.Str.{is_utf8}
 use Rattle.flash_format.specs.TypeNames.{name_of_type}
 use Rattle.std.proofs.lemmas.List.Concat.{flat_map-cons}
@@ -18,10 +20,11 @@ use Rattle.check_findings.specs.declared.image.finding.ImageFinding.{ImageFindin
 use Rattle.check_findings.specs.declared.image.finding.ImageFinding.TheVariants.{Map, Region, NotChecked}
 use Rattle.check_findings.specs.Verdicts.{is_bad, is_bad_hash, is_bad_map, is_bad_region}
 use Rattle.check_findings.specs.Lists.{only_if}
-use Rattle.check_report.specs.Rows.Rows.{SeenRow, at_component}
-use Rattle.check_report.specs.FindingRows.{component_rows, has_hash_row, hash_row, map_row, region_rows, rows_of}
+use Rattle.check_report.specs.Rows.Rows.{SeenRow, at_component, in_area}
+use Rattle.check_report.specs.FindingRows.{component_rows, has_hash_row, hash_row, map_row, plain_row, rows_of}
 use Rattle.check_report.specs.declared.rows.row.Verdict.TheVariants.{Bad}
 use Rattle.check_report.specs.Rows.Rows.{area_name, has_verdict}
+use Rattle.check_report.proofs.HiddenRows.{bad_after}
 use Rattle.check_report.proofs.laws.rows_tell_what_is_bad.Goals as goal
 
 -- the same for all findings
@@ -54,18 +57,23 @@ bad_component asked region at name false content =
     ∙ no_bad (is_none (name_of_type content.kind)) _ _ refl
     ∙ bad_hash asked region at name content.hash asked.is_verbose asked.needs_hashes
 
-bad_region : (asked : Asked) (region : List ℕ) (f : RegionFinding) → list_any (has_verdict Bad) (region_rows asked region f) ≡ is_bad_region asked.needs_hashes f
+abbrev rows_in : Asked → List ℕ → RegionFinding → List SeenRow
+rows_in asked area f = option_map_or (λ row. in_area area row ∷ []) (plain_row f) (component_rows asked area f)
+
+bad_region : (asked : Asked) (region : List ℕ) (f : RegionFinding) → list_any (has_verdict Bad) (rows_in asked region f) ≡ is_bad_region asked.needs_hashes f
 bad_region asked region (of_region.Component at name shadowed content) = bad_component asked region at name shadowed content
 bad_region asked region (of_region.Components zero) = refl
 bad_region asked region (of_region.LargestContent None) = refl
 bad_region asked region _ = refl
 
-bad_finding : (asked : Asked) (names : List (List ℕ)) (f : ImageFinding) → list_any (has_verdict Bad) (rows_of asked names f) ≡ is_bad asked.needs_hashes f
+bad_finding : (asked : Asked) (names : List (Bor (List ℕ))) (f : ImageFinding) → list_any (has_verdict Bad) (rows_of asked names f) ≡ is_bad asked.needs_hashes f
 bad_finding asked names (Map f) = bad_map f
-bad_finding asked names (Region a findings) = bad_rows (region_rows asked (area_name a)) (is_bad_region asked.needs_hashes) (bad_region asked (area_name a)) findings
+bad_finding asked names (Region a findings) = bad_rows (rows_in asked (area_name a)) (is_bad_region asked.needs_hashes) (bad_region asked (area_name a)) findings
 bad_finding asked names (NotChecked a true) = refl
 bad_finding asked names _ = refl
 
 pub returns : goal.returns
-returns c = λ asked names.
-    bad_rows (rows_of asked names) (is_bad asked.needs_hashes) (bad_finding asked names)
+returns c = record {
+  findings = λ asked names. bad_rows (rows_of asked names) (is_bad asked.needs_hashes) (bad_finding asked names);
+  limits = bad_after [];
+}

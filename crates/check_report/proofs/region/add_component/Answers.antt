@@ -17,7 +17,7 @@ returns g c =
     let third = c.at_component-3.ensures ∙ ap here number in
     let hash = c.at_component-row.ensures ∙ ap here c.row.ensures in
     let words = c.hash_words.ensures in
-    let shown = rw (hash, c.of_finding-verdict.ensures, c.is_bad_hash.ensures, words.code, words.text)
+    let shown = rw (hash, c.of_finding-verdict.ensures, c.is_bad_hash.ensures, ap (λ w. w.0) words, ap (λ w. w.1) words)
     at c.add_if-4.ensures in
     rw (c.in-Component.is, ← c.as_slice-name.ensures)
     (adds_after (rw first at c.in_ok-add_if.ensures)

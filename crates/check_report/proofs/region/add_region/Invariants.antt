@@ -1,9 +1,8 @@
 use Rattle.std.proofs.Common.{Ok, take}
-use Rattle.std.specs.List.{flat_map}
 use Rattle.check_report.specs.Rows.Effects.{Adds}
 use Rattle.check_report.specs.FindingRows.{region_rows}
 use Rattle.check_report.proofs.region.add_region.Given as goal
 
 abbrev pub invariant-loop-finding : goal.invariant-loop-finding
 invariant-loop-finding g l = Adds g.W.Sink (Ok tt) l.initial.rows l.rows
-    (flat_map (region_rows l.asked l.region) (take l.finding-index l.findings))
+    (region_rows l.asked l.region (take l.finding-index l.findings))

@@ -10,7 +10,6 @@ use Rattle.check_report.specs.declared.rows.row.Verdict.TheVariants.{Bad}
 use Rattle.check_report.specs.Rows.Rows.{SeenRow, has_verdict, is_like, rows_by, verdict_word}
 use Rattle.check_findings.specs.Lists.{only_if}
 use Rattle.check_report.proofs.RowCounts.{same_verdict}
-use Rattle.check_report.proofs.laws.limits_lose_no_bad_row.Goals as goal
 
 bad_before : (before : List SeenRow) (row : SeenRow) → 0 < count_by (is_like row) before → has_verdict Bad row ≡ true → list_any (has_verdict Bad) before ≡ true
 bad_before [] row some bad = absurd (grind arith)
@@ -21,7 +20,7 @@ bad_before (other ∷ before) row some bad = go (is_like row other) refl (bad_be
     go false is later =
         let less : 0 < count_by (is_like row) before = omega (arith, rw (sum_by-cons (λ t. if is_like row t then 1 else 0) other before, is) at some) in grind (arith, later less bad)
 
-bad_after : (before rows : List SeenRow)
+pub bad_after : (before rows : List SeenRow)
     → (list_any (has_verdict Bad) before || list_any (has_verdict Bad) (rows_by (λ n. nat_lt n 16) before rows)) ≡ (list_any (has_verdict Bad) before || list_any (has_verdict Bad) rows)
 bad_after before [] = refl
 bad_after before (row ∷ rows) = go (nat_lt (count_by (is_like row) before) 16) refl (rw (list_any-append (has_verdict Bad) before (row ∷ [])) at (bad_after (before ++ row ∷ []) rows))
@@ -34,6 +33,3 @@ bad_after before (row ∷ rows) = go (nat_lt (count_by (is_like row) before) 16)
         → (list_any (has_verdict Bad) before || list_any (has_verdict Bad) (only_if b row ++ later)) ≡ (list_any (has_verdict Bad) before || (has_verdict Bad row || list_any (has_verdict Bad) rows))
     go true is all = grind (arith, all)
     go false is all = grind (arith, all, bad_before before row (grind (arith, nat_tests, is)))
-
-pub returns : goal.returns
-returns c = bad_after []
