@@ -1,5 +1,4 @@
--- Bad findings break a command or the boot, or report an omitted check. Others are remarks: for
--- each, a definition has a line.
+-- Bad findings break a command or the boot, or report an omitted check. Others are remarks.
 use Rattle.std.specs.Prelude.{Bool, true, false, ◌||◌}
 use Rattle.std.specs.List.{list_any}
 use Rattle.check_findings.specs.declared.map.finding.MapFinding.{MapFinding}
@@ -13,27 +12,38 @@ use Rattle.check_findings.specs.declared.image.finding.ImageFinding.TheVariants.
 use Rattle.check_findings.specs.declared.image.finding.ImageFinding.TheVariants.{NotChecked, NoArea}
 
 abbrev pub is_bad_map : MapFinding → Bool
+is_bad_map of_map.NoMap = true
+is_bad_map of_map.OtherSize = true
+is_bad_map (of_map.AreaOutside a) = true
+is_bad_map (of_map.SameName a first) = true
+is_bad_map (of_map.Overlap a other) = true
+is_bad_map of_map.TooManyAreas = true
+is_bad_map (of_map.MapAreaMisses a) = true
 is_bad_map (of_map.Map map) = false
 is_bad_map (of_map.OtherMap map) = false
 is_bad_map (of_map.AreaEmpty a) = false
 is_bad_map (of_map.AreaNameNotText a) = false
-is_bad_map _ = true
 
 -- a digest is bad if it doesn't match, or if required but missing
 abbrev pub is_bad_hash : Bool → HashFinding → Bool
 is_bad_hash needs (hashes.Invalid algorithm) = true
+is_bad_hash needs hashes.Missing = needs
+is_bad_hash needs hashes.Unsupported = needs
 is_bad_hash needs (hashes.Valid algorithm) = false
-is_bad_hash needs _ = needs
 
 abbrev pub is_bad_region : Bool → RegionFinding → Bool
+is_bad_region needs of_region.BadSize = true
+is_bad_region needs of_region.NotCbfs = true
 is_bad_region needs (of_region.Component at name shadowed c) = shadowed || is_bad_hash needs c.hash
+is_bad_region needs (of_region.TailFilled at) = true
+is_bad_region needs (of_region.TailEntry at) = true
+is_bad_region needs (of_region.Damaged at kind) = true
 is_bad_region needs (of_region.Deleted at) = false
 is_bad_region needs of_region.Complete = false
 is_bad_region needs (of_region.Tail at) = false
 is_bad_region needs (of_region.Components n) = false
 is_bad_region needs (of_region.FreeBytes n) = false
 is_bad_region needs (of_region.LargestContent n) = false
-is_bad_region needs _ = true
 
 abbrev pub is_bad : Bool → ImageFinding → Bool
 is_bad needs (Map finding) = is_bad_map finding
