@@ -1,21 +1,19 @@
 -- A region after a refused edit.
 use Rattle.std.proofs.Common.{arith}
 use Rattle.std.proofs.lemmas.Grind.{common_steps}
-use Rattle.std.proofs.Common.{◌≡◌, ◌≢◌, ◌⊎◌, inl, inr, ℕ, List, Result, Ok, Err, IsErrOf}
+use Rattle.std.proofs.Common.{◌≡◌, ◌≢◌, ◌⊎◌, inl, inr, refl, ℕ, List, Result, Ok, Err, IsErrOf, IsTrue}
 use Rattle.std.specs.Result.{IsErrAnd}
+use Rattle.flash_device.specs.Device.{Device}
 use Rattle.flash_device.specs.Regions.{Range, bytes_in}
 use Rattle.flash_map.specs.Regions.{region_of}
 use Rattle.flash_map.specs.declared.search.StoreFault.{StoreFault}
 use Rattle.flash_map.specs.declared.search.StoreFault.TheVariants as store
 use Rattle.cbfs_edit.specs.declared.addition.HashChoice.{HashChoice}
-use Rattle.cbfs_edit.specs.declared.addition.Placed.{Placed}
 use Rattle.cbfs_edit.specs.declared.fault.EditFault.{EditFault}
 use Rattle.cbfs_edit.specs.declared.fault.EditFault.TheVariants as edit
-use Rattle.cbfs_edit.specs.declared.group.CellRange.{CellRange}
 use Rattle.cbfs_edit.specs.declared.place.Spot.{Spot}
-use Rattle.cbfs_edit.specs.Additions.{addition_in, new_component, placed_of}
-use Rattle.cbfs_edit.specs.Changes.{AddLeavesBefore, AddLeavesWhole, LeavesWhole}
-use Rattle.cbfs_edit.specs.Removals.{removal_in}
+use Rattle.cbfs_edit.specs.Additions.{new_component}
+use Rattle.cbfs_edit.specs.Changes.{Adds, LeavesWhole, Removes, by_fault}
 use Rattle.cbfs_commands.specs.declared.refusal.Refusal.{Refusal}
 use Rattle.cbfs_commands.specs.declared.refusal.Refusal.TheVariants as refusals
 use Rattle.cbfs_commands.specs.Effects.{add, changes, effect, on_region, remove}
@@ -27,19 +25,22 @@ use Rattle.cbfs_commands.specs.Printouts.{CommandResult}
 abbrev pub LeavesOr : List ℕ → CommandResult → Outcome → Type 0
 LeavesOr now answer o = ((answer ≡ o.printout.answer) × (now ≡ o.image)) ⊎ IsFault answer
 
+-- the failed device or source, or an error of the edit itself
+refused_by : {D S O : Type 0} (f : EditFault) → by_fault f D S O → ((f ≡ edit.Device) × D) ⊎ (((f ≡ edit.Source) × S) ⊎ ((f ≢ edit.Device) × (f ≢ edit.Source) × O))
+refused_by edit.Device d = inl (refl, d)
+refused_by edit.Source s = inr (inl (refl, s))
+refused_by _ o = inr (inr (λ is. cc, λ is. cc, o))
+
 -- a found region: the answer is the edit's error, and only a fault leaves a change
-module _ (image between now source name : List ℕ) (region : Range) (fault : EditFault) (answer : CommandResult) (sought : (let r : Result Range StoreFault = Ok region in IsErrOf r store.Device ⊎ (r ≡ region_of image name))) (unread : between ≡ image) (printout : IsErrAnd answer (λ refusal. refusal ≡ edit_refusal fault)) (same : fault ≢ edit.Device → fault ≢ edit.Source → now ≡ between) where
-  here : Ok region ≡ region_of image name
-  here = elim sought [ inl failed ↦ absurd cc | inr is ↦ is ]
+module _ (image between now name : List ℕ) (source : Device) (region : Range) (fault : EditFault) (answer : CommandResult) (sought : (let r : Result Range StoreFault = Ok region in IsErrOf r store.Device ⊎ (r ≡ region_of image name))) (unread : between ≡ image) (printout : IsErrAnd answer (λ refusal. refusal ≡ edit_refusal fault)) where
+  pub addition_refused : (component : List ℕ) (kind : ℕ) (hash : HashChoice) (spot : Spot) → IsTrue source.honest → Adds region (new_component component kind hash) spot source (Err fault) between now
+      → LeavesOr now answer ((effect (on_region name (add component kind hash spot))).outcome image source.content)
+      × ((found : Range) → region_of image name ≡ Ok found → AddStopsIn found image (new_component component kind hash source.content) spot answer now)
+  addition_refused component kind hash spot honest adds =
+      let by = refused_by fault adds in grind (arith, common_steps)
 
-  left : (next : Range → Result (List ℕ) Refusal) → (fault ≢ edit.Device → fault ≢ edit.Source → next region ≡ Err (edit_refusal fault)) → let made : Result (List ℕ) Refusal = fault_or (λ f. Err (store_refusal f)) (region_of image name) next in LeavesOr now answer (changes image made)
-  left next refused = grind (arith, common_steps)
-
-  pub addition_refused : (component : List ℕ) (kind : ℕ) (hash : HashChoice) (spot : Spot) → let new = new_component component kind hash source in let x = bytes_in region between in let r : Result Placed EditFault = Err fault in
-      (IsErrOf r edit.Device ⊎ (IsErrOf r edit.Source ⊎ (r ≡ placed_of (addition_in x new spot)))) → (IsErrOf r edit.Device → AddLeavesWhole x new spot (bytes_in region now)) → (IsErrOf r edit.Source → AddLeavesBefore x new spot (bytes_in region now))
-      → LeavesOr now answer ((effect (on_region name (add component kind hash spot))).outcome image source) × ((found : Range) → region_of image name ≡ Ok found → AddStopsIn found image new spot answer now)
-  addition_refused component kind hash spot is whole before = grind (arith, common_steps)
-
-  pub removal_refused : (component : List ℕ) → let x = bytes_in region between in let r : Result CellRange EditFault = Err fault in (IsErrOf r edit.Device ⊎ (r ≡ removal_in x component)) → (IsErrOf r edit.Device → LeavesWhole x component (bytes_in region now))
-      → LeavesOr now answer ((effect (on_region name (remove component))).outcome image source) × ((found : Range) → region_of image name ≡ Ok found → IsErrOf answer refusals.Device → LeavesWhole (bytes_in found image) component (bytes_in found now))
-  removal_refused component is whole = grind (arith, common_steps)
+  pub removal_refused : (component : List ℕ) → Removes region component (Err fault) between now
+      → LeavesOr now answer ((effect (on_region name (remove component))).outcome image source.content)
+      × ((found : Range) → region_of image name ≡ Ok found → IsErrOf answer refusals.Device → LeavesWhole (bytes_in found image) component (bytes_in found now))
+  removal_refused component removes =
+      let by = refused_by fault removes in grind (arith, common_steps)

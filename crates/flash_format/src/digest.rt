@@ -33,20 +33,14 @@ impl Algorithm {
     pub fn number(self) -> u32
         ensures { result ≡ (algorithm_row self).number }
     {
-        match self {
-            Algorithm::Sha256 => 2,
-            Algorithm::Sha512 => 3,
-        }
+        self.row().0
     }
 
     /// Returns the digest length in bytes.
     pub fn digest_len(self) -> usize
         ensures { result ≡ (algorithm_row self).len }
     {
-        match self {
-            Algorithm::Sha256 => 32,
-            Algorithm::Sha512 => 64,
-        }
+        self.row().1
     }
 
     /// Returns the printed name.
@@ -54,9 +48,17 @@ impl Algorithm {
         ensures value { result.now ≡ (algorithm_row self).name }
         ensures short { length result.now ≤ 6 }
     {
+        self.row().2
+    }
+
+    /// Returns vboot's number, the digest length in bytes, and the printed name.
+    fn row(self) -> (u32, usize, &'static str)
+        ensures { record { number = result.0; len = result.1; name = result.2.now }
+            ≡ algorithm_row self }
+    {
         match self {
-            Algorithm::Sha256 => "sha256",
-            Algorithm::Sha512 => "sha512",
+            Algorithm::Sha256 => (2, 32, "sha256"),
+            Algorithm::Sha512 => (3, 64, "sha512"),
         }
     }
 }

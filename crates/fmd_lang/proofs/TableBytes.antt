@@ -8,8 +8,8 @@ use Rattle.std.proofs.lemmas.Bool.{leb-true, ltb-true}
 use Rattle.std.proofs.lemmas.List.Elements.{All-nil, All-cons, All-append}
 use Rattle.flash_format.specs.declared.flashmap.Area.{Area}
 use Rattle.flash_format.specs.Flashmap.{is_map_name}
-use Rattle.flash_format.specs.Laws.{IsAreaInBytes, IsReadAsMap}
-use Rattle.flash_format.proofs.MapBytes.{maps_read_back}
+use Rattle.flash_format.specs.Laws.{IsReadAsMap}
+use Rattle.flash_format.proofs.MapBytes.{IsAreaInBytes, maps_read_back}
 use Rattle.fmd_lang.specs.Words.{Word, words}
 use Rattle.fmd_lang.specs.Faults.{first_fault}
 use Rattle.fmd_lang.specs.LayoutFaults.{layout_fault}

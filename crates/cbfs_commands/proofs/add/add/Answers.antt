@@ -9,8 +9,8 @@ returns-in_err-add g c =
     let found = c.in_ok-region.ensures in
     let after = c.in_err-add.ensures in
     let refused = λ (h : IsTrue c.args.paged.now.device.honest) (serves : IsTrue source.honest). let still = honest_still found.after.device.calls.same_honesty h in
-    addition_refused c.args.paged.now.device.content c.region.new.paged.device.content c.add.new.paged.device.content source.content c.args.region.now c.in_ok-region.region c.in_err-add.field-0.0 c.from_residual-in_err-add.result (found.answer h) (found.after.device.unchanged h)
-    c.from_residual-in_err-add.ensures.1 (after.refused still) c.args.name.now c.args.kind c.args.hash c.args.spot (after.answer still) (after.stopped still serves) (after.before still) in
+    addition_refused c.args.paged.now.device.content c.region.new.paged.device.content c.add.new.paged.device.content c.args.region.now source c.in_ok-region.region c.in_err-add.field-0.0 c.from_residual-in_err-add.result (found.answer h) (found.after.device.unchanged h)
+    c.from_residual-in_err-add.ensures.1 c.args.name.now c.args.kind c.args.hash c.args.spot serves (after.effect still) in
     record {
       calls = search rules;
       source_calls = search rules;

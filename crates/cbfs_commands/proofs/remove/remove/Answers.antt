@@ -1,5 +1,6 @@
-use Rattle.std.proofs.Common.{[], IsTrue, rules}
+use Rattle.std.proofs.Common.{IsTrue, rules}
 use Rattle.flash_device.proofs.DeviceLemmas.{honest_still}
+use Rattle.cbfs_commands.specs.Effects.{no_source}
 use Rattle.cbfs_commands.proofs.RefusedEdits.{removal_refused}
 use Rattle.cbfs_commands.proofs.remove.remove.Goals as goal
 
@@ -8,8 +9,8 @@ returns-in_err-remove g c =
     let found = c.in_ok-region.ensures in
     let after = c.in_err-remove.ensures in
     let refused = λ (h : IsTrue c.args.paged.now.device.honest). let still = honest_still found.after.device.calls.same_honesty h in
-    removal_refused c.args.paged.now.device.content c.region.new.paged.device.content c.remove.new.paged.device.content [] c.args.region.now c.in_ok-region.region c.in_err-remove.field-0.0 c.from_residual-in_err-remove.result (found.answer h) (found.after.device.unchanged h)
-    c.from_residual-in_err-remove.ensures.1 (λ device source. after.refused still device) c.args.name.now (after.answer still) (after.stopped still) in
+    removal_refused c.args.paged.now.device.content c.region.new.paged.device.content c.remove.new.paged.device.content c.args.region.now no_source c.in_ok-region.region c.in_err-remove.field-0.0 c.from_residual-in_err-remove.result (found.answer h) (found.after.device.unchanged h)
+    c.from_residual-in_err-remove.ensures.1 c.args.name.now (after.effect still) in
     record {
       calls = search rules;
       source_calls = search rules;
