@@ -29,9 +29,8 @@ head_at x = if has_magic x then Some (head_of x) else None
 
 -- `struct cbfs_file`
 unfoldable pub head_bytes : Head → List ℕ
-head_bytes h =
-    codes "LARCHIVE" ++ big_bytes 4 h.len ++ big_bytes 4 h.kind ++ big_bytes 4 h.attributes_offset
-    ++ big_bytes 4 h.offset
+head_bytes h = codes "LARCHIVE" ++ big_bytes 4 h.len ++ big_bytes 4 h.kind
+    ++ big_bytes 4 h.attributes_offset ++ big_bytes 4 h.offset
 
 -- deleted or null
 abbrev pub is_free : Head → Bool
