@@ -15,7 +15,7 @@ use Rattle.flash_format.specs.declared.digest.Digest.{Digest}
 use Rattle.flash_format.specs.declared.digest.Algorithm.{Algorithm}
 use Rattle.flash_format.specs.declared.digest.Algorithm.TheVariants.{Sha256, Sha512}
 use Rattle.flash_format.specs.Head.{head_of, head_at, head_bytes, round64}
-use Rattle.flash_format.specs.Made.{name_padding, padding, IsDigest, IsMade, KeepsFour, name_room, meta_length, algorithm_row, digest_bytes, hash_attribute, hash_contents, hash_bytes, hash_len, made_head, padded_name, made_metadata, made, made_attributes}
+use Rattle.flash_format.specs.Made.{name_padding, padding, IsDigest, IsMade, KeepsFour, name_room, meta_length, algorithm_row, digest_bytes, hash_attribute, hash_contents, hash_bytes, hash_len, made_head, made_metadata, made, made_attributes}
 use Rattle.flash_format.specs.Entry.{Attribute, attr_head_of, attributes, attributes_after, ends_list, HASH, cell, present, component, is_nul, name_end, name_field, is_terminated, attribute_field}
 use Rattle.flash_format.specs.Components.{component_at}
 use Rattle.flash_format.specs.Placings.{IsReadAs, made_component}
@@ -85,6 +85,9 @@ few_bytes Sha256 = omega arith
 few_bytes Sha512 = omega arith
 
 -- ---- the parts of metadata
+
+abbrev padded_name : List ℕ → List ℕ
+padded_name name = name ++ replicate (name_room (length name) - length name) 0
 
 pub length-padded : (name : List ℕ) → length (padded_name name) ≡ name_room (length name)
 length-padded name = omega (arith, length-append name (replicate (name_room (length name) - length name) 0), length-replicate {A = ℕ} (name_room (length name) - length name) 0)

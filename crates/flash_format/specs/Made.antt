@@ -95,9 +95,6 @@ hash_bytes digest = option_map_or hash_attribute digest []
 abbrev pub hash_len : Option Digest → ℕ
 hash_len digest = option_map_or (λ d. 12 + digest_len d) digest 0
 
-abbrev pub padded_name : List ℕ → List ℕ
-padded_name name = name ++ replicate (name_room (length name) - length name) 0
-
 abbrev pub made_attributes : Option Digest → List Attribute
 made_attributes digest =
     option_map_or (λ d. record { tag = HASH; contents = hash_contents d } ∷ []) digest []
@@ -118,8 +115,8 @@ module _ (name : List ℕ) (kind : ℕ) (digest : Option Digest) (gap : ℕ) whe
       record { len = n; kind = kind; attributes_offset = attributes; offset = offset }
 
   abbrev pub made_metadata : ℕ → List ℕ
-  made_metadata n = head_bytes (made_head n) ++ padded_name name ++ hash_bytes digest
-      ++ replicate gap 0xff
+  made_metadata n = let nuls = replicate (name_room (length name) - length name) 0 in
+      head_bytes (made_head n) ++ (name ++ nuls) ++ hash_bytes digest ++ replicate gap 0xff
 
   -- a component's cell, up to a multiple of 64; may preserve its last four bytes
   abbrev pub made : List ℕ → Option (List ℕ) → List ℕ
