@@ -34,10 +34,11 @@ present_cell h x (Err k) span p = absurd cc
 present_cell h x (Ok e) span p = (e, refl, grind (arith, nat_tests))
 
 pub head_is : (x : List ℕ) (h : Head) → head_at x ≡ Some h → head_of x ≡ h
+unfolding head_at
 head_is x h e = grind (arith, nat_tests)
 
 pub front_some : (x : List ℕ) (h : Head) → front x ≡ Some h → (24 ≤ length x) × (head_at x ≡ Some h) × (h ≡ head_of x)
-front_some x h e = grind (arith, nat_tests)
+front_some x h e = grind (arith, nat_tests, head_is)
 
 pub cell_is : (x : List ℕ) (span : ℕ) → entry x ≡ cell span → IsCell x span
 unfolding entry

@@ -59,3 +59,7 @@ writing_more n rest at text w le = go at w (positive at w.room)
           first = first_set text (at - 1) d (omega (arith, w.len, w.in_text));
           all = ap (digits_onto (49 + (at - 1)) 16 false (rest / 16)) (kept ∙ w.first) ∙ sym (more (49 + (at - 1)) rest (drop (at + 1) text) le) ∙ ap (λ k. digits_onto k 16 false rest (drop (at + 1) text)) (sym more_digits) ∙ w.all;
         }
+
+-- all digits are written
+pub writing_end : (n rest at : ℕ) (text : List ℕ) → Writing n rest at text → rest < 16 → drop at text ≡ digits 16 false n
+writing_end n rest at text w lt = grind (arith, common_steps)

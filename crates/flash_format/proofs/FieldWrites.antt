@@ -7,7 +7,7 @@ use Rattle.byteorder.specs.Numbers.{big_number-reads_back, little_number-reads_b
 use Rattle.flash_format.specs.declared.head.Head.{Head}
 use Rattle.flash_format.specs.declared.flashmap.FmapHead.{FmapHead}
 use Rattle.flash_format.specs.declared.flashmap.Area.{Area}
-use Rattle.flash_format.specs.Head.{head_at, head_of, has_magic, head_bytes}
+use Rattle.flash_format.specs.Head.{head_at, head_of, head_bytes}
 use Rattle.flash_format.specs.Flashmap.{fmap_head_of, fmap_head_bytes, has_signature, area_of, area_bytes}
 
 -- written over the remaining zeros
@@ -16,7 +16,7 @@ pub put_name_and_number : (bytes front field number name written more : List ℕ
 put_name_and_number bytes front field number name written more at begun named numbered front_long name_long = search (arith, rules, length-append, drop_all, take_at, drop_at, append_assoc)
 
 pub head_is_read_back : (x : List ℕ) (h : Head) → x ≡ head_bytes h → h.len < 256 ^ 4 → h.kind < 256 ^ 4 → h.attributes_offset < 256 ^ 4 → h.offset < 256 ^ 4 → head_at x ≡ Some h
-unfolding has_magic head_of head_bytes
+unfolding head_at head_of head_bytes
 head_is_read_back x h bytes len_fits kind_fits attributes_fit offset_fits = rw (
   bytes,
   big_number-reads_back 4 h.len [] len_fits,

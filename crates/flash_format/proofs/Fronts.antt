@@ -6,7 +6,7 @@ use Rattle.std.proofs.lemmas.Slice.{between_is}
 use Rattle.byteorder.specs.Endian.{big_number, little_number}
 use Rattle.std.proofs.lemmas.List.{get_or-take}
 use Rattle.flash_format.specs.Flashmap.{le, fmap_head_of, has_signature, area_of}
-use Rattle.flash_format.specs.Head.{be32, head_of, has_magic, head_at}
+use Rattle.flash_format.specs.Head.{be32, head_of, head_at}
 use Rattle.flash_format.specs.Entry.{attr_head_of}
 
 pub range-take : (x : List ℕ) (n a b : ℕ) → b ≤ n → slice_range (take n x) a b ≡ slice_range x a b
@@ -23,12 +23,9 @@ pub head_of-take : (x : List ℕ) (n : ℕ) → 24 ≤ n → head_of (take n x) 
 unfolding head_of
 head_of-take x n le = rw (be32-take x n 8 (omega arith), be32-take x n 12 (omega arith), be32-take x n 16 (omega arith), be32-take x n 20 (omega arith)) refl
 
-pub has_magic-take : (x : List ℕ) (n : ℕ) → 24 ≤ n → has_magic (take n x) ≡ has_magic x
-unfolding has_magic
-has_magic-take x n le = rw (take-take 8 n x (omega arith)) refl
-
 pub head_at-take : (x : List ℕ) (n : ℕ) → 24 ≤ n → head_at (take n x) ≡ head_at x
-head_at-take x n le = rw (has_magic-take x n le, head_of-take x n le) refl
+unfolding head_at
+head_at-take x n le = rw (take-take 8 n x (omega arith), head_of-take x n le) refl
 
 pub attr_head_of-take : (x : List ℕ) (n : ℕ) → 8 ≤ n → attr_head_of (take n x) ≡ attr_head_of x
 unfolding attr_head_of

@@ -7,7 +7,6 @@ use Rattle.std.proofs.lemmas.Bool.Decides.{nat_tests}
 use Rattle.std.proofs.lemmas.List.Folds.{list_any-append}
 use Rattle.std.proofs.lemmas.List.{take_at, drop_at, append-nil, length-replicate}
 use Rattle.std.proofs.Math.Seq.{take-append-add}
-use Rattle.byteorder.specs.Endian.{big_bytes}
 use Rattle.byteorder.specs.Numbers.{big_number-reads_back}
 use Rattle.flash_format.specs.declared.head.Head.{Head}
 use Rattle.flash_format.specs.declared.head.Extent.{Extent}
@@ -16,7 +15,7 @@ use Rattle.flash_format.specs.declared.digest.Digest.{Digest}
 use Rattle.flash_format.specs.declared.digest.Algorithm.{Algorithm}
 use Rattle.flash_format.specs.declared.digest.Algorithm.TheVariants.{Sha256, Sha512}
 use Rattle.flash_format.specs.Head.{head_of, head_at, head_bytes, round64}
-use Rattle.flash_format.specs.Made.{name_padding, padding, IsDigest, IsMade, KeepsFour, name_room, meta_length, algorithm_row, algorithm, digest_bytes, hash_attribute, hash_bytes, hash_len, made_head, padded_name, made_metadata, made, made_attributes}
+use Rattle.flash_format.specs.Made.{name_padding, padding, IsDigest, IsMade, KeepsFour, name_room, meta_length, algorithm_row, digest_bytes, hash_attribute, hash_contents, hash_bytes, hash_len, made_head, made_metadata, made, made_attributes}
 use Rattle.flash_format.specs.Entry.{Attribute, attr_head_of, attributes, attributes_after, ends_list, HASH, cell, present, component, is_nul, name_end, name_field, is_terminated, attribute_field}
 use Rattle.flash_format.specs.Components.{component_at}
 use Rattle.flash_format.specs.Placings.{IsReadAs, made_component}
@@ -66,29 +65,29 @@ unfolding attr_head_of
 gap_ends (suc (suc (suc (suc gap)))) = grind (arith, nat_tests, or_right)
 gap_ends _ = refl
 
-hash_head : (number : ℕ) (bytes more : List ℕ) → length bytes ≤ 64 → attr_head_of (hash_attribute number bytes ++ more) ≡ record { tag = HASH; len = 12 + length bytes }
+hash_head : (d : Digest) (more : List ℕ) → length (digest_bytes d) ≤ 64 → attr_head_of (hash_attribute d ++ more) ≡ record { tag = HASH; len = 12 + length (digest_bytes d) }
 unfolding attr_head_of hash_attribute
-hash_head number bytes more few = grind (arith, nat_tests, big_number-reads_back)
+hash_head d more few = grind (arith, nat_tests, big_number-reads_back)
 
-length-hash : (number : ℕ) (bytes : List ℕ) → length (hash_attribute number bytes) ≡ 12 + length bytes
+length-hash : (d : Digest) → length (hash_attribute d) ≡ 12 + length (digest_bytes d)
 unfolding hash_attribute
-length-hash number bytes = omega arith
+length-hash d = omega arith
 
-hash_value : (number : ℕ) (bytes more : List ℕ) → slice_range (hash_attribute number bytes ++ more) 8 (12 + length bytes) ≡ big_bytes 4 number ++ bytes
+hash_value : (d : Digest) (more : List ℕ) → slice_range (hash_attribute d ++ more) 8 (12 + length (digest_bytes d)) ≡ hash_contents d
 unfolding hash_attribute
-hash_value number bytes more =
-    let value : List ℕ = big_bytes 4 number ++ bytes in
-    take_at value more (12 + length bytes - 8) (omega arith)
+hash_value d more = take_at (hash_contents d) more (12 + length (digest_bytes d) - 8) (omega arith)
 
-hash_read : (number : ℕ) (bytes : List ℕ) (gap : ℕ) → length bytes ≤ 64
-    → attributes (hash_attribute number bytes ++ replicate gap 255) ≡ Some (record { tag = HASH; contents = big_bytes 4 number ++ bytes } ∷ [])
-hash_read number bytes gap few = grind (arith, nat_tests, hash_head, length-hash, length-append, or_from, le-ltb, hash_value, drop_at, attributes_end, gap_ends, attributes_more)
+hash_read : (d : Digest) (gap : ℕ) → length (digest_bytes d) ≤ 64 → attributes (hash_attribute d ++ replicate gap 255) ≡ Some (record { tag = HASH; contents = hash_contents d } ∷ [])
+hash_read d gap few = grind (arith, nat_tests, hash_head, length-hash, length-append, or_from, le-ltb, hash_value, drop_at, attributes_end, gap_ends, attributes_more)
 
 pub few_bytes : (a : Algorithm) → (algorithm_row a).len ≤ 64
 few_bytes Sha256 = omega arith
 few_bytes Sha512 = omega arith
 
 -- ---- the parts of metadata
+
+abbrev padded_name : List ℕ → List ℕ
+padded_name name = name ++ replicate (name_room (length name) - length name) 0
 
 pub length-padded : (name : List ℕ) → length (padded_name name) ≡ name_room (length name)
 length-padded name = omega (arith, length-append name (replicate (name_room (length name) - length name) 0), length-replicate {A = ℕ} (name_room (length name) - length name) 0)
@@ -188,7 +187,7 @@ made_alone name kind digest gap content last is four =
 
 pub hash_as_long : (digest : Option Digest) → IsDigest digest → length (hash_bytes digest) ≡ hash_len digest
 hash_as_long None is = refl
-hash_as_long (Some d) is = length-hash (algorithm_row (algorithm d)).number (digest_bytes d) ∙ ap (λ (k : ℕ). 12 + k) is
+hash_as_long (Some d) is = length-hash d ∙ ap (λ (k : ℕ). 12 + k) is
 
 pub made_as_long : (name : List ℕ) (kind : ℕ) (digest : Option Digest) (gap : ℕ) (content : List ℕ) (last : Option (List ℕ)) → IsDigest digest → KeepsFour last
     → length (made name kind digest gap content last) ≡ round64 (meta_length (length name) (hash_len digest) + gap + length content)

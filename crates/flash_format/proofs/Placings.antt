@@ -1,6 +1,6 @@
 -- A component in place of free cells: one more, and no other change.
 use Rattle.std.proofs.lemmas.Bool.Decides.{nat_tests}
-use Rattle.std.proofs.Common.{◌≡◌, ℕ, ◌+◌, ◌-◌, ◌%◌, ◌≤◌, false, cond, List, [], ◌∷◌, ◌++◌, length, Option, ◌∙◌, ap, arith, All, append_assoc, length-append}
+use Rattle.std.proofs.Common.{◌≡◌, ℕ, ◌+◌, ◌-◌, ◌%◌, ◌^◌, ◌<◌, ◌≤◌, false, cond, List, [], ◌∷◌, ◌++◌, length, Option, ◌∙◌, ap, subst, arith, All, append_assoc, length-append}
 use Rattle.std.specs.List.{concat}
 use Rattle.std.proofs.lemmas.List.{append-nil}
 use Rattle.std.proofs.lemmas.List.Elements.{All-nil, All-cons, All-append}
@@ -8,8 +8,9 @@ use Rattle.flash_format.specs.Head.{head_of, is_free}
 use Rattle.flash_format.specs.Made.{empty_entry, KeepsFour}
 use Rattle.flash_format.specs.Cut.{IsCell}
 use Rattle.flash_format.specs.Components.{Component, component_at, components_from}
-use Rattle.flash_format.specs.Splices.{AllFree}
-use Rattle.flash_format.specs.Placings.{IsSpace, space_cells, made_component}
+use Rattle.flash_format.specs.declared.digest.Digest.{Digest}
+use Rattle.flash_format.specs.Splices.{AllFree, CellsBetween, splice}
+use Rattle.flash_format.specs.Placings.{HasOneMore, IsReadAs, IsSpace, space_cells, made_component}
 use Rattle.flash_format.specs.Laws.{ComponentsArePlaced}
 use Rattle.flash_format.proofs.CutSteps.{cell_span}
 use Rattle.flash_format.proofs.CellLists.{components-append}
@@ -38,29 +39,46 @@ component_among start at a b x free_before free_after used place = simp (compone
 concat-three : (before bytes after : List ℕ) → concat (space_cells before ++ (bytes ∷ []) ++ space_cells after) ≡ before ++ (bytes ++ after)
 concat-three before bytes after = simp (concat-append, concat-space, append_assoc)
 
-pub components_placed : ComponentsArePlaced
-components_placed x start end g at before whole after name kind digest content free place read =
-    let cells : List (List ℕ) = space_cells before ++ (whole ∷ []) ++ space_cells after in
-    let component : Component = made_component at name kind digest content whole in
+pub placed : ComponentsArePlaced
+placed x start end g before used after free space_before space_after is_cell is_used aligned size small =
+    let cells : List (List ℕ) = space_cells before ++ (used ∷ []) ++ space_cells after in
+    let at = start + length before in
     let start_whole : start % 64 ≡ 0 = omega (arith, g.start_is, length-concat-cells g.before (cells-before x start end g)) in
     let end_whole : end % 64 ≡ 0 = omega (arith, g.end_is, start_whole, length-concat-cells g.group (cells-group x start end g)) in
-    let whole_span : length whole % 64 ≡ 0 = (cell_span whole (length whole) read.is_cell).whole in
-    let first = space_each (at - start) before place.space_before (omega (arith, place.aligned, place.from_start, start_whole)) (omega (arith, place.small, place.to_end)) in
-    let last = space_each (end - (at + length whole)) after place.space_after (omega (arith, place.aligned, place.to_end, end_whole, whole_span)) (omega (arith, place.small, place.from_start)) in
+    let used_span : length used % 64 ≡ 0 = (cell_span used (length used) is_cell).whole in
+    let sum : length (before ++ (used ++ after)) ≡ length before + (length used + length after) = length-append before (used ++ after) ∙ ap (λ n. length before + n) (length-append used after) in
+    let first = space_each (length before) before space_before aligned (omega (arith, small, size, sum)) in
+    let last = space_each (length after) after space_after (omega (arith, aligned, start_whole, end_whole, used_span, size, sum)) (omega (arith, small, size, sum)) in
     let each : All IsCell cells =
-    All-append IsCell (space_cells before ++ (whole ∷ [])) (space_cells after)
-    (All-append IsCell (space_cells before) (whole ∷ []) first.0 (All-cons IsCell whole [] read.is_cell (All-nil IsCell)))
+    All-append IsCell (space_cells before ++ (used ∷ [])) (space_cells after)
+    (All-append IsCell (space_cells before) (used ∷ []) first.0 (All-cons IsCell used [] is_cell (All-nil IsCell)))
     last.0 in
-    let joined : concat cells ≡ before ++ (whole ++ after) = concat-three before whole after in
-    let size : start + length (concat cells) ≡ end =
-    omega (arith, ap length joined, length-append before (whole ++ after), length-append whole after, place.space_before.long, place.space_after.long, place.from_start, place.to_end) in
-    let there : start + length (concat (space_cells before)) ≡ at = omega (arith, ap length (concat-space before), place.space_before.long, place.from_start) in
-    let here : components_from start cells ≡ component ∷ [] =
-    component_among start at (space_cells before) (space_cells after) whole first.1 last.1 read.is_used there
-    ∙ ap (λ (c : Component). c ∷ []) (read.component at) in
+    let joined : concat cells ≡ before ++ (used ++ after) = concat-three before used after in
+    let long : start + length (concat cells) ≡ end = ap (λ (l : List ℕ). start + length l) joined ∙ size in
+    let here : components_from start cells ≡ component_at at used ∷ [] =
+    component_among start at (space_cells before) (space_cells after) used first.1 last.1 is_used (ap (λ (l : List ℕ). start + length l) (concat-space before)) in
     record {
-      is_cut = rw joined at (splice-cut x start end g cells each size);
-      same_end = rw joined at (splice-end x start end g cells each size);
+      is_cut = rw joined at (splice-cut x start end g cells each long);
+      same_end = rw joined at (splice-end x start end g cells each long);
       old_components = rw (components-free start g.group free, append-nil) at (group-components x start end g);
-      new_components = rw (joined, here, append_assoc (components_from 0 g.before)) at (splice-components x start end g cells each size);
+      new_components = rw (joined, here, append_assoc (components_from 0 g.before)) at (splice-components x start end g cells each long);
     }
+
+-- a cell between start and end, with free space up to both
+pub record IsPlacing (start end at : ℕ) (before cell after : List ℕ) : Type 0 where
+  pub aligned : at % 64 ≡ 0
+  pub from_start : start ≤ at
+  pub to_end : at + length cell ≤ end
+  pub small : end - start < 2 ^ 32
+  pub space_before : IsSpace (at - start) before
+  pub space_after : IsSpace (end - (at + length cell)) after
+
+pub components_placed : (x : List ℕ) (start end : ℕ) (g : CellsBetween x start end) (at : ℕ) (before whole after name : List ℕ) (kind : ℕ) (digest : Option Digest) (content : List ℕ)
+    → AllFree g.group → IsPlacing start end at before whole after → IsReadAs name kind digest content whole (length whole)
+    → HasOneMore x start end g (space_cells before ++ (whole ∷ []) ++ space_cells after) (made_component at name kind digest content whole) (splice x start end (before ++ (whole ++ after)))
+components_placed x start end g at before whole after name kind digest content free place read =
+    let start_whole : start % 64 ≡ 0 = omega (arith, g.start_is, length-concat-cells g.before (cells-before x start end g)) in
+    let begins : start + length before ≡ at = omega (arith, place.space_before.long, place.from_start) in
+    let size : start + length (before ++ (whole ++ after)) ≡ end = omega (arith, length-append before (whole ++ after), length-append whole after, place.space_before.long, place.space_after.long, place.from_start, place.to_end) in
+    let more = placed x start end g before whole after free (rw place.space_before.long place.space_before) (rw place.space_after.long place.space_after) read.is_cell read.is_used (omega (arith, begins, place.aligned, start_whole)) size place.small in
+    subst (λ (c : Component). HasOneMore x start end g (space_cells before ++ (whole ∷ []) ++ space_cells after) c (splice x start end (before ++ (whole ++ after)))) (ap (λ n. component_at n whole) begins ∙ read.component at) more

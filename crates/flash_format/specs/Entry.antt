@@ -52,8 +52,7 @@ attributes_after skip [] = Some []
 attributes_after (suc skip) (b ∷ rest) = attributes_after skip rest
 attributes_after zero (b ∷ rest) = let x = b ∷ rest in
     if ends_list x then Some [] else (if is_malformed x then None
-    else option_map (λ others. attribute x ∷ others)
-    (attributes_after (pred (attr_head_of x).len) rest))
+    else option_map (◌∷◌ (attribute x)) (attributes_after (pred (attr_head_of x).len) rest))
 
 -- None for a malformed attribute
 abbrev pub attributes : List ℕ → Option (List Attribute)

@@ -24,20 +24,15 @@ has_signature x = starts_with nat_eq x (codes "__FMAP__")
 
 -- after the signature
 unfoldable pub fmap_head_of : List ℕ → FmapHead
-fmap_head_of x = record {
-  major = slice_index x 8;
-  minor = slice_index x 9;
-  base = le 8 10 x;
-  size = le 4 18 x;
-  name = slice_range x 22 54;
-  nareas = le 2 54 x;
-}
+fmap_head_of x = let major = slice_index x 8 in let minor = slice_index x 9 in
+    let base = le 8 10 x in let size = le 4 18 x in
+    let name = slice_range x 22 54 in let nareas = le 2 54 x in
+    record { major = major; minor = minor; base = base; size = size; name = name; nareas = nareas }
 
 -- `struct fmap`
 unfoldable pub fmap_head_bytes : FmapHead → List ℕ
-fmap_head_bytes h =
-    codes "__FMAP__" ++ (h.major ∷ h.minor ∷ []) ++ little_bytes 8 h.base ++ little_bytes 4 h.size
-    ++ h.name ++ little_bytes 2 h.nareas
+fmap_head_bytes h = codes "__FMAP__" ++ (h.major ∷ h.minor ∷ []) ++ little_bytes 8 h.base
+    ++ little_bytes 4 h.size ++ h.name ++ little_bytes 2 h.nareas
 
 unfoldable pub area_of : List ℕ → Area
 area_of x =

@@ -1,6 +1,7 @@
 -- The first 24 bytes of a CBFS entry (`struct cbfs_file`, big-endian), and the checks of a head
 -- alone. This project's rules: the order and limits of the checks.
-use Rattle.std.specs.Prelude.{ℕ, ◌+◌, ◌*◌, ◌/◌, Bool, not, ◌&&◌, ◌||◌, List, ◌++◌, slice_range, Option, Some, None, Result, Ok, Err, nat_eq, nat_lt, ◌==◌, if◌then◌else◌}
+use Rattle.std.specs.Prelude.{ℕ, ◌+◌, ◌*◌, ◌/◌, Bool, not, ◌&&◌, ◌||◌, List, ◌++◌, slice_range, Option, Result, Ok, Err, nat_eq, nat_lt, ◌==◌, if◌then◌else◌}
+use Rattle.std.specs.Bool.{then_some}
 use Rattle.std.specs.List.{starts_with}
 use Rattle.byteorder.specs.Endian.{big_number, big_bytes}
 use lib.Chars.{codes}
@@ -21,17 +22,14 @@ unfoldable pub head_of : List ℕ → Head
 head_of x =
     record { len = be32 8 x; kind = be32 12 x; attributes_offset = be32 16 x; offset = be32 20 x }
 
-unfoldable pub has_magic : List ℕ → Bool
-has_magic x = starts_with nat_eq x (codes "LARCHIVE")
-
-abbrev pub head_at : List ℕ → Option Head
-head_at x = if has_magic x then Some (head_of x) else None
+-- None without the magic
+unfoldable pub head_at : List ℕ → Option Head
+head_at x = then_some (starts_with nat_eq x (codes "LARCHIVE")) (head_of x)
 
 -- `struct cbfs_file`
 unfoldable pub head_bytes : Head → List ℕ
-head_bytes h =
-    codes "LARCHIVE" ++ big_bytes 4 h.len ++ big_bytes 4 h.kind ++ big_bytes 4 h.attributes_offset
-    ++ big_bytes 4 h.offset
+head_bytes h = codes "LARCHIVE" ++ big_bytes 4 h.len ++ big_bytes 4 h.kind
+    ++ big_bytes 4 h.attributes_offset ++ big_bytes 4 h.offset
 
 -- deleted or null
 abbrev pub is_free : Head → Bool

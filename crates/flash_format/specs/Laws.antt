@@ -1,14 +1,12 @@
 -- Laws of the definitions.
-use Rattle.std.specs.Prelude.{◌≡◌, ◌≢◌, ℕ, ◌+◌, ◌%◌, ◌^◌, ◌<◌, ◌≤◌, true, List, [], ◌∷◌, ◌++◌, length, take, drop, map, All, Option}
+use Rattle.std.specs.Prelude.{◌≡◌, ◌≢◌, ℕ, ◌+◌, ◌-◌, ◌%◌, ◌^◌, ◌<◌, ◌≤◌, true, false, List, [], ◌∷◌, ◌++◌, length, take, drop, map, All}
 use Rattle.std.specs.List.{concat}
-use Rattle.flash_format.specs.declared.digest.Digest.{Digest}
-use Rattle.flash_format.specs.Head.{head_of, is_free, round64}
-use Rattle.flash_format.specs.Made.{IsDigest, IsMade, KeepsFour, meta_length, hash_len, made_metadata, made}
+use Rattle.flash_format.specs.Head.{head_of, is_free}
 use Rattle.flash_format.specs.Entry.{entry, cell}
 use Rattle.flash_format.specs.Cut.{cut, after, IsCell, IsCut}
-use Rattle.flash_format.specs.Components.{Component, components, components_from}
+use Rattle.flash_format.specs.Components.{Component, component_at, components, components_from}
 use Rattle.flash_format.specs.Splices.{AllFree, CellsBetween, splice}
-use Rattle.flash_format.specs.Placings.{IsPlacing, IsReadAs, HasOneMore, space_cells, made_component}
+use Rattle.flash_format.specs.Placings.{IsSpace, HasOneMore, space_cells}
 use Rattle.flash_format.specs.Flashmap.{areas_from, fmap_head_len, fmap_head_of, is_map}
 use Rattle.flash_format.specs.declared.flashmap.Area.{Area}
 use Rattle.flash_format.specs.declared.flashmap.FmapHead.{FmapHead}
@@ -47,25 +45,15 @@ pub record GroupsAreReplaced (x : List ℕ) (start end : ℕ) (g : CellsBetween 
   pub listed : components (splice x start end (concat new))
       ≡ components_from 0 g.before ++ components_from start new ++ components_from end g.after
 
-pub record MadeCellsAreReadAsMade (name : List ℕ) (kind : ℕ) (digest : Option Digest) (gap : ℕ)
-    (content : List ℕ) : Type 0 where
-  -- metadata and content decode as a cell, whatever follows
-  pub metadata : (more : List ℕ) → IsMade name kind digest gap content
-      → let component = made_metadata name kind digest gap (length content) ++ content in
-      IsReadAs name kind digest content (component ++ more) (round64 (length component))
-  pub len : (last : Option (List ℕ)) → IsDigest digest → KeepsFour last
-      → length (made name kind digest gap content last)
-      ≡ round64 (meta_length (length name) (hash_len digest) + gap + length content)
-
--- a cell between free space, in place of free cells, adds exactly one component
+-- a used cell between free space, in place of free cells, adds exactly one component
 abbrev pub ComponentsArePlaced : Type 0
-ComponentsArePlaced = (x : List ℕ) (start end : ℕ) (g : CellsBetween x start end) (at : ℕ)
-    (before whole after name : List ℕ) (kind : ℕ) (digest : Option Digest) (content : List ℕ)
-    → AllFree g.group → IsPlacing start end at before whole after
-    → IsReadAs name kind digest content whole (length whole)
-    → HasOneMore x start end g (space_cells before ++ (whole ∷ []) ++ space_cells after)
-    (made_component at name kind digest content whole)
-    (splice x start end (before ++ (whole ++ after)))
+ComponentsArePlaced = (x : List ℕ) (start end : ℕ) (g : CellsBetween x start end)
+    (before used after : List ℕ) → AllFree g.group → IsSpace (length before) before
+    → IsSpace (length after) after → IsCell used → is_free (head_of used) ≡ false
+    → length before % 64 ≡ 0 → start + length (before ++ (used ++ after)) ≡ end
+    → end - start < 2 ^ 32
+    → HasOneMore x start end g (space_cells before ++ (used ∷ []) ++ space_cells after)
+    (component_at (start + length before) used) (splice x start end (before ++ (used ++ after)))
 
 -- no valid map begins below q
 abbrev pub NoMapBelow : List ℕ → ℕ → Type 0

@@ -59,14 +59,11 @@ abbrev pub algorithm_row : Algorithm → AlgorithmRow
 algorithm_row Sha256 = record { number = 2; len = 32; name = codes "sha256" }
 algorithm_row Sha512 = record { number = 3; len = 64; name = codes "sha512" }
 
-abbrev pub algorithms : List Algorithm
-algorithms = Sha256 ∷ Sha512 ∷ []
-
 abbrev pub algorithm_numbered : ℕ → Option Algorithm
-algorithm_numbered number = find (λ a. (algorithm_row a).number == number) algorithms
+algorithm_numbered number = find (λ a. (algorithm_row a).number == number) (Sha256 ∷ Sha512 ∷ [])
 
 abbrev pub algorithm_named : List ℕ → Option Algorithm
-algorithm_named name = find (λ a. bytes_eq (algorithm_row a).name name) algorithms
+algorithm_named name = find (λ a. bytes_eq (algorithm_row a).name name) (Sha256 ∷ Sha512 ∷ [])
 
 abbrev pub digest_with : Algorithm → List ℕ → Digest
 digest_with Sha256 bytes = digests.Sha256 bytes
@@ -83,25 +80,24 @@ digest_bytes (digests.Sha512 bytes) = bytes
 abbrev pub digest_len : Digest → ℕ
 digest_len digest = (algorithm_row (algorithm digest)).len
 
+-- a hash attribute's contents: the algorithm's number and the digest
+abbrev pub hash_contents : Digest → List ℕ
+hash_contents d = big_bytes 4 (algorithm_row (algorithm d)).number ++ digest_bytes d
+
 -- `struct cbfs_file_attr_hash`
-unfoldable pub hash_attribute : ℕ → List ℕ → List ℕ
-hash_attribute number d = big_bytes 4 HASH ++ big_bytes 4 (12 + length d) ++ big_bytes 4 number ++ d
+unfoldable pub hash_attribute : Digest → List ℕ
+hash_attribute d = big_bytes 4 HASH ++ big_bytes 4 (12 + length (digest_bytes d)) ++ hash_contents d
 
 abbrev pub hash_bytes : Option Digest → List ℕ
-hash_bytes digest = option_map_or
-    (λ d. hash_attribute (algorithm_row (algorithm d)).number (digest_bytes d)) digest []
+hash_bytes digest = option_map_or hash_attribute digest []
 
 -- the attribute's length, or 0
 abbrev pub hash_len : Option Digest → ℕ
 hash_len digest = option_map_or (λ d. 12 + digest_len d) digest 0
 
-abbrev pub padded_name : List ℕ → List ℕ
-padded_name name = name ++ replicate (name_room (length name) - length name) 0
-
 abbrev pub made_attributes : Option Digest → List Attribute
-made_attributes digest = option_map_or (λ d.
-    let value = big_bytes 4 (algorithm_row (algorithm d)).number ++ digest_bytes d in
-    record { tag = HASH; contents = value } ∷ []) digest []
+made_attributes digest =
+    option_map_or (λ d. record { tag = HASH; contents = hash_contents d } ∷ []) digest []
 
 abbrev pub IsDigest : Option Digest → Type 0
 IsDigest digest = IfSome digest (λ d. length (digest_bytes d) ≡ digest_len d)
@@ -119,8 +115,8 @@ module _ (name : List ℕ) (kind : ℕ) (digest : Option Digest) (gap : ℕ) whe
       record { len = n; kind = kind; attributes_offset = attributes; offset = offset }
 
   abbrev pub made_metadata : ℕ → List ℕ
-  made_metadata n = head_bytes (made_head n) ++ padded_name name ++ hash_bytes digest
-      ++ replicate gap 0xff
+  made_metadata n = let nuls = replicate (name_room (length name) - length name) 0 in
+      head_bytes (made_head n) ++ (name ++ nuls) ++ hash_bytes digest ++ replicate gap 0xff
 
   -- a component's cell, up to a multiple of 64; may preserve its last four bytes
   abbrev pub made : List ℕ → Option (List ℕ) → List ℕ

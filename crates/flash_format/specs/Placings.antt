@@ -1,5 +1,5 @@
 -- The placement of a component in free cells.
-use Rattle.std.specs.Prelude.{◌≡◌, ℕ, ◌+◌, ◌-◌, ◌%◌, ◌^◌, ◌<◌, ◌≤◌, Bool, false, List, [], ◌∷◌, ◌++◌, length, Option}
+use Rattle.std.specs.Prelude.{◌≡◌, ℕ, ◌<◌, Bool, false, List, [], ◌∷◌, ◌++◌, length, Option}
 use Rattle.flash_format.specs.declared.digest.Digest.{Digest}
 use Rattle.flash_format.specs.Made.{empty_header, made_attributes}
 use Rattle.flash_format.specs.Head.{head_of, is_free}
@@ -16,15 +16,6 @@ pub record IsSpace (size : ℕ) (bytes : List ℕ) : Type 0 where
 abbrev pub space_cells : List ℕ → List (List ℕ)
 space_cells [] = []
 space_cells (b ∷ bytes) = (b ∷ bytes) ∷ []
-
--- a cell between start and end, with free space up to both
-pub record IsPlacing (start end at : ℕ) (before cell after : List ℕ) : Type 0 where
-  pub aligned : at % 64 ≡ 0
-  pub from_start : start ≤ at
-  pub to_end : at + length cell ≤ end
-  pub small : end - start < 2 ^ 32
-  pub space_before : IsSpace (at - start) before
-  pub space_after : IsSpace (end - (at + length cell)) after
 
 abbrev pub made_component : ℕ → List ℕ → ℕ → Option Digest → List ℕ → List ℕ → Component
 made_component at name kind digest content x = let all = made_attributes digest in

@@ -175,8 +175,7 @@ fn first_nul(name: &[u8]) -> Option<usize>
 }
 
 fn text_of(name: &[u8]) -> &[u8]
-    ensures value { result.now ≡ text_of name.now }
-    ensures short { length result.now ≤ length name.now }
+    ensures { result.now ≡ text_of name.now }
 {
     match first_nul(name) {
         Some(end) => &name[..end],

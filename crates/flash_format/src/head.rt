@@ -63,7 +63,7 @@ impl Head {
     pub const LENGTH: usize = 24;
 
     /// Decodes a head, or returns `None` without the magic.
-    #[tactic(auto, unfolding(crate::specs::Head::head_of, crate::specs::Head::has_magic))]
+    #[tactic(auto, unfolding(crate::specs::Head::head_of, crate::specs::Head::head_at))]
     pub fn read(bytes: &[u8; Self::LENGTH]) -> Option<Head>
         ensures { result ≡ head_at bytes.now }
     {

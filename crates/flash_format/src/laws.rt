@@ -3,15 +3,15 @@
 ghost use Rattle.std.specs.Prelude.{◌≡◌, ℕ, ◌+◌, ◌++◌, ◌^◌, ◌%◌, ◌<◌, ◌≤◌, true, List, length, drop, All, MatchOption, Option, Some};
 ghost use Rattle.std.specs.List.{concat, flat_map};
 ghost use Rattle.flash_format.specs.declared.digest.Digest.{Digest};
-ghost use Rattle.flash_format.specs.Made.{name_padding, header_length, empty_entry, KeepsFour, name_room};
-ghost use Rattle.flash_format.specs.Head.{head_of, is_free};
+ghost use Rattle.flash_format.specs.Made.{name_padding, header_length, empty_entry, IsDigest, IsMade, KeepsFour, hash_len, made, made_metadata, meta_length, name_room};
+ghost use Rattle.flash_format.specs.Head.{head_of, is_free, round64};
 ghost use Rattle.flash_format.specs.Entry.{cell, entry};
 ghost use Rattle.flash_format.specs.Cut.{End, cut, IsCell, IsCut};
 ghost use Rattle.flash_format.specs.Splices.{CellsBetween};
-ghost use Rattle.flash_format.specs.Placings.{IsSpace};
+ghost use Rattle.flash_format.specs.Placings.{IsReadAs, IsSpace};
 ghost use Rattle.flash_format.specs.TypeNames.{name_of_type, type_of_text};
 ghost use Rattle.flash_format.specs.Flashmap.{fmap_head_len, fmap_head_of, fmap_head_bytes, area_len, area_of, area_bytes, is_map, is_map_name, map_of};
-ghost use Rattle.flash_format.specs.Laws.{EntriesAreReadAlike, CutsGoOn, GroupsAreReplaced, MadeCellsAreReadAsMade, ComponentsArePlaced, NoMapBelow, IsReadAsMap, PrintedTextsAreReadBack};
+ghost use Rattle.flash_format.specs.Laws.{EntriesAreReadAlike, CutsGoOn, GroupsAreReplaced, ComponentsArePlaced, NoMapBelow, IsReadAsMap, PrintedTextsAreReadBack};
 
 use crate::flashmap::{Area, FmapHead};
 use crate::head::HEADER_LENGTH;
@@ -54,10 +54,16 @@ pub fn groups_are_replaced()
         → a + length (concat new) ≡ b → GroupsAreReplaced x a b g new }
 {}
 
-/// Proves that a written cell decodes to its component, whatever follows.
+/// Proves that a written cell decodes to its component, whatever follows its metadata and content.
 pub fn made_cells_are_read_as_made()
-    ensures made { (name : List ℕ) (kind : ℕ) (digest : Option Digest) (gap : ℕ) (content : List ℕ)
-        → MadeCellsAreReadAsMade name kind digest gap content }
+    ensures made { (name : List ℕ) (kind : ℕ) (digest : Option Digest) (gap : ℕ)
+        (content more : List ℕ) → IsMade name kind digest gap content
+        → let component = made_metadata name kind digest gap (length content) ++ content in
+        IsReadAs name kind digest content (component ++ more) (round64 (length component)) }
+    ensures len { (name : List ℕ) (kind : ℕ) (digest : Option Digest) (gap : ℕ) (content : List ℕ)
+        (last : Option (List ℕ)) → IsDigest digest → KeepsFour last
+        → length (made name kind digest gap content last)
+        ≡ round64 (meta_length (length name) (hash_len digest) + gap + length content) }
     ensures room { (k : ℕ)
         → (k < name_room k) × (name_room k % name_padding ≡ 0) × (name_room k ≤ k + name_padding) }
 {}

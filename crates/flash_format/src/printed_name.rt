@@ -8,25 +8,21 @@ use crate::buffer::push_text;
 use crate::printed_number::digit;
 use arrayvec::ArrayVec;
 
+/// Returns the byte, or `\x` and two digits for the backslash and non-printing bytes.
 #[inline]
 #[tactic(auto, unfolding(crate::specs::Texts::printed_byte))]
-fn push_byte<const N: usize>(buffer: &mut ArrayVec<u8, N>, byte: u8)
-    requires { array_vec_len buffer.old + 4 ≤ N }
-    ensures { Pushes buffer.old (printed_byte byte) 4 buffer.new }
-{
-    if matches!(byte, 0x21..=0x7e) && byte != b'\\' {
-        push_text(buffer, &[byte]);
-    } else {
-        push_text(buffer, &[b'\\', b'x', digit(byte / 16), digit(byte % 16)]);
-    }
-}
-
-/// Returns the byte, or `\x` and two digits for the backslash and non-printing bytes.
 pub fn printed_byte(byte: u8) -> ArrayVec<u8, 4>
     ensures { result.items ≡ printed_byte byte }
 {
     let mut text = ArrayVec::new();
-    push_byte(&mut text, byte);
+    if matches!(byte, 0x21..=0x7e) && byte != b'\\' {
+        push_text(&mut text, &[byte]);
+    } else {
+        push_text(
+            &mut text,
+            &[b'\\', b'x', digit(byte / 16), digit(byte % 16)],
+        );
+    }
     text
 }
 
@@ -36,6 +32,6 @@ pub fn push_name<const N: usize>(buffer: &mut ArrayVec<u8, N>, name: &[u8])
     ensures { Pushes buffer.old (printed_name name.now) (4 * length name.now) buffer.new }
 {
     for byte in name {
-        push_byte(buffer, *byte);
+        push_text(buffer, printed_byte(*byte).as_slice());
     }
 }

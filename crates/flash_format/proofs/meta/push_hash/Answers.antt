@@ -5,7 +5,7 @@ use Rattle.flash_format.specs.Entry.{HASH}
 use Rattle.flash_format.proofs.meta.push_hash.Goals as goal
 
 -- four consecutive pushes
-in_a_row : (old v x y z tag len number bytes : List ℕ) → v ≡ old ++ tag → x ≡ v ++ len → y ≡ x ++ number → z ≡ y ++ bytes → z ≡ old ++ (tag ++ len ++ number ++ bytes)
+in_a_row : (old v x y z tag len number bytes : List ℕ) → v ≡ old ++ tag → x ≡ v ++ len → y ≡ x ++ number → z ≡ y ++ bytes → z ≡ old ++ (tag ++ len ++ (number ++ bytes))
 in_a_row old v x y z tag len number bytes one two three four = rw (four, three, two, one) (simp append_assoc refl)
 
 pub returns-in-Some : goal.returns-in-Some
