@@ -1,5 +1,5 @@
 -- Tokens of the code, and the results of the parser's functions.
-use Rattle.std.specs.Prelude.{◌≡◌, ◌≢◌, ℕ, ◌+◌, ◌<◌, ◌≤◌, ◌⊎◌, List, [], ◌∷◌, ◌++◌, length, None}
+use Rattle.std.specs.Prelude.{◌≡◌, ◌≢◌, ℕ, ◌+◌, ◌<◌, ◌≤◌, ◌⊎◌, List, [], ◌∷◌, ◌++◌, length, Some, None}
 use Rattle.std.specs.Prelude.{MatchOption, Result, Ok, Err}
 use Rattle.fmd_lang.specs.Words.{Word, word, words_after, kind_of}
 use Rattle.fmd_lang.specs.Faults.{Standing, fault_at, token_fault}
@@ -9,6 +9,7 @@ use Rattle.fmd_lang.specs.declared.word.Word.{Word as Piece}
 use Rattle.fmd_lang.specs.declared.parser.Token.{Token}
 use Rattle.fmd_lang.specs.declared.word.Kind.TheVariants.{Number, OpenBrace, CloseBrace}
 use Rattle.fmd_lang.specs.declared.fault.FmdFault.{FmdFault}
+use Rattle.fmd_lang.specs.declared.fault.FmdFault.TheVariants as faults
 
 abbrev pub word_of : Piece → Word
 word_of w = record { place = w.place; bytes = w.bytes.now }
