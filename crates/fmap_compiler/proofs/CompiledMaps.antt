@@ -12,10 +12,4 @@ compiled_found text bytes image q (faultless, (tree, is_tree, laid, (table, is_t
     let read = λ (more : List ℕ). table_read tree text more table faultless is_tree laid is_table in
     let below = subst (λ (l : List ℕ). NoMapBelow (overwritten image q l) q) same none in
     let found = maps_found (table_head table) table.areas.items (table_bytes table) image q read inside below in
-    record {
-      tree = tree;
-      table = table;
-      is_tree = is_tree;
-      is_table = is_table;
-      found = subst (λ (l : List ℕ). FindsMap (table_head table) table.areas.items (overwritten image q l) q) (sym same) found;
-    }
+    (tree, table, is_tree, is_table, subst (λ (l : List ℕ). FindsMap (table_head table) table.areas.items (overwritten image q l) q) (sym same) found)

@@ -9,16 +9,9 @@ use Rattle.fmd_lang.specs.Table.{IsTable, table_head}
 use Rattle.fmd_lang.specs.declared.table.Table.{Table}
 use Rattle.fmap_compiler.specs.Outcome.{Compiles}
 
--- a search finds the table of the text at `q`
-pub record IsMapOfText (text image : List ℕ) (q : ℕ) : Type 0 where
-  pub tree : Tree
-  pub table : Table
-  pub is_tree : IsSection tree (words text)
-  pub is_table : IsTable tree table
-  pub found : FindsMap (table_head table) table.areas.items image q
-
--- a compiled table in an image is found, if no valid map lies below
+-- a search finds the table of a compiled text in an image, if no valid map lies below
 abbrev pub CompiledMapsAreFound : Type 0
 CompiledMapsAreFound = (text bytes image : List ℕ) (q : ℕ) → Compiles text bytes → q ≤ length image
     → let now = overwritten image q bytes in
-    NoMapBelow now q → IsMapOfText text now q
+    NoMapBelow now q → (tree : Tree) × (table : Table) × IsSection tree (words text)
+    × IsTable tree table × FindsMap (table_head table) table.areas.items now q

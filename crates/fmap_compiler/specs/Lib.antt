@@ -1,3 +1,2 @@
 pub mod Outcome
-pub mod TextReaders
 pub mod Laws

@@ -1,6 +1,7 @@
 -- The output and the errors of the compiler.
-use Rattle.std.specs.Prelude.{◌≡◌, ℕ, ◌+◌, ◌≤◌, ◌⊎◌, List, length, take, Option, Some, None, IfSome}
-use Rattle.std.specs.Io.KnownBytes.{Consumes, Keeps}
+use Rattle.std.specs.Prelude.{◌≡◌, ℕ, ◌+◌, ◌≤◌, ◌⊎◌, List, length, take, Option}
+use Rattle.std.specs.Prelude.{Some, None, Result, Ok, Err, IfSome}
+use Rattle.std.specs.Io.KnownBytes.{Appends, Consumes, Keeps}
 use Rattle.flash_device.specs.Output.{AppendsPart}
 use Rattle.fmd_lang.specs.Words.{words}
 use Rattle.fmd_lang.specs.Tree.{Tree}
@@ -11,6 +12,7 @@ use Rattle.fmd_lang.specs.Table.{IsTable, table_bytes}
 use Rattle.fmd_lang.specs.declared.table.Table.{Table}
 use Rattle.fmd_lang.specs.declared.fault.FmdFault.{FmdFault}
 use Rattle.fmd_lang.specs.declared.fault.FmdFault.TheVariants as faults
+use Rattle.fmap_compiler.specs.declared.reader.TextReader.{Ghosts as ReaderOf}
 use Rattle.fmap_compiler.specs.declared.refusal.Refusal.{Refusal}
 use Rattle.fmap_compiler.specs.declared.refusal.Refusal.TheVariants as refusal
 
@@ -35,17 +37,21 @@ Refuses text fault = (first_fault text ≡ Some fault) ⊎ ((first_fault text �
 abbrev pub HasTable : Option (List ℕ) → (List ℕ → Type 0) → Type 0
 HasTable text P = IfSome text (λ t. (bytes : List ℕ) × Compiles t bytes × P bytes)
 
--- the error and the output: nothing, or a proper prefix of the table
-abbrev pub IsRefused : Refusal → Option (List ℕ) → Option (List ℕ) → Option (List ℕ) → Type 0
-IsRefused (refusal.Descriptor fault) text old new =
+-- The output: the table; after an error nothing, or a proper prefix of the table.
+abbrev pub Delivers : (text old new : Option (List ℕ)) → Result (Unit {0}) Refusal → Type 0
+Delivers text old new (Ok done) = HasTable text (Appends old new)
+Delivers text old new (Err (refusal.Descriptor fault)) =
     ((fault ≡ faults.Memory) ⊎ IfSome text (λ t. Refuses t fault)) × Keeps old new
-IsRefused refusal.Read text old new = Keeps old new
-IsRefused refusal.Output text old new = HasTable text (AppendsPart old new)
+Delivers text old new (Err refusal.Read) = Keeps old new
+Delivers text old new (Err refusal.Output) = HasTable text (AppendsPart old new)
 
 -- the text up to the reading limit
 abbrev pub IsPrefixOf : Option (List ℕ) → List ℕ → Type 0
 IsPrefixOf text read = IfSome text (λ t. read ≡ take reading_limit t)
 
 -- the reader advances by at most the reading limit
-abbrev pub ReadsPrefix : Option (List ℕ) → Option (List ℕ) → Type 0
-ReadsPrefix old new = (read : List ℕ) × Consumes old new read × (length read ≤ reading_limit)
+pub record HasRead {R : Type 0} (source : ReaderOf R) (old new : R) : Type 0 where
+  pub given : source.given new ≤ source.given old + reading_limit
+  pub read : (read : List ℕ) × Consumes (source.remaining old) (source.remaining new) read
+      × (length read ≤ reading_limit)
+  pub faults : source.faults old ≤ source.faults new

@@ -1,9 +1,7 @@
 //! Compiles a descriptor into the table.
 
-ghost use Rattle.std.specs.Prelude.{◌≡◌, ◌+◌, ◌<◌, ◌≤◌, ◌⊎◌, OnOk, IfOk, IfErr};
-ghost use Rattle.std.specs.Io.KnownBytes.{Appends};
-ghost use Rattle.fmap_compiler.specs.Outcome.{reading_limit, Compiles, HasTable, IsRefused};
-ghost use Rattle.fmap_compiler.specs.Outcome.{IsPrefixOf, ReadsPrefix, Refuses};
+ghost use Rattle.std.specs.Prelude.{◌≡◌, ◌<◌, ◌≤◌, ◌⊎◌, IfOk, IfErr, IsErrOf};
+ghost use Rattle.fmap_compiler.specs.Outcome.{Compiles, Delivers, HasRead, IsPrefixOf, Refuses};
 
 use crate::reader::TextReader;
 use crate::refusal::Refusal;
@@ -17,13 +15,10 @@ const READING_LIMIT: usize = TEXT_LIMIT + 1;
 /// Reads up to the reader's end or the limit.
 fn read_text<R: TextReader>(alloc: Global, reader: &mut R) -> Result<Vec<u8>, Refusal>
     ensures text { IfOk result (λ text. IsPrefixOf (R.remaining reader.old) text.items) }
-    ensures cause { IfErr result (λ refusal.
-        refusal ≡ Refusal.Read → R.faults reader.old < R.faults reader.new) }
+    ensures cause { IsErrOf result Refusal.Read → R.faults reader.old < R.faults reader.new }
     ensures refused { IfErr result (λ refusal.
         (refusal ≡ Refusal.Read) ⊎ (refusal ≡ Refusal.Descriptor FmdFault.Memory)) }
-    ensures stops { R.given reader.new ≤ R.given reader.old + reading_limit }
-    ensures read { ReadsPrefix (R.remaining reader.old) (R.remaining reader.new) }
-    ensures faults { R.faults reader.old ≤ R.faults reader.new }
+    ensures reader { HasRead R.TextReader reader.old reader.new }
 {
     let mut text = Vec::new(alloc);
     let mut buffer = [0; 4096];
@@ -53,19 +48,14 @@ pub fn run<R: TextReader, W: Sink>(
     reader: &mut R,
     writer: &mut W,
 ) -> Result<(), Refusal>
-    // Success writes the table, and nothing else.
-    ensures ok { OnOk result (HasTable (R.remaining reader.old)
-        (Appends (W.contents writer.old) (W.contents writer.new))) }
-    ensures read_cause { IfErr result (λ refusal.
-        refusal ≡ Refusal.Read → R.faults reader.old < R.faults reader.new) }
-    ensures output_cause { IfErr result (λ refusal.
-        refusal ≡ Refusal.Output → W.faults writer.old < W.faults writer.new) }
-    // An output error leaves a part of the table, any other error no output.
-    ensures refused { IfErr result (λ refusal. IsRefused refusal (R.remaining reader.old)
-        (W.contents writer.old) (W.contents writer.new)) }
-    ensures stops { R.given reader.new ≤ R.given reader.old + reading_limit }
-    ensures read { ReadsPrefix (R.remaining reader.old) (R.remaining reader.new) }
-    ensures reader_faults { R.faults reader.old ≤ R.faults reader.new }
+    // Success writes the table, and nothing else. An output error leaves a part of it, any other
+    // error no output.
+    ensures output { Delivers (R.remaining reader.old) (W.contents writer.old)
+        (W.contents writer.new) result }
+    ensures read_cause { IsErrOf result Refusal.Read → R.faults reader.old < R.faults reader.new }
+    ensures output_cause { IsErrOf result Refusal.Output
+        → W.faults writer.old < W.faults writer.new }
+    ensures reader { HasRead R.TextReader reader.old reader.new }
     ensures writer_faults { W.faults writer.old ≤ W.faults writer.new }
 {
     let text = read_text(alloc, reader)?;

@@ -1,12 +1,12 @@
 //! The source of a descriptor's text.
 
-ghost use Rattle.std.specs.Prelude.{◌≡◌, ℕ, ◌+◌, ◌<◌, ◌≤◌, List, Option, OnErr, MatchResult};
+ghost use Rattle.std.specs.Prelude.{◌≡◌, ℕ, ◌+◌, ◌<◌, ◌≤◌, List, Option, OnErr};
+ghost use Rattle.std.specs.Result.{result_unwrap_or};
 ghost use Rattle.std.specs.Io.{ReadsAtMost};
 ghost use Rattle.std.specs.Io.KnownBytes.{ReadConsumes};
 
 use flash_device::Counter;
 use std::io::{ErrorKind, Read};
-use std::marker::Model;
 
 /// A failed read.
 #[derive(Clone, Copy, Debug, PartialEq, Eq, Drop)]
@@ -28,8 +28,7 @@ pub trait TextReader {
     fn read_some(&mut self, room: &mut [u8]) -> Result<usize, ReadFault>
         ensures bound { ReadsAtMost result room.new }
         ensures bytes { ReadConsumes (remaining self.old) (remaining self.new) result room.new }
-        ensures given { MatchResult result (λ n. given self.new ≡ given self.old + n)
-            (λ _. given self.new ≡ given self.old) }
+        ensures given { given self.new ≡ given self.old + result_unwrap_or result 0 }
         ensures faults { faults self.old ≤ faults self.new }
         ensures cause { OnErr result (faults self.old < faults self.new) };
 }
@@ -37,17 +36,11 @@ pub trait TextReader {
 /// A text over `Read`. Any I/O error is a fault.
 #[derive(Drop)]
 pub struct ReadText<R: Read> {
-    reader: R,
-    given: Counter,
-    faults: Counter,
-}
-
-impl<R: Read> Model for ReadText<R> {
-    ghost use Rattle.fmap_compiler.specs.TextReaders.{Reader};
-
-    ghost Value = { Reader R };
-
-    ghost view = { λ t. record { reader = t.reader; given = t.given; faults = t.faults } };
+    pub reader: R,
+    /// The number of bytes read.
+    pub given: Counter,
+    /// The number of failed reads.
+    pub faults: Counter,
 }
 
 impl<R: Read> ReadText<R> {

@@ -1,5 +1,6 @@
 -- Tokens without a fault form a tree.
-use Rattle.std.proofs.Common.{◌≡◌, ◌≢◌, ℕ, zero, suc, ◌+◌, ◌-◌, ◌≤◌, nat_lt, true, false, cond, List, [], ◌∷◌, ◌++◌, Option, Some, None, refl, sym, ◌∙◌, ap, arith, inl, inr, append_assoc, subst, All}
+use Rattle.std.proofs.Common.{◌≡◌, ◌≢◌, ℕ, zero, suc, ◌+◌, ◌-◌, ◌≤◌, nat_lt, true, false, List, [], ◌∷◌, ◌++◌, Option, Some, None, refl, sym, ◌∙◌, ap, arith, inl, inr, append_assoc, subst, All}
+use Rattle.std.specs.Bool.{then_some}
 use Rattle.std.specs.Int.Bits.{bit_or}
 use Rattle.std.specs.Result.{result_err}
 use Rattle.std.proofs.lemmas.Bool.Decides.{nat_tests}
@@ -94,7 +95,7 @@ abbrev Rest : Option Standing → List Word → Type 0
 Rest None ws = ⊥
 Rest (Some (t, depth)) ws = Left t depth ws
 
-room : (n m : ℕ) (t : Stage) (depth : ℕ) (ws : List Word) → m ≤ 4 → Rest (cond (nat_lt n m) (Some (t, depth)) None) ws →
+room : (n m : ℕ) (t : Stage) (depth : ℕ) (ws : List Word) → m ≤ 4 → Rest (then_some (nat_lt n m) (t, depth)) ws →
     (5 - m ≤ 4 - n) × Left t depth ws
 room n m t depth ws small = grind (arith, nat_tests)
 

@@ -1,16 +1,16 @@
 -- The numbers and areas of a text without a fault fit into the fields of the table.
 use Rattle.std.proofs.lemmas.Bool.Decides.{nat_tests}
-use Rattle.std.proofs.Common.{◌≡◌, ℕ, ◌^◌, ◌<◌, All, List, [], ◌∷◌, ◌++◌, length, Option, Some, None, Ok, ◌∙◌, ap, subst, arith}
+use Rattle.std.proofs.Common.{◌≡◌, ℕ, ◌^◌, ◌<◌, All, List, [], ◌∷◌, ◌++◌, length, Option, Some, None, ◌≤◌, ◌∙◌, ap, subst, arith}
 use Rattle.std.specs.Prelude.{unwrap_or}
 use Rattle.std.proofs.lemmas.List.Elements.{All-nil, All-cons, All-head, All-tail}
-use Rattle.flash_format.specs.declared.flashmap.Area.{Area}
+use Rattle.fmd_lang.specs.declared.table.Table.{Table}
 use Rattle.fmd_lang.specs.Words.{Word, kind_of, words}
-use Rattle.fmd_lang.specs.Tree.{Tree}
+use Rattle.fmd_lang.specs.Tree.{Tree, section}
 use Rattle.fmd_lang.specs.Grammar.{HasValue, IsOffset, IsSize, annotation_flag}
 use Rattle.fmd_lang.specs.Faults.{Stage, first_fault, fault_from, next_standing, token_fault, wanted_at}
 use Rattle.fmd_lang.specs.LayoutFaults.{layout_fault}
 use Rattle.fmd_lang.proofs.LayoutLemmas.{count-below, few-sections}
-use Rattle.fmd_lang.specs.Table.{areas_below}
+use Rattle.fmd_lang.specs.Table.{IsTable, area_limit}
 use Rattle.fmd_lang.specs.declared.fault.FmdFault.TheVariants as faults
 use Rattle.fmd_lang.proofs.OptionLemmas.{cond-none, map_or-none, or-none}
 
@@ -53,9 +53,8 @@ offset_fits (Some n) place after (front, back, shape, (mark, first, is_mark), (w
 
 -- ---- areas
 
-pub few_areas : (t : Tree) (size : ℕ) (areas : List Area) → layout_fault t ≡ None → areas_below 0 size t [] ≡ Ok areas →
-    length areas < 2 ^ 16
+pub few_areas : (t : Tree) (table : Table) → layout_fault t ≡ None → IsTable t table → length table.areas.items ≤ area_limit
 unfolding layout_fault
-few_areas t size areas fine are =
-    let count = count-below t 0 size [] areas are in
+few_areas (section name flags offset size parts) table fine (based, sized, called, are) =
+    let count = count-below (section name flags offset size parts) 0 table.size [] table.areas.items are in
     grind (arith, nat_tests, few-sections, or-none)

@@ -107,6 +107,6 @@ table_read (section name flags offset given parts) text more table fine is laid 
       name = ap length called ∙ field_long name short;
       named = ap is_map_name called ∙ good;
       counted = refl;
-      few = few_areas t table.size table.areas.items laid areas;
+      few = omega (arith, few_areas t table laid (based, sized, called, areas));
       each = areas_fit t (words text) 0 table.size [] table.areas.items is (omega (arith, size)) (All-nil IsAreaInBytes) areas;
     })

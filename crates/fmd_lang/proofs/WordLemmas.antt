@@ -1,6 +1,6 @@
 -- The tokens of a text, by byte.
 use Rattle.std.proofs.lemmas.Bool.Decides.{nat_tests}
-use Rattle.std.proofs.Common.{◌≡◌, ℕ, suc, ◌+◌, ◌-◌, ◌<◌, ◌≤◌, nat_eq, Bool, true, false, cond, List, [], ◌∷◌, length, drop, refl, sym, ◌∙◌, ap, arith, slice_index, slice_range, add-one, max}
+use Rattle.std.proofs.Common.{◌≡◌, ℕ, suc, ◌+◌, ◌-◌, ◌<◌, ◌≤◌, nat_eq, Bool, true, false, ◌&&◌, not, cond, List, [], ◌∷◌, length, drop, refl, sym, ◌∙◌, ap, arith, slice_index, slice_range, add-one, max}
 use Rattle.std.proofs.Math.Seq.{drop-cons}
 use Rattle.std.proofs.lemmas.List.{drop_all, drop-drop, length-drop, take_all}
 use Rattle.std.proofs.lemmas.List.Sums.{take_while-cons}
@@ -69,6 +69,7 @@ row (b ∷ s) at = go (is_plain b) refl (row s (suc at))
     go : (plain : Bool) → is_plain b ≡ plain → Row s (suc at) → Row (b ∷ s) at
     go true e (same, behind) =
         let (no_comment, no_blank) = plain-alone b e in
+        let kept : without_comments false (b ∷ s) ≡ b ∷ without_comments false s = rw no_comment refl in
         let k = prefix_len is_plain s in
         let more : prefix_len is_plain (b ∷ s) ≡ suc k = rw e (omega arith) in
         let shift : k + suc at ≡ suc k + at = omega arith in
@@ -76,16 +77,15 @@ row (b ∷ s) at = go (is_plain b) refl (row s (suc at))
         rw (no_comment, no_blank, e) refl in
         let first : (l : List ℕ) → take_while is_plain (b ∷ l) ≡ b ∷ take_while is_plain l =
         λ l. take_while-cons is_plain b l ∙ rw e refl in (
-          ap (λ c. take_while is_plain (cond c (32 ∷ without_comments true s) (b ∷ without_comments false s))) no_comment
+          ap (take_while is_plain) kept
               ∙ first (without_comments false s) ∙ ap (λ l. b ∷ l) same ∙ sym (first s),
           goes_on ∙ behind ∙ ap (λ p. words_from p false (without_comments false (drop k s))) shift
               ∙ ap (λ n. words_from (n + at) false (without_comments false (drop n (b ∷ s)))) (sym more),
         )
     go false e rest =
         let Ends : List ℕ → Type 0 = λ l. (take_while is_plain l ≡ []) × (words_from at true l ≡ words_from at false l) in
-        let ends : Ends (without_comments false (b ∷ s)) = elim (nat_eq b 35)
-        as (λ v. Ends (cond v (32 ∷ without_comments true s) (b ∷ without_comments false s)))
-        [ true ↦ (refl, refl) | false ↦ (rw e refl, rw e refl) ] in
+        let ends : Ends (without_comments false (b ∷ s)) = elim (nat_eq b 35 && not (nat_eq b 10))
+        as (λ v. Ends (cond v 32 b ∷ without_comments v s)) [ true ↦ (refl, refl) | false ↦ (rw e refl, rw e refl) ] in
         let none : 0 + at ≡ at = omega arith in
         rw (e, none) ends
 
@@ -104,7 +104,10 @@ unfolding words_after
 words_after-plain text at n h plain len =
     let more : at + n - at ≡ n = omega arith in
     let place : prefix_len is_plain (drop (at + 1) text) + (at + 1) ≡ at + n = omega arith in
-    grind (arith, here, begins, row, drop-drop)
+    let rest = drop (at + 1) text in
+    let first = begins (slice_index text at) rest at plain in
+    let behind = (row rest (at + 1)).1 in
+    grind (arith, here, drop-drop)
 
 -- A token has at least one byte.
 pub words_after-word : (text : List ℕ) (at n : ℕ) → at < length text → is_blank (slice_index text at) ≡ false →

@@ -1,7 +1,8 @@
 -- The first fault of a text: excessive length, or the lowest offset; at the same offset, a
 -- malformed token precedes an unexpected token. Order, messages and limits are this project's own.
-use Rattle.std.specs.Prelude.{◌≡◌, ◌⊎◌, Result, Ok, Err, ℕ, suc, zero, nat_lt, Bool, true, false}
+use Rattle.std.specs.Prelude.{◌≡◌, ◌⊎◌, Result, Ok, Err, ℕ, suc, zero, nat_le, nat_lt, Bool, true, false}
 use Rattle.std.specs.Prelude.{if◌then◌else◌, List, [], ◌∷◌, length, Option, Some, None}
+use Rattle.std.specs.Bool.{then_some}
 use Rattle.std.specs.Option.{option_map_or, option_or}
 use Rattle.std.specs.Result.{result_err}
 use Rattle.fmd_lang.specs.Words.{Word, word, words_after, kind_of}
@@ -33,11 +34,10 @@ next_standing start depth Name flag = Some (past 0, depth)
 next_standing (in_annotations true) depth CloseParen flag = Some (past 1, depth)
 next_standing (in_annotations any) depth k (Some flag) = Some (in_annotations true, depth)
 next_standing at_sign depth Number flag = Some (past 2, depth)
-next_standing (past n) depth OpenParen flag =
-    if nat_lt n 1 then Some (in_annotations false, depth) else None
-next_standing (past n) depth At flag = if nat_lt n 2 then Some (at_sign, depth) else None
-next_standing (past n) depth Number flag = if nat_lt n 3 then Some (past 3, depth) else None
-next_standing (past n) depth OpenBrace flag = if nat_lt n 4 then Some (past 4, suc depth) else None
+next_standing (past n) depth OpenParen flag = then_some (nat_lt n 1) (in_annotations false, depth)
+next_standing (past n) depth At flag = then_some (nat_lt n 2) (at_sign, depth)
+next_standing (past n) depth Number flag = then_some (nat_lt n 3) (past 3, depth)
+next_standing (past n) depth OpenBrace flag = then_some (nat_lt n 4) (past 4, suc depth)
 next_standing (past n) (suc depth) Name flag = Some (past 0, suc depth)
 next_standing (past n) (suc depth) CloseBrace flag = Some (past 4, depth)
 next_standing (past n) zero End flag = Some (past 4, zero)
@@ -61,9 +61,8 @@ depth_limit = 32
 abbrev pub token_fault : Kind → ℕ → Word → Option FmdFault
 token_fault Bad depth w = Some (faults.BadByte w.place)
 token_fault Number depth w = result_err (number_at w.place (literal_value w.bytes))
-token_fault Name depth w =
-    if nat_lt (length w.bytes) 32 then None else Some (faults.NameTooLong w.place)
-token_fault OpenBrace depth w = if nat_lt depth depth_limit then None else Some faults.TooDeep
+token_fault Name depth w = then_some (nat_lt 31 (length w.bytes)) (faults.NameTooLong w.place)
+token_fault OpenBrace depth w = then_some (nat_le depth_limit depth) faults.TooDeep
 token_fault k depth w = None
 
 -- the fault of a token, or else of the following tokens

@@ -50,8 +50,7 @@ ambiguous_sibling omitted (p ∷ ps) = let before = omitted && not (is_some p.of
 -- ---- the computed places
 
 -- the result of two steps
-abbrev pub and_then : {X Y : Type 0} → Result X FmdFault → (X → Result Y FmdFault)
-    → Result Y FmdFault
+abbrev pub and_then : {X Y E : Type 0} → Result X E → (X → Result Y E) → Result Y E
 and_then (Ok x) step = step x
 and_then (Err fault) step = Err fault
 

@@ -1,6 +1,6 @@
 -- The tokens of a text. The language is coreboot's (Documentation/lib/flashmap.md), the exact bytes
 -- are this project's own.
-use Rattle.std.specs.Prelude.{ℕ, suc, nat_le, nat_eq, Bool, true, false, ◌&&◌, not, if◌then◌else◌}
+use Rattle.std.specs.Prelude.{ℕ, suc, nat_le, nat_eq, Bool, false, ◌&&◌, ◌||◌, not, if◌then◌else◌}
 use Rattle.std.specs.Prelude.{drop, List, [], ◌∷◌, codes, unwrap_or}
 use Rattle.std.specs.Map.{lookup}
 use Rattle.std.specs.List.{list_any, take_while}
@@ -20,10 +20,8 @@ is_plain b = (nat_le 0x21 b && nat_le b 0x7e) && not (list_any (nat_eq b) (codes
 -- comment.
 abbrev pub without_comments : Bool → List ℕ → List ℕ
 without_comments inside [] = []
-without_comments false (b ∷ bs) =
-    if nat_eq b 35 then 32 ∷ without_comments true bs else b ∷ without_comments false bs
-without_comments true (b ∷ bs) =
-    if nat_eq b 10 then 10 ∷ without_comments false bs else 32 ∷ without_comments true bs
+without_comments inside (b ∷ bs) = let comment = (inside || nat_eq b 35) && not (nat_eq b 10) in
+    (if comment then 32 else b) ∷ without_comments comment bs
 
 -- a token, and the offset
 pub record Word : Type 0 where

@@ -1,5 +1,5 @@
 ghost use Rattle.std.specs.Prelude.{◌≡◌, ◌+◌, ◌++◌, [], None, Some, codes, map};
-ghost use Rattle.std.specs.Prelude.{Ok, OnOk, IfErr};
+ghost use Rattle.std.specs.Prelude.{Ok};
 ghost use Rattle.std.specs.List.{list_any};
 ghost use Rattle.std.specs.Str.{bytes_eq};
 ghost use Rattle.fmd_lang.specs.Tree.{names, view};
@@ -23,9 +23,8 @@ pub fn check_names_of(alloc: Global, root: &Section) -> Result<(), FmdFault>
 }
 
 fn push_names<'s>(section: &'s Section, all: &mut Vec<&'s [u8]>) -> Result<(), FmdFault>
-    ensures ok { OnOk result (map (λ r. r.now) all.new.items
-        ≡ map (λ r. r.now) all.old.items ++ names (view section.now)) }
-    ensures err { IfErr result (λ fault. fault ≡ FmdFault.Memory) }
+    ensures { Gives (Ok (map (λ r. r.now) all.old.items ++ names (view section.now)))
+        (λ _. map (λ r. r.now) all.new.items) result }
 {
     all.push(section.name.as_slice())?;
     for part in &section.parts {

@@ -10,5 +10,5 @@ loop-part-init t c = grind (arith, nat_tests, map-append, view-is, append_assoc)
 pub loop-part-preserved : goal.loop-part-preserved
 loop-part-preserved t c = grind (arith, names-from, append_assoc)
 
-pub returns-clause-ok : goal.returns-clause-ok
-returns-clause-ok t c = grind (arith, nat_tests, append-nil, drop_all)
+pub returns : goal.returns
+returns t c = grind (arith, nat_tests, append-nil, drop_all)
