@@ -8,7 +8,7 @@ ghost use Rattle.flash_device.specs.Pages.{HasAnswered, OnHonestIn, ReadsAs, IfF
 ghost use Rattle.flash_device.specs.Regions.{Reaches};
 ghost use Rattle.cbfs_walk.specs.Walks.{HasPassed, ReadsIn, reads_over, StandsIn, ReadsCellAs};
 ghost use Rattle.cbfs_walk.specs.Cells.{IsCellOn, IsComponentIn, attributes_start, cell_in};
-ghost use Rattle.cbfs_walk.specs.AttrWalks.{place_in_region, attr_walk_of, attr_moved, attr_reads, IsAttrIn, attributes_left, first_head, after_first, next_attribute, IsListedAttribute, attributes_in, IsAttrOf, data_at, searched_to};
+ghost use Rattle.cbfs_walk.specs.AttrWalks.{attr_walk_of, attr_moved, attr_reads, IsAttrIn, attributes_left, first_head, after_first, next_attribute, IsListedAttribute, attributes_in, IsAttrOf, data_at, searched_to};
 
 use crate::cell::{Cell, content_fits};
 use crate::names::name_end;
@@ -59,8 +59,8 @@ impl AttrWalk {
         requires { Reaches region (self.old.cell.at + self.old.cell.head.offset) paged.old.device }
 
         ensures after { HasAnswered (attr_reads self.old) paged.old paged.new result }
-        ensures passes { HasPassed region (place_in_region self.old)
-            (place_in_region self.old) paged.old paged.new result }
+        ensures passes { HasPassed region (self.old.cell.at + self.old.at)
+            (self.old.cell.at + self.old.at) paged.old paged.new result }
         ensures attribute { IfFound result (IsAttrIn self.old.at self.old.cell.head.offset) }
         ensures moved { self.new ≡ attr_moved self.old result }
         ensures ended { self.old.at ≡ self.old.cell.head.offset → result ≡ Ok None }
