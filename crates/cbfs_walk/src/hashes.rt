@@ -35,6 +35,7 @@ pub enum HashState {
 const HASHED_AT_ONCE: u64 = 256;
 
 /// Compares a component's stored content with the digest in its first hash attribute.
+#[tactic(auto, using(crate::proofs::Digests::state_found))]
 pub fn check_hash<F: Flash>(
     paged: &mut Paged<F>,
     region: Region,
