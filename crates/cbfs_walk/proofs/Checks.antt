@@ -40,9 +40,13 @@ checks_give left h span ok =
     rounds : (left n : ℕ) → 24 ≤ n → n ≤ left → (64 ≤ round64 n) × (round64 n % 64 ≡ 0) × (left % 64 ≡ 0 → round64 n ≤ left) × (n ≤ round64 n)
     rounds left n some le = (omega arith, omega arith, λ h. omega arith, omega arith)
 
--- a checked content ends in the region
-pub content_inside : (size : ℕ) (c : Cell) → PassesChecks size c → c.at + (c.head.offset + c.head.len) ≤ size
-content_inside size c ok = let k = checks_give (size - c.at) c.head c.span ok in omega (arith, k.room, k.inside)
+-- a checked content ends in the cell and the region
+pub record ContentFits (size : ℕ) (c : Cell) : Type 0 where
+  pub in_cell : c.head.offset + c.head.len ≤ c.span
+  pub in_region : c.at + (c.head.offset + c.head.len) ≤ size
+
+pub content_fits : (size : ℕ) (c : Cell) → PassesChecks size c → ContentFits size c
+content_fits size c ok = let k = checks_give (size - c.at) c.head c.span ok in record { in_cell = k.fits; in_region = omega (arith, k.room, k.inside) }
 
 pub checked_extent : (h : Head) (left : ℕ) (e : Extent) → Ok e ≡ extent_of h left → extent_of h left ≡ Ok (record { content = h.offset; span = e.span })
 checked_extent h left e is = grind (arith, common_steps, checked_ok)

@@ -10,7 +10,7 @@ ghost use Rattle.cbfs_walk.specs.Walks.{HasPassed, ReadsIn, reads_over, StandsIn
 ghost use Rattle.cbfs_walk.specs.Cells.{IsCellOn, IsComponentIn, attributes_start, cell_in};
 ghost use Rattle.cbfs_walk.specs.AttrWalks.{attr_walk_of, attr_moved, attr_reads, IsAttrIn, attributes_left, first_head, after_first, next_attribute, IsListedAttribute, attributes_in, IsAttrOf, data_at, searched_to};
 
-use crate::cell::{Cell, content_fits};
+use crate::cell::Cell;
 use crate::names::name_end;
 use crate::region_reads::read_in;
 use byteorder::{BigEndian, ByteOrder};
@@ -86,7 +86,7 @@ impl AttrWalk {
 }
 
 /// Returns the value of a component's first compression attribute, or 0 without one.
-#[tactic(auto, using(crate::proofs::AttributeScans::attributes_found))]
+#[tactic(auto, using(crate::proofs::AttributeScans::attributes_found, crate::proofs::Checks::content_fits))]
 pub fn packing<F: Flash>(
     paged: &mut Paged<F>,
     region: Region,
@@ -100,7 +100,6 @@ pub fn packing<F: Flash>(
     ensures packing { ReadsCellAs paged.old region cell.now result
         (λ x. packing (cell_attributes x)) }
 {
-    content_fits(cell, region);
     match first_attribute(paged, region, cell, AttrHead::COMPRESSION)? {
         Some((at, _)) => value_at(paged, region, at + 8),
         None => Ok(0),
@@ -109,6 +108,7 @@ pub fn packing<F: Flash>(
 
 /// Returns the position and head of a component's first attribute with the tag, or `None` if the
 /// list ends or is malformed first.
+#[tactic(auto, using(crate::proofs::Checks::content_fits))]
 pub fn first_attribute<F: Flash>(
     paged: &mut Paged<F>,
     region: Region,
@@ -122,7 +122,6 @@ pub fn first_attribute<F: Flash>(
         paged.old paged.new result (λ x found.
         option_map (data_at x) found ≡ data_of tag (attributes_in x cell.now)) }
 {
-    content_fits(cell, region);
     let end = cell.at + u64::from(cell.head.offset);
     let mut at = cell.at + u64::from(name_end(&cell.head));
     loop {

@@ -8,7 +8,7 @@ ghost use Rattle.flash_device.specs.Pages.{HasAnswered, OnHonestIn};
 ghost use Rattle.cbfs_walk.specs.Walks.{ReadsIn, StandsIn, ReadsCellAs};
 ghost use Rattle.cbfs_walk.specs.Cells.{IsCellOn, IsComponentIn, cell_in};
 
-use crate::cell::{Cell, content_fits};
+use crate::cell::Cell;
 use crate::region_reads::piece_in;
 use flash_device::{Flash, FlashFault, Paged};
 use flash_format::Head;
@@ -34,7 +34,6 @@ pub fn name<F: Flash>(
         → IfOk result (λ n. take n out.new ≡ cell_name (cell_in x cell.now))) }
     ensures len { ReadsCellAs paged.old region cell.now result (λ x. length (cell_name x)) }
 {
-    content_fits(cell, region);
     let n = (name_end(&cell.head) as usize - 24).min(LONGEST);
     let bytes = piece_in(paged, region, cell.at + 24, n)?;
     out[..n].copy_from_slice(bytes);
@@ -56,7 +55,6 @@ pub fn name_is<F: Flash>(
     ensures named { ReadsCellAs paged.old region cell.now result
         (λ x. bytes_eq (cell_name x) name.now) }
 {
-    content_fits(cell, region);
     if name.len() > LONGEST || name.len() >= name_end(&cell.head) as usize - 24 {
         return Ok(false);
     }
@@ -77,7 +75,6 @@ pub fn has_name_end<F: Flash>(
     ensures { ReadsIn region (cell.now.at + 24) (cell.now.at + 24) paged.old paged.new result
         (λ x ends. ends ≡ is_terminated (name_field cell.now.head (drop cell.now.at x))) }
 {
-    content_fits(cell, region);
     let n = (name_end(&cell.head) as usize - 24).min(256);
     let bytes = piece_in(paged, region, cell.at + 24, n)?;
     Ok(bytes.contains(&0))

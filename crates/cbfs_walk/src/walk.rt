@@ -8,7 +8,7 @@ ghost use Rattle.cbfs_walk.specs.Walks.{by_device, walk_of, walk_after, answer_a
 ghost use Rattle.cbfs_walk.specs.Shapes.{has_bad_size};
 
 use crate::attribute_walk::are_well_formed;
-use crate::cell::{Cell, content_fits};
+use crate::cell::Cell;
 use crate::names::{has_name_end, name_end};
 use crate::region_reads::read_in;
 use flash_device::{Flash, FlashFault, Paged};
@@ -185,6 +185,7 @@ fn front_at<F: Flash>(
     Ok(Head::read(&bytes))
 }
 
+#[tactic(auto, using(crate::proofs::Checks::content_fits))]
 /// Returns the first failed check of a component after the checks of its head. Free space has none.
 fn damage_in<F: Flash>(
     paged: &mut Paged<F>,
@@ -197,7 +198,6 @@ fn damage_in<F: Flash>(
         (λ x damage. front (drop cell.now.at x) ≡ Some cell.now.head
         → entry_or damage cell.now.span ≡ entry (drop cell.now.at x)) }
 {
-    content_fits(cell, region);
     if cell.head.is_free() {
         return Ok(None);
     }
