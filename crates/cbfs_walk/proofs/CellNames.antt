@@ -66,28 +66,29 @@ module _ (x : List ℕ) (size : ℕ) (c : Cell) (is : IsComponentIn size c) (len
       omega (arith, length-range x (c.at + 24) (c.at + name_end c.head) (omega (arith, f.inside, len)), f.low)
 
   -- the text in the read bytes
-  pub read_name : (n room : ℕ) (out : List ℕ) → room + 24 ≡ name_end c.head → n ≡ min room 255 → StandsIn x c → out ≡ slice_range x (c.at + 24) (c.at + 24 + n)
+  pub read_name : (n end : ℕ) (out : List ℕ) → end ≡ name_end c.head → n ≡ min (end - 24) 255 → StandsIn x c → out ≡ slice_range x (c.at + 24) (c.at + 24 + n)
       → before_first is_nul out ≡ cell_name (cell_in x c)
-  read_name n room out fits is_min stands read =
+  read_name n end out ends is_min stands read =
+      let f = has_field size c is in
       let named = shows_name x size c is stands in
-      ap (before_first is_nul) (read ∙ sym (field_prefix x c n (omega (arith, fits, is_min))))
-      ∙ text_prefix n (field_of x c) (omega (arith, fits, is_min, named.short, named.within, length-field))
+      ap (before_first is_nul) (read ∙ sym (field_prefix x c n (omega (arith, ends, is_min, f.low))))
+      ∙ text_prefix n (field_of x c) (omega (arith, ends, is_min, named.short, named.within, length-field))
       ∙ sym named.name
 
-  pub name_written : (k n room : ℕ) (out rest : List ℕ) → room + 24 ≡ name_end c.head → n ≡ min room 255 → StandsIn x c
+  pub name_written : (k n end : ℕ) (out rest : List ℕ) → end ≡ name_end c.head → n ≡ min (end - 24) 255 → StandsIn x c
       → k ≡ length (before_first is_nul out) → out ≡ slice_range x (c.at + 24) (c.at + 24 + n) → take k (out ++ rest) ≡ cell_name (cell_in x c)
-  name_written k n room out rest fits is_min stands told read =
+  name_written k n end out rest ends is_min stands told read =
       let count : k ≡ position_or_len is_nul out = told ∙ text_len out in
       let short : k ≤ length out = omega (arith, count, text_most out) in
-      take-append-le k out rest short ∙ ap (λ j. take j out) count ∙ read_name n room out fits is_min stands read
+      take-append-le k out rest short ∙ ap (λ j. take j out) count ∙ read_name n end out ends is_min stands read
 
   -- ---- comparison
 
-  pub name_compared : (room : ℕ) (name out : List ℕ) → room + 24 ≡ name_end c.head → length name < room → StandsIn x c → out ≡ slice_range x (c.at + 24) (c.at + 24 + (length name + 1))
+  pub name_compared : (end : ℕ) (name out : List ℕ) → end ≡ name_end c.head → length name < end - 24 → StandsIn x c → out ≡ slice_range x (c.at + 24) (c.at + 24 + (length name + 1))
       → bytes_eq (before_first is_nul out) name ≡ bytes_eq (cell_name (cell_in x c)) name
-  name_compared room name out fits shorter stands read =
+  name_compared end name out ends shorter stands read =
       let named = shows_name x size c is stands in
-      ap (λ l. bytes_eq (before_first is_nul l) name) (read ∙ sym (field_prefix x c (length name + 1) (omega (arith, fits, shorter))))
+      ap (λ l. bytes_eq (before_first is_nul l) name) (read ∙ sym (field_prefix x c (length name + 1) (omega (arith, ends, shorter))))
       ∙ text_is (field_of x c) name (length name + 1) (omega arith) named.within
       ∙ ap (λ t. bytes_eq t name) (sym named.name)
 

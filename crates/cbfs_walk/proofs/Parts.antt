@@ -1,7 +1,7 @@
 -- Parts of a region.
 use Rattle.std.proofs.lemmas.Grind.{common_steps}
 use Rattle.std.proofs.Common.{◌≡◌, ℕ, ◌+◌, ◌-◌, ◌≤◌, List, length, take, drop, sym, ap, ◌∙◌, arith, length-take, length-drop}
-use Rattle.std.specs.Prelude.{slice_range, Result, OnOk}
+use Rattle.std.specs.Prelude.{slice_range, Result, OnOk, IfOk}
 use Rattle.std.proofs.lemmas.List.{take-take, drop-drop, drop-take}
 use Rattle.std.proofs.Common.{Bool, Option, ◌<◌, ◌⊎◌, inl, inr, min}
 use Rattle.std.specs.List.{list_any}
@@ -47,7 +47,7 @@ pub length-range : (x : List ℕ) (a b : ℕ) → b ≤ length x → length (sli
 length-range x a b le = grind (arith, length-take, length-drop)
 
 pub read_part : {E : Type 0} (result : Result (Unit {0}) E) (out image : List ℕ) (r : Range) (p at n : ℕ) → OnOk result (out ≡ slice_range image p (p + n)) → p ≡ r.start + at → at + n ≤ r.size
-    → OnOk result (out ≡ slice_range (bytes_in r image) at (at + n))
+    → IfOk result (λ read. out ≡ slice_range (bytes_in r image) at (at + n))
 read_part result out image r p at n read same fits = grind (arith, common_steps, part-in)
 
 pub range-inner : (x : List ℕ) (a b i j : ℕ) → j ≤ b - a → slice_range (slice_range x a b) i j ≡ slice_range x (a + i) (a + j)

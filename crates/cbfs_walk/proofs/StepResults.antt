@@ -1,5 +1,5 @@
 -- A walk's result at a position, by the entry.
-use Rattle.std.proofs.Common.{◌≡◌, ℕ, ◌-◌, ◌%◌, ◌<◌, ◌≤◌, Some, true, false, ◌&&◌, ◌⊎◌, List, length, drop, Ok, Err, refl, sym, ap, ◌∙◌, arith, eqb, length-drop, le_refl}
+use Rattle.std.proofs.Common.{◌≡◌, ℕ, ◌-◌, ◌%◌, ◌<◌, ◌≤◌, Some, true, false, ◌&&◌, ◌⊎◌, List, length, drop, Ok, Err, refl, sym, ap, ◌∙◌, arith, eqb, le_refl}
 use Rattle.std.specs.Prelude.{IfOk, Option, None}
 use Rattle.std.proofs.lemmas.Bool.{and_right}
 use Rattle.std.proofs.lemmas.Grind.{common_steps}
@@ -13,8 +13,8 @@ use Rattle.flash_device.specs.Regions.{Range}
 use Rattle.flash_device.proofs.WindowLemmas.{HasRead-within}
 use Rattle.cbfs_walk.specs.declared.cell.Cell.{Cell}
 use Rattle.cbfs_walk.specs.Cells.{PassesChecks, content_start}
-use Rattle.cbfs_walk.specs.Walks.{Passes, reads_over, StepResult, Walking, EndsWalk, by_device, GivesCell, walk_after, answer_by, entry_or, checked_entry, answer_at, reads_at}
-use Rattle.cbfs_walk.proofs.Checks.{checks_give, entry_present}
+use Rattle.cbfs_walk.specs.Walks.{Passes, reads_over, StepResult, Walking, EndsWalk, by_device, GivesCell, walk_after, answer_by, entry_or, answer_at, reads_at}
+use Rattle.cbfs_walk.proofs.Checks.{checks_give}
 use Rattle.cbfs_walk.proofs.ReadSequences.{Passes-then}
 use Rattle.cbfs_walk.specs.Shapes.{has_bad_size, is_absent}
 use Rattle.cbfs_walk.specs.declared.walk.Step.{Step}
@@ -49,12 +49,9 @@ step_of c None = Ok (steps.Cell c)
 step_of c (Some kind) = Err (faults.Damaged c.at kind)
 
 pub answer_checked : (x : List ℕ) (size : ℕ) (c : Cell) (damage : Option DamageKind) → length x ≡ size → false ≡ has_bad_size size → c.at < size → Some c.head ≡ front (drop c.at x)
-    → PassesChecks size c → entry_or damage c.span ≡ checked_entry (drop c.at x) c → step_of c damage ≡ answer_at x c.at
-answer_checked x size c damage len good inside head is told = go damage ∙ answer_entry x c.at size _ len good inside (told ∙ whole) (and_right (eqb c.at 0) _ (some damage))
+    → (front (drop c.at x) ≡ Some c.head → entry_or damage c.span ≡ entry (drop c.at x)) → step_of c damage ≡ answer_at x c.at
+answer_checked x size c damage len good inside head told = go damage ∙ answer_entry x c.at size _ len good inside (told (sym head)) (and_right (eqb c.at 0) _ (some damage))
   where
-    whole : checked_entry (drop c.at x) c ≡ entry (drop c.at x)
-    whole = entry_present (drop c.at x) c.head (size - c.at) _ head (omega (arith, length-drop c.at x, len)) (sym is)
-
     some : (d : Option DamageKind) → is_absent (entry_or d c.span) ≡ false
     some None = refl
     some (Some kind) = refl

@@ -13,9 +13,6 @@ pub record AttrWalking : Type 0 where
   pub cell : Cell
   pub at : ℕ
 
-abbrev pub place_in_region : AttrWalking → ℕ
-place_in_region w = w.cell.at + w.at
-
 -- attributes begin after the name, at most at the content
 abbrev pub attr_walk_of : Cell → AttrWalking
 attr_walk_of c = record { cell = c; at = min (name_end c.head) c.head.offset }
@@ -38,7 +35,7 @@ attr_reads w = min 1 ((w.cell.head.offset - w.at) / 8)
 
 -- the remaining attributes, or None if malformed
 abbrev pub attributes_left : List ℕ → AttrWalking → Option (List Attribute)
-attributes_left x w = attributes (slice_range x (place_in_region w) (content_start w.cell))
+attributes_left x w = attributes (slice_range x (w.cell.at + w.at) (content_start w.cell))
 
 -- the length includes the head's eight bytes
 abbrev pub head_of_attribute : Attribute → AttrHead

@@ -1,19 +1,15 @@
 -- Cells of a region.
 use Rattle.std.specs.Prelude.{◌≡◌, ℕ, ◌+◌, ◌-◌, ◌%◌, ◌≤◌, false, List, slice_range, Ok}
-use Rattle.flash_format.specs.declared.head.Head.{Head}
 use Rattle.flash_format.specs.Head.{extent_of, is_free}
 use Rattle.flash_format.specs.Entry.{name_end}
 use Rattle.flash_device.specs.Device.{Device}
 use Rattle.flash_device.specs.Regions.{Range, LiesOn}
 use Rattle.cbfs_walk.specs.declared.cell.Cell.{Cell}
 
--- valid head with `left` bytes remaining, and the cell's length
-abbrev pub IsChecked : ℕ → Head → ℕ → Type 0
-IsChecked left head span = extent_of head left ≡ Ok (record { content = head.offset; span = span })
-
 -- valid head and length in a region of the given size
 abbrev pub PassesChecks : ℕ → Cell → Type 0
-PassesChecks size c = IsChecked (size - c.at) c.head c.span
+PassesChecks size c =
+    extent_of c.head (size - c.at) ≡ Ok (record { content = c.head.offset; span = c.span })
 
 pub record IsComponentIn (size : ℕ) (c : Cell) : Type 0 where
   pub checks : PassesChecks size c

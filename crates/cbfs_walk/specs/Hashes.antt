@@ -30,8 +30,7 @@ hashed_by algorithms.Sha512 bytes = Sha512 (sha512 bytes)
 
 -- the digest after the algorithm's number, if complete
 abbrev pub digest_by : List ℕ → Algorithm → Option Digest
-digest_by contents algorithm =
-    let end = 4 + (algorithm_row algorithm).len in
+digest_by contents algorithm = let end = 4 + (algorithm_row algorithm).len in
     if nat_lt (length contents) end then None
     else Some (digest_with algorithm (slice_range contents 4 end))
 

@@ -4,7 +4,7 @@ use Rattle.flash_device.specs.Device.{refusals}
 use Rattle.flash_device.specs.Pages.{Pages, Covers, HasRead, OnHonestIn, Returns}
 use Rattle.flash_device.specs.Regions.{Range}
 use Rattle.flash_format.specs.Head.{head_of}
-use Rattle.flash_format.specs.Entry.{Entry, absent, damaged, cell, entry, present}
+use Rattle.flash_format.specs.Entry.{Entry, absent, damaged, cell, entry}
 use Rattle.flash_format.specs.declared.head.DamageKind.{DamageKind}
 use Rattle.std.specs.Option.{option_map_or}
 use Rattle.cbfs_walk.specs.Cells.{IsCellIn, cell_in}
@@ -70,11 +70,6 @@ answer_by rest at (cell span) =
 
 abbrev pub entry_or : Option DamageKind → ℕ → Entry
 entry_or fault span = option_map_or damaged fault (cell span)
-
--- the entry after the checks of the head, given the bytes from the cell on
-abbrev pub checked_entry : List ℕ → Cell → Entry
-checked_entry rest c =
-    present c.head rest (Ok (record { content = c.head.offset; span = c.span }))
 
 unfoldable pub answer_at : List ℕ → ℕ → StepResult
 answer_at x at = let rest = drop at x in refused_or (λ fault. Err fault) (shape_fault_at x at)

@@ -8,9 +8,9 @@ ghost use Rattle.flash_device.specs.Pages.{HasAnswered, OnHonestIn, ReadsAs, IfF
 ghost use Rattle.flash_device.specs.Regions.{Reaches};
 ghost use Rattle.cbfs_walk.specs.Walks.{HasPassed, ReadsIn, reads_over, StandsIn, ReadsCellAs};
 ghost use Rattle.cbfs_walk.specs.Cells.{IsCellOn, IsComponentIn, attributes_start, cell_in};
-ghost use Rattle.cbfs_walk.specs.AttrWalks.{place_in_region, attr_walk_of, attr_moved, attr_reads, IsAttrIn, attributes_left, first_head, after_first, next_attribute, IsListedAttribute, attributes_in, IsAttrOf, data_at, searched_to};
+ghost use Rattle.cbfs_walk.specs.AttrWalks.{attr_walk_of, attr_moved, attr_reads, IsAttrIn, attributes_left, first_head, after_first, next_attribute, IsListedAttribute, attributes_in, IsAttrOf, data_at, searched_to};
 
-use crate::cell::{Cell, content_fits};
+use crate::cell::Cell;
 use crate::names::name_end;
 use crate::region_reads::read_in;
 use byteorder::{BigEndian, ByteOrder};
@@ -59,8 +59,8 @@ impl AttrWalk {
         requires { Reaches region (self.old.cell.at + self.old.cell.head.offset) paged.old.device }
 
         ensures after { HasAnswered (attr_reads self.old) paged.old paged.new result }
-        ensures passes { HasPassed region (place_in_region self.old)
-            (place_in_region self.old) paged.old paged.new result }
+        ensures passes { HasPassed region (self.old.cell.at + self.old.at)
+            (self.old.cell.at + self.old.at) paged.old paged.new result }
         ensures attribute { IfFound result (IsAttrIn self.old.at self.old.cell.head.offset) }
         ensures moved { self.new ≡ attr_moved self.old result }
         ensures ended { self.old.at ≡ self.old.cell.head.offset → result ≡ Ok None }
@@ -86,6 +86,7 @@ impl AttrWalk {
 }
 
 /// Returns the value of a component's first compression attribute, or 0 without one.
+#[tactic(auto, using(crate::proofs::AttributeScans::attributes_found, crate::proofs::Checks::content_fits))]
 pub fn packing<F: Flash>(
     paged: &mut Paged<F>,
     region: Region,
@@ -99,7 +100,6 @@ pub fn packing<F: Flash>(
     ensures packing { ReadsCellAs paged.old region cell.now result
         (λ x. packing (cell_attributes x)) }
 {
-    content_fits(cell, region);
     match first_attribute(paged, region, cell, AttrHead::COMPRESSION)? {
         Some((at, _)) => value_at(paged, region, at + 8),
         None => Ok(0),
@@ -108,6 +108,7 @@ pub fn packing<F: Flash>(
 
 /// Returns the position and head of a component's first attribute with the tag, or `None` if the
 /// list ends or is malformed first.
+#[tactic(auto, using(crate::proofs::Checks::content_fits))]
 pub fn first_attribute<F: Flash>(
     paged: &mut Paged<F>,
     region: Region,
@@ -121,7 +122,6 @@ pub fn first_attribute<F: Flash>(
         paged.old paged.new result (λ x found.
         option_map (data_at x) found ≡ data_of tag (attributes_in x cell.now)) }
 {
-    content_fits(cell, region);
     let end = cell.at + u64::from(cell.head.offset);
     let mut at = cell.at + u64::from(name_end(&cell.head));
     loop {

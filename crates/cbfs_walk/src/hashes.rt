@@ -11,7 +11,7 @@ ghost use Rattle.cbfs_walk.specs.AttrWalks.{attributes_in};
 ghost use Rattle.cbfs_walk.specs.Hashes.{hashed_by, stored_digest, comparison, hash_state, content_at};
 
 use crate::attribute_walk::{first_attribute, value_at};
-use crate::cell::{Cell, content_fits};
+use crate::cell::Cell;
 use crate::region_reads::piece_in;
 use flash_device::{Flash, FlashFault, Paged};
 use flash_format::{Algorithm, AttrHead, Digest};
@@ -35,6 +35,7 @@ pub enum HashState {
 const HASHED_AT_ONCE: u64 = 256;
 
 /// Compares a component's stored content with the digest in its first hash attribute.
+#[tactic(auto, using(crate::proofs::Digests::state_found, crate::proofs::Checks::content_fits))]
 pub fn check_hash<F: Flash>(
     paged: &mut Paged<F>,
     region: Region,
@@ -51,7 +52,6 @@ pub fn check_hash<F: Flash>(
     ensures state { ReadsCellAs paged.old region cell.now result
         (λ x. hash_state (cell_attributes x) (cell_content x)) }
 {
-    content_fits(cell, region);
     match first_attribute(paged, region, cell, AttrHead::HASH)? {
         Some((at, head)) => match stored_digest(paged, region, at + 8, head.len - 8)? {
             Some(stored) => {
@@ -117,6 +117,7 @@ fn comparison(stored: Digest, computed: &Digest) -> HashState
     }
 }
 
+#[tactic(auto, using(crate::proofs::Checks::content_fits))]
 fn hash_content<F: Flash, D: sha2::Digest>(
     paged: &mut Paged<F>,
     region: Region,
@@ -127,7 +128,6 @@ fn hash_content<F: Flash, D: sha2::Digest>(
     ensures { ReadsIn region (content_start cell.now) (content_end cell.now) paged.old paged.new
         result (λ x. D.digest_of (content_at x cell.now)) }
 {
-    content_fits(cell, region);
     let mut hasher = D::new();
     let mut at = cell.at + u64::from(cell.head.offset);
     let end = at + u64::from(cell.head.len);

@@ -8,7 +8,7 @@ ghost use Rattle.flash_device.specs.Pages.{HasAnswered, OnHonestIn};
 ghost use Rattle.cbfs_walk.specs.Walks.{ReadsIn, StandsIn, ReadsCellAs};
 ghost use Rattle.cbfs_walk.specs.Cells.{IsCellOn, IsComponentIn, cell_in};
 
-use crate::cell::{Cell, content_fits};
+use crate::cell::Cell;
 use crate::region_reads::piece_in;
 use flash_device::{Flash, FlashFault, Paged};
 use flash_format::Head;
@@ -18,6 +18,7 @@ const LONGEST: usize = 255;
 
 /// Writes a component's name without its NUL to the front of `out`, and returns its length. Other
 /// bytes of `out`, and all bytes after a fault, are unspecified.
+#[tactic(auto, using(crate::proofs::CellNames::has_field))]
 pub fn name<F: Flash>(
     paged: &mut Paged<F>,
     region: Region,
@@ -33,14 +34,14 @@ pub fn name<F: Flash>(
         → IfOk result (λ n. take n out.new ≡ cell_name (cell_in x cell.now))) }
     ensures len { ReadsCellAs paged.old region cell.now result (λ x. length (cell_name x)) }
 {
-    content_fits(cell, region);
-    let n = name_room(&cell.head).min(LONGEST);
+    let n = (name_end(&cell.head) as usize - 24).min(LONGEST);
     let bytes = piece_in(paged, region, cell.at + 24, n)?;
     out[..n].copy_from_slice(bytes);
     Ok(text_len(bytes))
 }
 
 /// Returns whether a component has the name.
+#[tactic(auto, using(crate::proofs::CellNames::has_field))]
 pub fn name_is<F: Flash>(
     paged: &mut Paged<F>,
     region: Region,
@@ -54,8 +55,7 @@ pub fn name_is<F: Flash>(
     ensures named { ReadsCellAs paged.old region cell.now result
         (λ x. bytes_eq (cell_name x) name.now) }
 {
-    content_fits(cell, region);
-    if name.len() > LONGEST || name.len() >= name_room(&cell.head) {
+    if name.len() > LONGEST || name.len() >= name_end(&cell.head) as usize - 24 {
         return Ok(false);
     }
     // The name and its NUL.
@@ -64,6 +64,7 @@ pub fn name_is<F: Flash>(
 }
 
 /// Returns whether the first 256 bytes of the name field include a NUL.
+#[tactic(auto, using(crate::proofs::CellNames::has_field))]
 pub fn has_name_end<F: Flash>(
     paged: &mut Paged<F>,
     region: Region,
@@ -74,8 +75,7 @@ pub fn has_name_end<F: Flash>(
     ensures { ReadsIn region (cell.now.at + 24) (cell.now.at + 24) paged.old paged.new result
         (λ x ends. ends ≡ is_terminated (name_field cell.now.head (drop cell.now.at x))) }
 {
-    content_fits(cell, region);
-    let n = name_room(&cell.head).min(256);
+    let n = (name_end(&cell.head) as usize - 24).min(256);
     let bytes = piece_in(paged, region, cell.at + 24, n)?;
     Ok(bytes.contains(&0))
 }
@@ -89,13 +89,6 @@ pub fn name_end(head: &Head) -> u32
     } else {
         head.attributes_offset
     }
-}
-
-fn name_room(head: &Head) -> usize
-    requires { 24 ≤ name_end head.now }
-    ensures { result + 24 ≡ name_end head.now }
-{
-    name_end(head) as usize - 24
 }
 
 fn text_len(bytes: &[u8]) -> usize

@@ -1,11 +1,11 @@
 //! Ordered reads in a region.
-ghost use Rattle.std.specs.Prelude.{◌≡◌, ◌+◌, ◌≤◌, length, slice_range, OnOk, IfOk};
+ghost use Rattle.std.specs.Prelude.{◌≡◌, ◌+◌, ◌≤◌, length, slice_range, IfOk};
 ghost use Rattle.std.specs.Borrow.{sem};
 ghost use Rattle.std.specs.Io.BufRead.{Rests};
 ghost use Rattle.flash_device.specs.Pages.{OnHonestIn};
 ghost use Rattle.flash_device.specs.Regions.{Reaches};
 ghost use Rattle.flash_device.specs.contracts.paged.Paged.{the_row};
-ghost use Rattle.cbfs_walk.specs.Walks.{HasPassed};
+ghost use Rattle.cbfs_walk.specs.Walks.{HasPassed, ReadsIn};
 
 use flash_device::{Flash, FlashFault, Paged};
 use flash_map::Region;
@@ -21,9 +21,8 @@ pub fn read_in<F: Flash>(
     requires reach { Reaches region (at + length out.old) paged.old.device }
     requires short { length out.old ≤ 256 }
 
-    ensures passes { HasPassed region at at paged.old paged.new result }
-    ensures read { OnHonestIn paged.old.device region (λ x.
-        OnOk result (out.new ≡ slice_range x at (at + length out.old))) }
+    ensures { ReadsIn region at at paged.old paged.new result
+        (λ x read. out.new ≡ slice_range x at (at + length out.old)) }
 {
     paged.read_small(region.start() + at, out)
 }

@@ -1,14 +1,14 @@
 //! The walk over cells.
-ghost use Rattle.std.specs.Prelude.{◌≡◌, ◌⊎◌, ◌*◌, ◌/◌, ◌%◌, ◌≤◌, None, IsSome, IfSome, IsErrOf, drop};
-ghost use Rattle.flash_format.specs.Entry.{front};
+ghost use Rattle.std.specs.Prelude.{◌≡◌, ◌⊎◌, ◌*◌, ◌/◌, ◌%◌, ◌≤◌, Some, None, IsSome, IfSome, IsErrOf, drop};
+ghost use Rattle.flash_format.specs.Entry.{front, entry};
 ghost use Rattle.flash_device.specs.Pages.{OnHonestIn, HasReadBy, AnswersAs};
 ghost use Rattle.flash_device.specs.Regions.{LiesOn, Reaches};
 ghost use Rattle.cbfs_walk.specs.Cells.{IsCellOn, PassesChecks, content_start};
-ghost use Rattle.cbfs_walk.specs.Walks.{by_device, walk_of, walk_after, answer_at, entry_or, checked_entry, GivesCell, reads_at, ReadsIn};
+ghost use Rattle.cbfs_walk.specs.Walks.{by_device, walk_of, walk_after, answer_at, entry_or, GivesCell, reads_at, ReadsIn};
 ghost use Rattle.cbfs_walk.specs.Shapes.{has_bad_size};
 
 use crate::attribute_walk::are_well_formed;
-use crate::cell::{Cell, content_fits};
+use crate::cell::Cell;
 use crate::names::{has_name_end, name_end};
 use crate::region_reads::read_in;
 use flash_device::{Flash, FlashFault, Paged};
@@ -137,7 +137,7 @@ fn answer_at<F: Flash>(paged: &mut Paged<F>, region: Region, at: u64) -> Result<
     requires reach { Reaches region at paged.old.device }
     requires aligned { at % 64 ≡ 0 }
 
-    ensures after { HasReadBy by_device (reads_at region.size at result) paged.old paged.new result }
+    ensures cost { HasReadBy by_device (reads_at region.size at result) paged.old paged.new result }
     ensures cell { GivesCell region.size at result }
     ensures answer { AnswersAs paged.old region WalkFault.Device result (λ x. answer_at x at) }
 {
@@ -185,6 +185,7 @@ fn front_at<F: Flash>(
     Ok(Head::read(&bytes))
 }
 
+#[tactic(auto, using(crate::proofs::Checks::content_fits))]
 /// Returns the first failed check of a component after the checks of its head. Free space has none.
 fn damage_in<F: Flash>(
     paged: &mut Paged<F>,
@@ -194,9 +195,9 @@ fn damage_in<F: Flash>(
     requires { IsCellOn PassesChecks region cell.now paged.old.device }
 
     ensures { ReadsIn region cell.now.at (content_start cell.now) paged.old paged.new result
-        (λ x damage. entry_or damage cell.now.span ≡ checked_entry (drop cell.now.at x) cell.now) }
+        (λ x damage. front (drop cell.now.at x) ≡ Some cell.now.head
+        → entry_or damage cell.now.span ≡ entry (drop cell.now.at x)) }
 {
-    content_fits(cell, region);
     if cell.head.is_free() {
         return Ok(None);
     }

@@ -19,11 +19,5 @@ returns-in-Some-clause-value g c = λ h.
     IfOk-to _ _ _ (value_is _ c.args.cell.now _ (rw c.in-Some.is at c.in_ok-at.ensures.attribute) ∙ ap (λ o. option_map_or (be32 0) o 0) told)
     (rw (calls.unchanged h) at (c.value_at.ensures.value (honest_still calls.calls.same_honesty h)))
 
-pub returns-in-None-clause-value : goal.returns-in-None-clause-value
-returns-in-None-clause-value g c = λ h. ap (λ o. option_map_or (be32 0) o 0) (rw c.in-None.is at (c.in_ok-at.ensures.first.value h))
-
 pub returns-in-Some-clause-packing : goal.returns-in-Some-clause-packing
 returns-in-Some-clause-packing g c = λ h stands. IfOk-to _ _ _ (ap packing (attributes_found c.args.region _ c.args.cell.now c.requires.region.inside c.requires.cell stands)) (returns-in-Some-clause-value g c h)
-
-pub returns-in-None-clause-packing : goal.returns-in-None-clause-packing
-returns-in-None-clause-packing g c = λ h stands. returns-in-None-clause-value g c h ∙ ap packing (attributes_found c.args.region _ c.args.cell.now c.requires.region.inside c.requires.cell stands)

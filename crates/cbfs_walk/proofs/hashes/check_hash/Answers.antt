@@ -1,14 +1,15 @@
-use Rattle.std.proofs.Common.{arith, le_refl, rules, ◌∙◌}
+use Rattle.std.proofs.Common.{arith, le_refl}
 use Rattle.flash_device.proofs.WindowLemmas.{HasRead-within}
 use Rattle.std.proofs.lemmas.Result.{err_from_is_err_and}
+use Rattle.cbfs_walk.proofs.Checks.{content_fits}
 use Rattle.cbfs_walk.proofs.ReadSequences.{Passes-then, Passes-answers}
-use Rattle.cbfs_walk.proofs.Digests.{compared, state_found, read_to_content}
+use Rattle.cbfs_walk.proofs.Digests.{compared, read_to_content}
 use Rattle.cbfs_walk.proofs.hashes.check_hash.Goals as goal
 
 pub returns-in_err-stored-in-Some-clause-after : goal.returns-in_err-stored-in-Some-clause-after
 returns-in_err-stored-in-Some-clause-after g c =
     rw (err_from_is_err_and c.from_residual-in_err-stored-in-Some.result c.from_residual-in_err-stored-in-Some.ensures.1).1
-    (Passes-answers (read_to_content c.args.cell.now _ _ _ c.in-Some.is c.in_ok-at.ensures.attribute c.in_ok-at.ensures.first.passed c.in_err-stored-in-Some.ensures.passed) (omega arith))
+    (Passes-answers (read_to_content c.args.cell.now _ _ _ c.in-Some.is c.in_ok-at.ensures.attribute c.in_ok-at.ensures.first.passed c.in_err-stored-in-Some.ensures.passed) (omega (arith, (content_fits c.args.region.size c.args.cell.now c.requires.cell.checks).in_cell)))
 
 pub returns-in-None-2-clause-unread : goal.returns-in-None-2-clause-unread
 returns-in-None-2-clause-unread g c = λ told.
@@ -16,7 +17,7 @@ returns-in-None-2-clause-unread g c = λ told.
 
 pub returns-in-None-2-clause-after : goal.returns-in-None-2-clause-after
 returns-in-None-2-clause-after g c =
-    Passes-answers (read_to_content c.args.cell.now _ _ _ c.in-Some.is c.in_ok-at.ensures.attribute c.in_ok-at.ensures.first.passed c.in_ok-stored-in-Some.ensures.passed) (omega arith)
+    Passes-answers (read_to_content c.args.cell.now _ _ _ c.in-Some.is c.in_ok-at.ensures.attribute c.in_ok-at.ensures.first.passed c.in_ok-stored-in-Some.ensures.passed) (omega (arith, (content_fits c.args.region.size c.args.cell.now c.requires.cell.checks).in_cell))
 
 pub returns-in_ok-computed-in-Some-2-clause-unread : goal.returns-in_ok-computed-in-Some-2-clause-unread
 returns-in_ok-computed-in-Some-2-clause-unread g c = λ told. absurd (compared c.in-Some-2.stored c.in_ok-computed-in-Some-2.computed c.comparison.result c.comparison.ensures told)
@@ -25,27 +26,9 @@ pub returns-in_err-computed-in-Some-2-clause-after : goal.returns-in_err-compute
 returns-in_err-computed-in-Some-2-clause-after g c =
     let first = read_to_content c.args.cell.now _ _ _ c.in-Some.is c.in_ok-at.ensures.attribute c.in_ok-at.ensures.first.passed c.in_ok-stored-in-Some.ensures.passed in
     rw (err_from_is_err_and c.from_residual-in_err-computed-in-Some-2.result c.from_residual-in_err-computed-in-Some-2.ensures.1).1
-    (Passes-answers (Passes-then first c.in_err-computed-in-Some-2.ensures.passed (le_refl _) (le_refl _) (le_refl _)) (omega arith))
+    (Passes-answers (Passes-then first c.in_err-computed-in-Some-2.ensures.passed (le_refl _) (le_refl _) (le_refl _)) (omega (arith, (content_fits c.args.region.size c.args.cell.now c.requires.cell.checks).in_cell)))
 
 pub returns-in_ok-computed-in-Some-2-clause-after : goal.returns-in_ok-computed-in-Some-2-clause-after
 returns-in_ok-computed-in-Some-2-clause-after g c =
     let first = read_to_content c.args.cell.now _ _ _ c.in-Some.is c.in_ok-at.ensures.attribute c.in_ok-at.ensures.first.passed c.in_ok-stored-in-Some.ensures.passed in
-    Passes-answers (Passes-then first c.in_ok-computed-in-Some-2.ensures.passed (le_refl _) (le_refl _) (le_refl _)) (omega arith)
-
-pub returns-in_ok-computed-in-Some-2-clause-value : goal.returns-in_ok-computed-in-Some-2-clause-value
-returns-in_ok-computed-in-Some-2-clause-value g c = search rules
-
-pub returns-in-None-2-clause-value : goal.returns-in-None-2-clause-value
-returns-in-None-2-clause-value g c = search rules
-
-pub returns-in-None-clause-value : goal.returns-in-None-clause-value
-returns-in-None-clause-value g c = search rules
-
-pub returns-in_ok-computed-in-Some-2-clause-state : goal.returns-in_ok-computed-in-Some-2-clause-state
-returns-in_ok-computed-in-Some-2-clause-state g c = λ h stands. returns-in_ok-computed-in-Some-2-clause-value g c h ∙ state_found c.args.region _ c.args.cell.now c.requires.region.inside c.requires.cell stands
-
-pub returns-in-None-2-clause-state : goal.returns-in-None-2-clause-state
-returns-in-None-2-clause-state g c = λ h stands. returns-in-None-2-clause-value g c h ∙ state_found c.args.region _ c.args.cell.now c.requires.region.inside c.requires.cell stands
-
-pub returns-in-None-clause-state : goal.returns-in-None-clause-state
-returns-in-None-clause-state g c = λ h stands. returns-in-None-clause-value g c h ∙ state_found c.args.region _ c.args.cell.now c.requires.region.inside c.requires.cell stands
+    Passes-answers (Passes-then first c.in_ok-computed-in-Some-2.ensures.passed (le_refl _) (le_refl _) (le_refl _)) (omega (arith, (content_fits c.args.region.size c.args.cell.now c.requires.cell.checks).in_cell))

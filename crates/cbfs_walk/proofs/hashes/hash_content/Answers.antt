@@ -1,13 +1,14 @@
 use Rattle.std.proofs.lemmas.Grind.{common_steps}
 use Rattle.std.proofs.Common.{arith, rules}
 use Rattle.std.proofs.lemmas.Result.{err_from_is_err_and}
+use Rattle.cbfs_walk.proofs.Checks.{content_fits}
 use Rattle.cbfs_walk.proofs.ReadSequences.{Passes-within}
 use Rattle.cbfs_walk.proofs.AttributeScans.{scanned, lies_still}
 use Rattle.cbfs_walk.proofs.Digests.{taking_more, content_taken}
 use Rattle.cbfs_walk.proofs.hashes.hash_content.Goals as goal
 
 pub piece_in-requires-clause-reach : goal.piece_in-requires-clause-reach
-piece_in-requires-clause-reach g c = record { region = lies_still c.loop-at.invariant c.requires.region; inside = search rules }
+piece_in-requires-clause-reach g c = record { region = lies_still c.loop-at.invariant c.requires.region; inside = omega (arith, (content_fits c.args.region.size c.args.cell.now c.requires.cell).in_region) }
 
 pub returns-in_err-bytes : goal.returns-in_err-bytes
 returns-in_err-bytes g c =

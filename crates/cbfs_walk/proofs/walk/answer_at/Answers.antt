@@ -40,19 +40,19 @@ returns-in-Err-clause-answer g c = λ h.
 pub damage_in-requires : goal.damage_in-requires
 damage_in-requires g c = record { region = search rules; cell = checked_extent _ _ c.in-Ok.extent (c.in-Ok.ensures ∙ ap (λ n. extent_of c.in-Some.head (n - c.args.at)) c.size-3.ensures) }
 
-pub returns-in_err-kind-in-Ok-clause-after : goal.returns-in_err-kind-in-Ok-clause-after
-returns-in_err-kind-in-Ok-clause-after g c =
+pub returns-in_err-kind-in-Ok-clause-cost : goal.returns-in_err-kind-in-Ok-clause-cost
+returns-in_err-kind-in-Ok-clause-cost g c =
     let checks = checked_extent _ _ c.in-Ok.extent (c.in-Ok.ensures ∙ ap (λ n. extent_of c.in-Some.head (n - c.args.at)) c.size-3.ensures) in
     let told = err_from_is_err_and c.from_residual-in_err-kind-in-Ok.result c.from_residual-in_err-kind-in-Ok.ensures.1 in
     rw (told.1, told.2) (cell_reads c.args.region (record { at = c.args.at; head = c.in-Some.head; span = c.in-Ok.extent.span }) _ _ _ (Err faults.Device) checks tt c.in_ok-front_at.ensures.passed c.in_err-kind-in-Ok.ensures.passed)
 
-pub returns-in-Some-2-clause-after : goal.returns-in-Some-2-clause-after
-returns-in-Some-2-clause-after g c =
+pub returns-in-Some-2-clause-cost : goal.returns-in-Some-2-clause-cost
+returns-in-Some-2-clause-cost g c =
     let checks = checked_extent _ _ c.in-Ok.extent (c.in-Ok.ensures ∙ ap (λ n. extent_of c.in-Some.head (n - c.args.at)) c.size-3.ensures) in
     cell_reads c.args.region (record { at = c.args.at; head = c.in-Some.head; span = c.in-Ok.extent.span }) _ _ _ (Err (faults.Damaged c.args.at c.in-Some-2.kind)) checks tt c.in_ok-front_at.ensures.passed c.in_ok-kind-in-Ok.ensures.passed
 
-pub returns-in-None-3-clause-after : goal.returns-in-None-3-clause-after
-returns-in-None-3-clause-after g c =
+pub returns-in-None-3-clause-cost : goal.returns-in-None-3-clause-cost
+returns-in-None-3-clause-cost g c =
     let checks = checked_extent _ _ c.in-Ok.extent (c.in-Ok.ensures ∙ ap (λ n. extent_of c.in-Some.head (n - c.args.at)) c.size-3.ensures) in
     cell_reads c.args.region (record { at = c.args.at; head = c.in-Some.head; span = c.in-Ok.extent.span }) _ _ _ (Ok (steps.Cell (record { at = c.args.at; head = c.in-Some.head; span = c.in-Ok.extent.span }))) checks refl c.in_ok-front_at.ensures.passed c.in_ok-kind-in-Ok.ensures.passed
 
@@ -63,14 +63,12 @@ returns-in-None-3-clause-cell g c =
 
 pub returns-in-Some-2-clause-answer : goal.returns-in-Some-2-clause-answer
 returns-in-Some-2-clause-answer g c = λ h.
-    let checks = checked_extent _ _ c.in-Ok.extent (c.in-Ok.ensures ∙ ap (λ n. extent_of c.in-Some.head (n - c.args.at)) c.size-3.ensures) in
     let inside : c.args.at < c.args.region.size = grind (arith, common_steps) in
     let damage = rw (c.front_at.ensures.passed.read.device.unchanged h, c.in-Some-2.is) at (c.in_ok-kind-in-Ok.ensures.value (honest_still c.front_at.ensures.passed.read.device.calls.same_honesty h)) in
-    inr (answer_checked _ _ (record { at = c.args.at; head = c.in-Some.head; span = c.in-Ok.extent.span }) (Some c.in-Some-2.kind) (length-region c.args.region _ c.requires.reach.region.inside) (c.if-has_bad_size.ensures ∙ ap has_bad_size c.size.ensures) inside (rw c.in-Some.is at (c.in_ok-front_at.ensures.value h)) checks damage)
+    inr (answer_checked _ _ (record { at = c.args.at; head = c.in-Some.head; span = c.in-Ok.extent.span }) (Some c.in-Some-2.kind) (length-region c.args.region _ c.requires.reach.region.inside) (c.if-has_bad_size.ensures ∙ ap has_bad_size c.size.ensures) inside (rw c.in-Some.is at (c.in_ok-front_at.ensures.value h)) damage)
 
 pub returns-in-None-3-clause-answer : goal.returns-in-None-3-clause-answer
 returns-in-None-3-clause-answer g c = λ h.
-    let checks = checked_extent _ _ c.in-Ok.extent (c.in-Ok.ensures ∙ ap (λ n. extent_of c.in-Some.head (n - c.args.at)) c.size-3.ensures) in
     let inside : c.args.at < c.args.region.size = grind (arith, common_steps) in
     let damage = rw (c.front_at.ensures.passed.read.device.unchanged h, c.in-None-3.is) at (c.in_ok-kind-in-Ok.ensures.value (honest_still c.front_at.ensures.passed.read.device.calls.same_honesty h)) in
-    inr (answer_checked _ _ (record { at = c.args.at; head = c.in-Some.head; span = c.in-Ok.extent.span }) None (length-region c.args.region _ c.requires.reach.region.inside) (c.if-has_bad_size.ensures ∙ ap has_bad_size c.size.ensures) inside (rw c.in-Some.is at (c.in_ok-front_at.ensures.value h)) checks damage)
+    inr (answer_checked _ _ (record { at = c.args.at; head = c.in-Some.head; span = c.in-Ok.extent.span }) None (length-region c.args.region _ c.requires.reach.region.inside) (c.if-has_bad_size.ensures ∙ ap has_bad_size c.size.ensures) inside (rw c.in-Some.is at (c.in_ok-front_at.ensures.value h)) damage)

@@ -8,8 +8,8 @@ pub returns : goal.returns
 returns g c =
     let size = length-region c.args.region c.args.paged.now.device.content c.requires.region.inside in
     record {
-      passed = c.in_ok-read_in.ensures.passes;
-      value = λ h. front_read _ c.args.at _ _ c.read.ensures (c.in_ok-read_in.ensures.read h) (omega (arith, size, c.requires.inside, c.if-size-at-lt24.false, c.size.ensures));
+      passed = c.in_ok-read_in.ensures.passed;
+      value = λ h. front_read _ c.args.at _ _ c.read.ensures (c.in_ok-read_in.ensures.value h) (omega (arith, size, c.requires.inside, c.if-size-at-lt24.false, c.size.ensures));
     }
 
 pub returns-then-size-at-lt24 : goal.returns-then-size-at-lt24

@@ -4,7 +4,7 @@ use Rattle.std.proofs.Common.{◌∙◌, ap, sym, ◌+◌}
 use Rattle.std.proofs.lemmas.Result.{err_from_is_err_and}
 use Rattle.cbfs_walk.specs.declared.attribute_walk.Listed.TheVariants as listed
 use Rattle.cbfs_walk.proofs.AttributeLists.{walk_step, gives_none}
-use Rattle.cbfs_walk.specs.AttrWalks.{place_in_region}
+use Rattle.cbfs_walk.specs.AttrWalks.{AttrWalking}
 use Rattle.cbfs_walk.proofs.attribute_walk.AttrWalk.next.Goals as goal
 
 pub returns-in-Attribute-clause-list : goal.returns-in-Attribute-clause-list
@@ -20,7 +20,7 @@ pub returns-in_err-head-clause-passes : goal.returns-in_err-head-clause-passes
 returns-in_err-head-clause-passes g c = grind (arith, common_steps, err_from_is_err_and)
 
 pub returns-in-Attribute-clause-passes : goal.returns-in-Attribute-clause-passes
-returns-in-Attribute-clause-passes g c = rw (ap (λ n. c.self.inside.cell.at + n) c.from.ensures ∙ ap place_in_region c.self.view_is) at c.in_ok-head.ensures.passes
+returns-in-Attribute-clause-passes g c = rw (ap (λ n. c.self.inside.cell.at + n) c.from.ensures ∙ ap (λ (w : AttrWalking). w.cell.at + w.at) c.self.view_is) at c.in_ok-head.ensures.passes
 
 pub returns-in_default-clause-passes : goal.returns-in_default-clause-passes
-returns-in_default-clause-passes g c = rw (ap (λ n. c.self.inside.cell.at + n) c.from.ensures ∙ ap place_in_region c.self.view_is) at c.in_ok-head.ensures.passes
+returns-in_default-clause-passes g c = rw (ap (λ n. c.self.inside.cell.at + n) c.from.ensures ∙ ap (λ (w : AttrWalking). w.cell.at + w.at) c.self.view_is) at c.in_ok-head.ensures.passes
