@@ -79,10 +79,6 @@ pub record IsEmptied (group : CellRange) (to : ℕ) (x y : List ℕ) : Type 0 wh
   pub same : SameOutside (group.start + header_length) (to - (group.start + header_length))
       (overwritten x group.start (empty_header (group.end - group.start) (group.end == length x))) y
 
--- while an empty entry is written
-abbrev pub IsOldOrEmptied : CellRange → ℕ → List ℕ → List ℕ → Type 0
-IsOldOrEmptied group to x y = (y ≡ x) ⊎ IsEmptied group to x y
-
 -- with offsets, bytes and the same end
 pub record SameCells (x y : List ℕ) : Type 0 where
   pub components : components x ≡ components y

@@ -4,7 +4,7 @@ ghost use Rattle.std.specs.Prelude.{OnOk, replicate};
 ghost use Rattle.flash_format.specs.Made.{header_length};
 ghost use Rattle.flash_device.specs.Device.{overwritten, SameOutside};
 ghost use Rattle.flash_device.specs.Regions.{Reaches};
-ghost use Rattle.cbfs_edit.specs.Changes.{HasCopied, HasWrittenIn, HoldsOn, IsOldOrEmptied};
+ghost use Rattle.cbfs_edit.specs.Changes.{HasCopied, HasWrittenIn, HoldsOn, IsEmptied};
 ghost use Rattle.cbfs_edit.specs.Removals.{IsCellRange, removed, space_end};
 
 use crate::group::CellRange;
@@ -92,7 +92,8 @@ pub fn write_empty_entry<F: Flash>(
     requires { HoldsOn (IsCellRange group) region paged.old.device }
 
     ensures { HasWrittenIn region (region.size / 4096 + 2) (λ x. removed x group)
-        (IsOldOrEmptied group (space_end region.size group.end)) paged.old paged.new result }
+        (λ x y. (y ≡ x) ⊎ IsEmptied group (space_end region.size group.end) x y)
+        paged.old paged.new result }
 {
     let kept = group.end == region.size();
     let header = empty_header((group.end - group.start) as u32, kept);
