@@ -15,9 +15,9 @@ use Rattle.flash_device.specs.Device.{Device, SameOutside, overwritten}
 use Rattle.flash_device.proofs.BytesLemmas.{SameOutside-overwritten, further, length-overwritten}
 use Rattle.cbfs_edit.specs.Removals.{IsCellRange, kept_at, removed, space_end}
 use Rattle.cbfs_edit.specs.Runs.{runs}
-use Rattle.cbfs_edit.specs.Places.{is_bad_align, IsWanted, IsFirstPlace, IsPlaceAmong, placing_in}
+use Rattle.cbfs_edit.specs.Places.{is_bad_align, IsWanted, IsFirstPlace, placing_in}
 use Rattle.cbfs_edit.specs.Places.{Fits}
-use Rattle.cbfs_edit.specs.Changes.{Adds, AddLeavesWhole, AddLeavesBefore, IsEmptied, IsOldOrEmptied, copy_edit_fault}
+use Rattle.cbfs_edit.specs.Changes.{Adds, AddLeavesWhole, AddLeavesBefore, IsEmptied, copy_edit_fault}
 use Rattle.cbfs_edit.specs.Additions.{NewComponent, added, added_component, addition_in, empty_between, cell_end, metadata_len_of, is_bad_name, made_at, argument_fault, wanted_for, algorithm_of, digest_of, HasRoom, with_component, IsUnfinished}
 use Rattle.cbfs_edit.specs.Laws.{IsAdded}
 use Rattle.cbfs_edit.specs.declared.fault.EditFault.{EditFault}
@@ -25,10 +25,10 @@ use Rattle.cbfs_edit.specs.declared.group.CellRange.{CellRange}
 use Rattle.cbfs_edit.specs.declared.place.Spot.{Spot}
 use Rattle.cbfs_edit.specs.declared.place.Wanted.{Wanted}
 use Rattle.cbfs_edit.specs.declared.place.Place.{Place}
-use Rattle.cbfs_edit.proofs.Places.{IsAnsweredPlace, answered_place, fits_there, first_place-right}
+use Rattle.cbfs_edit.proofs.Places.{IsPlaceAmong, IsAnsweredPlace, answered_place, fits_there, first_place-right}
 use Rattle.cbfs_edit.proofs.Lists.{content_at}
 use Rattle.cbfs_edit.proofs.Runs.{IsRun, run_of, emptied_runs}
-use Rattle.cbfs_edit.proofs.EmptyEntries.{emptied-wider, emptied-write, emptied-outside, removed-emptied, old_or-wider, same_region_length, space_end-below, space_end-near, as_splice, emptied-stopped}
+use Rattle.cbfs_edit.proofs.EmptyEntries.{IsOldOrEmptied, emptied-wider, emptied-write, emptied-outside, removed-emptied, old_or-wider, same_region_length, space_end-below, space_end-near, as_splice, emptied-stopped}
 use Rattle.cbfs_edit.proofs.Changes.{keeps}
 use Rattle.cbfs_edit.proofs.Insertions.{hash_short, inserted, finished-last}
 use Rattle.std.specs.Option.{option_map_or}

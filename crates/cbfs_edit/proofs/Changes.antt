@@ -6,6 +6,19 @@ use Rattle.flash_format.specs.Made.{KeepsFour, empty_header, header_length}
 use Rattle.cbfs_edit.specs.Removals.{last_four, kept_at}
 use Rattle.flash_device.specs.Device.{SameOutside, overwritten}
 use Rattle.flash_device.proofs.BytesLemmas.{SameOutside-overwritten, SameOutside-trans}
+use Rattle.std.specs.Prelude.{OnOk}
+use Rattle.std.proofs.Common.{IsTrue, Result, Ok, Err}
+use Rattle.std.proofs.lemmas.List.{take_all}
+use Rattle.std.proofs.lemmas.Result.{on_ok_weaker}
+use Rattle.flash_device.specs.Device.{Device}
+use Rattle.flash_device.specs.Pages.{HasCopiedIn, as_copy, copy_fault}
+use Rattle.flash_device.specs.Pages as copies
+use Rattle.flash_device.specs.Regions.{Range, LiesIn, bytes_in}
+use Rattle.flash_device.specs.declared.paged.CopyInFault.{CopyInFault}
+use Rattle.flash_device.specs.declared.paged.CopyFault.{CopyFault}
+use Rattle.flash_device.specs.declared.paged.CopyInFault.TheVariants as causes
+use Rattle.flash_device.proofs.RegionLemmas.{outside_of, changed_at, written_ok}
+use Rattle.cbfs_edit.specs.Changes.{by_device, by_source, copy_edit_fault}
 use Rattle.cbfs_edit.specs.declared.place.Place.{Place}
 use Rattle.cbfs_edit.specs.Additions.{HasRoom, with_bound, held_back, IsUnfinished}
 
@@ -66,3 +79,30 @@ module _ (size : ℕ) (place : Place) (end metadata : ℕ) (room : HasRoom place
       within y z end n (place.run.start + header_length) (max place.content (place.run.end - 4))
       (omega (arith, room.start_below, room.metadata_is, room.metadata_long, room.content_below))
       (omega (arith, long, other, room.cell.inside, room.cell.end_aligned, room.run.end_aligned)) same
+
+-- ---- a copy to an offset in a region
+
+copied_ok : {T : Type 0} (P : Type 0) (r : Result T CopyInFault) → OnOk (as_copy r) P → OnOk r P
+copied_ok P (Ok value) done = done
+copied_ok P (Err fault) done = done
+
+pub copy-counts : (fault : CopyInFault) → (copies.by_device (copy_fault fault) ≡ by_device (copy_edit_fault fault)) × (copies.by_source (copy_fault fault) ≡ by_source (copy_edit_fault fault))
+copy-counts causes.Device = (refl, refl)
+copy-counts causes.Source = (refl, refl)
+
+-- without a source fault
+pub device-told : (fault : CopyInFault) → copies.by_source (copy_fault fault) ≡ 0 → copies.by_device (copy_fault fault) ≡ 1
+device-told causes.Device none = refl
+device-told causes.Source none = absurd (omega (arith, none))
+
+module _ {T : Type 0} (r : Range) (at p : ℕ) (old new source source_now : Device) (place : p ≡ r.start + at) (fits : at + length source.content ≤ r.size) where
+  pub copy-outside : (told : Result T CopyFault) → HasCopiedIn p (length source.content) old new source source_now told → IsTrue old.honest → SameOutside r.start r.size old.content new.content
+  copy-outside told copy honest = outside_of r old.content new.content p at (length source.content) place fits (copy.outside honest)
+
+  pub copy-torn : (told : Result T CopyFault) → HasCopiedIn p (length source.content) old new source source_now told → IsTrue old.honest → SameOutside at (length source.content) (bytes_in r old.content) (bytes_in r new.content)
+  copy-torn told copy honest = changed_at r old.content new.content p at (length source.content) place fits (copy.outside honest)
+
+  pub copy-done : (result : Result T CopyInFault) → HasCopiedIn p (length source.content) old new source source_now (as_copy result) → LiesIn r old.content → IsTrue old.honest → IsTrue source.honest → OnOk result (bytes_in r new.content ≡ overwritten (bytes_in r old.content) at source.content)
+  copy-done result copy lies honest source_honest =
+      written_ok result r old.content new.content p at (length source.content) source.content lies place refl fits
+      (on_ok_weaker result (λ e. e ∙ ap (λ (l : List ℕ). overwritten old.content p l) (take_all (length source.content) source.content (omega arith))) (copied_ok _ result (copy.copied honest source_honest)))

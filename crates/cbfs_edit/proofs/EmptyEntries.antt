@@ -5,7 +5,7 @@ use Rattle.flash_format.specs.Made.{header_length, empty_header, padding}
 use Rattle.flash_format.proofs.EmptyEntryLaws.{length-empty_header}
 use Rattle.flash_device.specs.Device.{overwritten, SameOutside}
 use Rattle.flash_device.proofs.BytesLemmas.{SameOutside-overwritten, SameOutside-trans, SameOutside-wider, overwritten-more_at, length-overwritten, length-slice_range, changed-overwritten, overwritten-front, slice_range_is, further}
-use Rattle.cbfs_edit.specs.Changes.{IsEmptied, IsOldOrEmptied, IsStopped, SameCells}
+use Rattle.cbfs_edit.specs.Changes.{IsEmptied, IsStopped, SameCells}
 use Rattle.cbfs_edit.specs.declared.group.CellRange.{CellRange}
 use Rattle.cbfs_edit.proofs.Changes.{again, unchanged, within, is_some-cond}
 use Rattle.std.proofs.lemmas.List.{length-replicate, take_all}
@@ -19,6 +19,10 @@ use Rattle.flash_format.specs.Components.{components_from, components}
 use Rattle.flash_format.specs.Splices.{CellsBetween, splice}
 use Rattle.flash_format.proofs.Splices.{length-concat-cells, group-whole, cells-before, cells-group}
 use Rattle.flash_format.proofs.Splices as splices
+
+-- while an empty entry is written
+abbrev pub IsOldOrEmptied : CellRange → ℕ → List ℕ → List ℕ → Type 0
+IsOldOrEmptied group to x y = (y ≡ x) ⊎ IsEmptied group to x y
 
 -- ---- lengths and offsets
 

@@ -11,7 +11,7 @@ use Rattle.flash_device.specs.Device.{overwritten}
 use Rattle.flash_device.proofs.BytesLemmas.{length-overwritten, drop-overwritten}
 use Rattle.cbfs_edit.specs.declared.place.Place.{Place}
 use Rattle.cbfs_edit.specs.Removals.{last_four, kept_at, removed}
-use Rattle.cbfs_edit.specs.Additions.{empty_between, NewComponent, metadata_len_of, wanted_for, HasRoom, held_back, with_metadata, with_bound, shown_by, with_component}
+use Rattle.cbfs_edit.specs.Additions.{empty_between, NewComponent, metadata_len_of, wanted_for, HasRoom, held_back, with_bound, shown_by, with_component}
 use Rattle.cbfs_edit.proofs.Changes.{is_some-cond, keeps, kept-none}
 use Rattle.cbfs_edit.proofs.Lists.{over_part, drop-padding, padding-begins}
 use Rattle.flash_format.specs.declared.digest.Digest.{Digest}
@@ -137,8 +137,8 @@ module _ (x : List ℕ) (place : Place) (end : ℕ) (metadata : List ℕ) (room 
         ap (λ (l : List ℕ). overwritten l place.content content) (ap (λ (l : List ℕ). overwritten x place.run.start (header ++ l)) pad ∙ ap (λ (l : List ℕ). overwritten x place.run.start l) (simp append_assoc))
         ∙ over_part x place.run.start (header ++ (space ++ part)) rest content tail place.content inside
         (omega (arith, length-append header (space ++ part), length-append space part, header_long, space_long, part_long, f.rest_long)) (omega (arith, rest_long)) (drop-padding (length content) (place.run.end - d) last) in
-        let described : with_metadata (overwritten (removed x place.run) place.content content) place metadata ≡ overwritten x place.run.start ((header ++ space) ++ (d1 ++ (content ++ tail))) =
-        ap (λ (l : List ℕ). with_metadata l place metadata) (copied ∙ ap (λ (l : List ℕ). overwritten x place.run.start l) (simp append_assoc))
+        let described : overwritten (overwritten (removed x place.run) place.content content) (place.header + held_back place) d1 ≡ overwritten x place.run.start ((header ++ space) ++ (d1 ++ (content ++ tail))) =
+        ap (λ (l : List ℕ). overwritten l (place.header + held_back place) d1) (copied ∙ ap (λ (l : List ℕ). overwritten x place.run.start l) (simp append_assoc))
         ∙ over_part x place.run.start (header ++ space) (part ++ (content ++ tail)) d1 (content ++ tail) (place.header + held_back place) inside
         (omega (arith, length-append header space, header_long, space_long, f.rest_at)) (omega (arith, part_long, length-append part (content ++ tail))) (drop_at part (content ++ tail) v part_long) in
         let p : List ℕ = header ++ (space ++ (d1 ++ content)) in

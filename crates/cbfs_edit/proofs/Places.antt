@@ -6,7 +6,7 @@ use Rattle.std.specs.Int.{next_multiple_of}
 use Rattle.std.proofs.lemmas.Bool.{eqb-false, leb-false, leb-true}
 use Rattle.std.proofs.lemmas.List.Elements.{All-nil, All-cons, All-weaker, All-contains, Contains-append_right}
 use Rattle.std.proofs.Math.Nat.{add-mod-mod, mul-mod_left, mod-lt, div-add-mod, lt_of_mul-lt-mul_right, mul-le-mul_right}
-use Rattle.cbfs_edit.specs.Places.{is_bad_align, Allows, HasNoRoom, IsAllowed, IsHeaderOf, IsFirstPlace, IsPlaceAmong, IsWanted, limit_of, least_from, place_in, first_place, placing_in}
+use Rattle.cbfs_edit.specs.Places.{is_bad_align, Allows, HasNoRoom, IsAllowed, IsHeaderOf, IsFirstPlace, IsWanted, limit_of, least_from, place_in, first_place, placing_in}
 use Rattle.cbfs_edit.specs.Removals.{IsCellRange}
 use Rattle.cbfs_edit.specs.Places.{Fits}
 use Rattle.cbfs_edit.specs.Runs.{runs}
@@ -100,6 +100,9 @@ fits_there wanted size place range after ends header = let below = limit_below w
 -- the header at the last multiple of 64 with room for the metadata
 pub fits_at : (wanted : Wanted) (size : ℕ) (run : CellRange) (c : ℕ) → IsCellRange run size → run.start + wanted.metadata_len ≤ c → c + wanted.len ≤ limit_of wanted.spot size run.end → Fits wanted size (place_at wanted run c)
 fits_at wanted size run c range after ends = fits_there wanted size (place_at wanted run c) range after ends (header_lemma wanted run c (omega arith))
+
+abbrev pub IsPlaceAmong : Wanted → ℕ → List CellRange → Option Place → Type 0
+IsPlaceAmong wanted size runs found = MatchOption found (All (HasNoRoom wanted size) runs) (IsFirstPlace wanted size runs)
 
 pub first_place-right : (wanted : Wanted) (size : ℕ) (runs : List CellRange) → IsWanted wanted → IsPlaceAmong wanted size runs (first_place wanted size runs)
 first_place-right wanted size [] is = All-nil (HasNoRoom wanted size)

@@ -7,13 +7,13 @@ use Rattle.flash_format.specs.Cut.{cut}
 use Rattle.cbfs_edit.specs.Removals.{IsCellRange, IsGroupOf, group_of, IsComponent, IsNot, removal_in, removed, space_end}
 use Rattle.flash_device.specs.Device.{overwritten, SameOutside}
 use Rattle.flash_device.proofs.RegionLemmas.{image_is}
-use Rattle.cbfs_edit.specs.Changes.{IsOldOrEmptied, LeavesWhole, Removes}
+use Rattle.cbfs_edit.specs.Changes.{LeavesWhole, Removes}
 use Rattle.cbfs_edit.specs.Laws.{LosesOne}
 use Rattle.cbfs_edit.specs.declared.fault.EditFault.{EditFault}
 use Rattle.cbfs_edit.specs.declared.group.CellRange.{CellRange}
 use Rattle.cbfs_edit.proofs.Groups.{between, end_of, group_exact, group_some, whole_of}
 use Rattle.cbfs_edit.proofs.Sound.{accepted_by, found-some}
-use Rattle.cbfs_edit.proofs.EmptyEntries.{group_range, emptied-end, emptied-same, emptied-stopped, emptied-wider, space_end-below, space_end-near, emptied-components, removed-whole}
+use Rattle.cbfs_edit.proofs.EmptyEntries.{IsOldOrEmptied, group_range, emptied-end, emptied-same, emptied-stopped, emptied-wider, space_end-below, space_end-near, emptied-components, removed-whole}
 use Rattle.std.specs.Str.{bytes_eq}
 use Rattle.std.specs.List.{concat}
 use Rattle.std.proofs.lemmas.Bool.{cond_both}

@@ -109,11 +109,6 @@ pub record HasRoom (place : Place) (end metadata size : ℕ) : Type 0 where
 abbrev pub held_back : Place → ℕ
 held_back place = if place.header == place.run.start then header_length else 0
 
--- the other metadata
-abbrev pub with_metadata : List ℕ → Place → List ℕ → List ℕ
-with_metadata y place metadata =
-    overwritten y (place.header + held_back place) (drop (held_back place) metadata)
-
 -- the empty entry after the component, if any
 abbrev pub with_bound : List ℕ → ℕ → ℕ → List ℕ
 with_bound y end run_end = if end == run_end then y
@@ -124,11 +119,11 @@ abbrev pub shown_by : Place → List ℕ → List ℕ
 shown_by place metadata = if place.header == place.run.start then take header_length metadata
     else empty_header (place.header - place.run.start) false
 
--- all writes after the content
+-- all writes after the content: the other metadata, the next header, the last commit
 abbrev pub with_component : List ℕ → Place → ℕ → List ℕ → List ℕ
-with_component y place end metadata =
-    overwritten (with_bound (with_metadata y place metadata) end place.run.end) place.run.start
-    (shown_by place metadata)
+with_component y place end metadata = let held = held_back place in
+    let described = overwritten y (place.header + held) (drop held metadata) in
+    overwritten (with_bound described end place.run.end) place.run.start (shown_by place metadata)
 
 -- Before the last commit, only bytes of the run after the header of its empty entry have changed;
 -- of the last four bytes, only bytes before the content.

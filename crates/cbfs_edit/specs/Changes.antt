@@ -1,8 +1,7 @@
 -- The effect of edits on a region, also after a fault.
-use Rattle.std.specs.Prelude.{◌≡◌, ℕ, ◌+◌, ◌/◌, List, length, Result, IsTrue, OnOk, ◌⊎◌}
+use Rattle.std.specs.Prelude.{◌≡◌, ℕ, ◌+◌, List, length, Result, IsTrue, OnOk, ◌⊎◌}
 use Rattle.std.specs.Prelude.{◌-◌, max, drop, Ok, Err, ◌==◌}
-use Rattle.flash_device.specs.Device.{overwritten, SameOutside, Device, Reads, fault_count}
-use Rattle.flash_device.specs.Device.{refusals}
+use Rattle.flash_device.specs.Device.{overwritten, SameOutside, Device, refusals}
 use Rattle.flash_device.specs.Pages.{Pages, HasChanged}
 use Rattle.flash_device.specs.Regions.{Range, LiesOn, bytes_in}
 use Rattle.flash_device.specs.declared.paged.CopyInFault.{CopyInFault}
@@ -36,10 +35,6 @@ abbrev pub copy_edit_fault : CopyInFault → EditFault
 copy_edit_fault causes.Device = faults.Device
 copy_edit_fault causes.Source = faults.Source
 
--- the number of failed calls of a copy
-abbrev pub stop_count : {T : Type 0} → (EditFault → ℕ) → Result T CopyInFault → ℕ
-stop_count told result = fault_count (λ fault. told (copy_edit_fault fault)) result
-
 -- P of a region before and after, on an honest device
 abbrev pub OnHonestChange : {F : Type 0} → Range → Pages F → Pages F
     → (List ℕ → List ℕ → Type 0) → Type 0
@@ -60,28 +55,12 @@ pub record HasWrittenIn {F T E : Type 0} (region : Range) (n : ℕ)
   pub written : OnHonestChange region old new (λ x y. OnOk result (y ≡ done x))
   pub left : OnHonestChange region old new Left
 
--- A copy of a source into a region. `copied` and `torn` require an honest device, `copied` also an
--- honest source.
-pub record HasCopied {F S T : Type 0} (facts : S → Device) (region : Range) (at : ℕ)
-    (old new : Pages F) (input input_now : S) (result : Result T CopyInFault) : Type 0 where
-  pub after : HasChanged region ((length (facts input).content + 4095) / 4096)
-      (stop_count by_device result) old new
-  pub source : Reads ((length (facts input).content + 4095) / 4096) (stop_count by_source result)
-      (facts input) (facts input_now)
-  pub copied : OnHonestChange region old new (λ x y.
-      IsTrue (facts input).honest → OnOk result (y ≡ overwritten x at (facts input).content))
-  pub torn : OnHonestChange region old new (SameOutside at (length (facts input).content))
-
 -- between the commits of an edit: an empty entry's header over the group, then arbitrary bytes up
 -- to `to`
 pub record IsEmptied (group : CellRange) (to : ℕ) (x y : List ℕ) : Type 0 where
   pub same_length : length y ≡ length x
   pub same : SameOutside (group.start + header_length) (to - (group.start + header_length))
       (overwritten x group.start (empty_header (group.end - group.start) (group.end == length x))) y
-
--- while an empty entry is written
-abbrev pub IsOldOrEmptied : CellRange → ℕ → List ℕ → List ℕ → Type 0
-IsOldOrEmptied group to x y = (y ≡ x) ⊎ IsEmptied group to x y
 
 -- with offsets, bytes and the same end
 pub record SameCells (x y : List ℕ) : Type 0 where

@@ -13,7 +13,7 @@ use Rattle.cbfs_edit.specs.Additions.{empty_between, made_at}
 use Rattle.cbfs_edit.specs.Removals.{group_of, IsNot, IsGroupOf, removed, removal_in}
 use Rattle.cbfs_edit.specs.Changes.{IsEmptied, SameCells}
 use Rattle.cbfs_edit.specs.Runs.{runs, IsRunOf}
-use Rattle.cbfs_edit.specs.Places.{IsWanted, IsPlaceAmong, first_place}
+use Rattle.cbfs_edit.specs.Places.{HasNoRoom, IsFirstPlace, IsWanted, first_place}
 use Rattle.cbfs_edit.specs.declared.group.CellRange.{CellRange}
 use Rattle.cbfs_edit.specs.declared.place.Wanted.{Wanted}
 use Rattle.cbfs_edit.specs.declared.place.Place.{Place}
@@ -34,8 +34,8 @@ pub record SearchesAreExact (x : List ℕ) : Type 0 where
       → Contains (runs x) run → IsEmptied run run.end x y → SameCells y x
   -- the least allowed place in the first run with an allowed place
   pub places : (wanted : Wanted) (found : Option Place) → IsWanted wanted
-      → IsPlaceAmong wanted (length x) (runs x) found
-      ↔ (found ≡ first_place wanted (length x) (runs x))
+      → MatchOption found (All (HasNoRoom wanted (length x)) (runs x))
+      (IsFirstPlace wanted (length x) (runs x)) ↔ (found ≡ first_place wanted (length x) (runs x))
 
 -- A removal takes the first component with the name, and keeps all others.
 pub record LosesOne (x name : List ℕ) (group : CellRange) : Type 0 where

@@ -3,7 +3,7 @@ use Rattle.std.specs.List.{filter_map, slice_get}
 use Rattle.std.specs.Int.{next_multiple_of}
 use Rattle.std.specs.Prelude.{◌≡◌, ℕ, ◌+◌, ◌-◌, ◌*◌, ◌/◌, ◌%◌, ◌^◌, ◌<◌, ◌≤◌, ⊤, ◌&&◌, ◌==◌, Bool}
 use Rattle.std.specs.Prelude.{false, nat_le, if◌then◌else◌, is_some, List, ◌∷◌, ◌++◌, All, length}
-use Rattle.std.specs.Prelude.{Option, Some, None, MatchOption, Result, Err, ok_or}
+use Rattle.std.specs.Prelude.{Option, Some, None, Result, Err, ok_or}
 use Rattle.flash_format.specs.Components.{components}
 use Rattle.cbfs_walk.specs.Search.{first_named}
 use Rattle.cbfs_edit.specs.Removals.{IsCellRange, space_end, unless_unsound}
@@ -71,9 +71,6 @@ module _ (wanted : Wanted) (size : ℕ) where
     pub allowed : IsAllowed place.run place.content
     pub least : (d : ℕ) → IsAllowed place.run d → place.content ≤ d
     pub header : IsHeaderOf wanted place
-
-  abbrev pub IsPlaceAmong : List CellRange → Option Place → Type 0
-  IsPlaceAmong runs found = MatchOption found (All HasNoRoom runs) (IsFirstPlace runs)
 
 -- ---- as a function
 

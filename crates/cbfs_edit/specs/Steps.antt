@@ -22,17 +22,15 @@ edit_calls size (Add name kind hash spot source) = size / 16 + size / 2048 + 7
 edit_calls size (Remove name) = size / 16 + size / 4096 + 3
 
 module _ {S : Type 0} (facts : S → Device) where
-  -- the effect of an edit, by the reply
+  -- the effect of an edit on a region of an honest device's image, by the reply
   abbrev pub IsReply : Range → Edit S → Reply → List ℕ → List ℕ → Type 0
-  IsReply region (Add name kind hash spot source) (replies.Placed placed) old now =
-      Adds region (new_component name.now kind hash) spot (facts source) (Ok placed) old now
-  IsReply region (Add name kind hash spot source) (replies.Refused fault) old now =
-      Adds region (new_component name.now kind hash) spot (facts source) (Err fault) old now
-  IsReply region (Remove name) (replies.Freed group) old now =
-      Removes region name.now (Ok group) old now
-  IsReply region (Remove name) (replies.Refused fault) old now =
-      Removes region name.now (Err fault) old now
-  IsReply region edit reply old now = ⊥
+  IsReply region (Add name kind hash spot source) (replies.Placed placed) =
+      Adds region (new_component name.now kind hash) spot (facts source) (Ok placed)
+  IsReply region (Add name kind hash spot source) (replies.Refused fault) =
+      Adds region (new_component name.now kind hash) spot (facts source) (Err fault)
+  IsReply region (Remove name) (replies.Freed group) = Removes region name.now (Ok group)
+  IsReply region (Remove name) (replies.Refused fault) = Removes region name.now (Err fault)
+  IsReply region edit reply = λ old now. ⊥
 
   -- An edit keeps its arguments, and an honest source its content. A removal has no source.
   abbrev pub Stays : ℕ → Edit S → Edit S → Type 0

@@ -5,9 +5,9 @@ ghost use Rattle.std.specs.List.{list_any};
 ghost use Rattle.flash_format.specs.Entry.{is_nul};
 ghost use Rattle.flash_format.specs.Made.{hash_len};
 ghost use Rattle.flash_device.specs.Device.{Reads, fault_count};
-ghost use Rattle.flash_device.specs.Pages.{HasChanged, OnHonest, Returns};
-ghost use Rattle.flash_device.specs.Regions.{LiesOn, Reaches};
-ghost use Rattle.cbfs_edit.specs.Changes.{Adds, HasCopied, by_device, by_source};
+ghost use Rattle.flash_device.specs.Pages.{HasChanged, HasCopiedIn, OnHonest, Returns, as_copy};
+ghost use Rattle.flash_device.specs.Regions.{LiesOn};
+ghost use Rattle.cbfs_edit.specs.Changes.{Adds, by_device, by_source};
 ghost use Rattle.cbfs_edit.specs.Additions.{algorithm_of, argument_fault, choice_of, digest_of};
 ghost use Rattle.cbfs_edit.specs.Additions.{is_bad_name, new_component, wanted_for};
 
@@ -15,7 +15,7 @@ use crate::fault::EditFault;
 use crate::hashing::Hashing;
 use crate::insertion::describe;
 use crate::place::{Spot, Wanted, find_place};
-use crate::region_writes::{copy_into, write_empty_entry};
+use crate::region_writes::write_empty_entry;
 use flash_device::{CopyInFault, Flash, Paged, Source, Unwatched};
 use flash_format::{Algorithm, Digest, Meta, meta_len};
 use flash_map::Region;
@@ -66,14 +66,14 @@ pub struct Placed {
 #[tactic(auto, unfolding(cbfs_walk::specs::Hashes::hashed_by))]
 fn copy_content<F: Flash, S: Source>(
     paged: &mut Paged<F>,
-    region: Region,
     at: u64,
     hash: HashChoice,
     source: &mut S,
 ) -> Result<Option<Digest>, CopyInFault>
-    requires { Reaches region (at + length (S.facts source.old).content) paged.old.device }
+    requires { at + length (S.facts source.old).content ≤ length paged.old.device.content }
 
-    ensures after { HasCopied S.facts region at paged.old paged.new source.old source.new result }
+    ensures after { HasCopiedIn at (length (S.facts source.old).content) paged.old.device
+        paged.new.device (S.facts source.old) (S.facts source.new) (as_copy result) }
     ensures digest_len { IfOk result (λ digest.
         (content : List ℕ) → hash_len digest ≡ hash_len (digest_of hash content)) }
 
@@ -83,15 +83,16 @@ fn copy_content<F: Flash, S: Source>(
 {
     match hash.algorithm() {
         None => {
-            copy_into(paged, region, at, source, &mut Unwatched)?;
+            let n = source.len();
+            paged.copy_in_watched(at, n, source, &mut Unwatched)?;
             Ok(None)
         }
         Some(Algorithm::Sha256) => {
-            let digest = copy_hashed::<F, S, Sha256>(paged, region, at, source)?;
+            let digest = copy_hashed::<F, S, Sha256>(paged, at, source)?;
             Ok(Some(Digest::Sha256(digest)))
         }
         Some(Algorithm::Sha512) => {
-            let digest = copy_hashed::<F, S, Sha512>(paged, region, at, source)?;
+            let digest = copy_hashed::<F, S, Sha512>(paged, at, source)?;
             Ok(Some(Digest::Sha512(digest)))
         }
     }
@@ -99,20 +100,21 @@ fn copy_content<F: Flash, S: Source>(
 
 fn copy_hashed<F: Flash, S: Source, H: sha2::Digest>(
     paged: &mut Paged<F>,
-    region: Region,
     at: u64,
     source: &mut S,
 ) -> Result<H::Output, CopyInFault>
-    requires { Reaches region (at + length (S.facts source.old).content) paged.old.device }
+    requires { at + length (S.facts source.old).content ≤ length paged.old.device.content }
 
-    ensures after { HasCopied S.facts region at paged.old paged.new source.old source.new result }
+    ensures after { HasCopiedIn at (length (S.facts source.old).content) paged.old.device
+        paged.new.device (S.facts source.old) (S.facts source.new) (as_copy result) }
 
     // For an honest source.
     ensures digest { IsTrue (S.facts source.old).honest →
         IfOk result (H.digest_of (S.facts source.old).content) }
 {
     let mut hashing = Hashing::<H>::new();
-    copy_into(paged, region, at, source, &mut hashing)?;
+    let n = source.len();
+    paged.copy_in_watched(at, n, source, &mut hashing)?;
     Ok(hashing.finish())
 }
 
@@ -234,7 +236,7 @@ pub fn add<F: Flash, S: Source>(
     let place = find_place(paged, region, name, wanted)?;
     let end = (place.content + wanted.len + 63) / 64 * 64;
     write_empty_entry(paged, region, place.run)?;
-    let digest = copy_content(paged, region, place.content, hash, source)?;
+    let digest = copy_content(paged, region.start() + place.content, hash, source)?;
     let gap = (place.content - place.header - wanted.metadata_len) as u32;
     let meta = meta_of(name, kind, wanted.len as u32, gap, &digest);
     describe(paged, region, place, end, &meta)?;

@@ -2,11 +2,12 @@
 //!
 //! The first commit covers the run with the header of an empty entry, and the last commit shows the
 //! component. Bytes written between the commits are free space.
-ghost use Rattle.std.specs.Prelude.{◌≡◌, ◌⊎◌, ◌-◌, ◌<◌, ◌≤◌, length};
+ghost use Rattle.std.specs.Prelude.{◌≡◌, ◌⊎◌, ◌+◌, ◌-◌, ◌<◌, ◌≤◌, drop, length};
+ghost use Rattle.flash_device.specs.Device.{overwritten};
 ghost use Rattle.flash_format.specs.Made.{metadata_of, described_len};
 ghost use Rattle.cbfs_edit.specs.Changes.{HasWrittenIn, HoldsOn};
-ghost use Rattle.cbfs_edit.specs.Additions.{HasRoom, IsUnfinished, with_bound, with_component};
-ghost use Rattle.cbfs_edit.specs.Additions.{with_metadata, held_back};
+ghost use Rattle.cbfs_edit.specs.Additions.{HasRoom, IsUnfinished, held_back, with_bound};
+ghost use Rattle.cbfs_edit.specs.Additions.{with_component};
 
 use crate::place::Place;
 use crate::region_writes::{commit_in, write_in};
@@ -34,8 +35,8 @@ fn write_metadata<F: Flash>(
 ) -> Result<(), FlashFault>
     requires { HoldsOn (HasRoom place end (length metadata.now)) region paged.old.device }
 
-    ensures { HasWrittenIn region 1 (λ x. with_metadata x place metadata.now)
-        (IsUnfinished place) paged.old paged.new result }
+    ensures { HasWrittenIn region 1 (λ x. overwritten x (place.header + held_back place)
+        (drop (held_back place) metadata.now)) (IsUnfinished place) paged.old paged.new result }
 {
     let skip = held_back(place);
     write_in(paged, region, place.header + skip as u64, &metadata[skip..])

@@ -1,14 +1,13 @@
 //! Writes into a region. A failed write leaves arbitrary bytes in its piece.
-ghost use Rattle.std.specs.Prelude.{◌≡◌, ◌⊎◌, ℕ, List, ◌++◌, ◌+◌, ◌/◌, ◌<◌, ◌≤◌, length, IsTrue};
-ghost use Rattle.std.specs.Prelude.{OnOk, replicate};
+ghost use Rattle.std.specs.Prelude.{◌≡◌, ◌⊎◌, ◌+◌, ◌/◌, ◌≤◌, length, replicate};
 ghost use Rattle.flash_format.specs.Made.{header_length};
 ghost use Rattle.flash_device.specs.Device.{overwritten, SameOutside};
 ghost use Rattle.flash_device.specs.Regions.{Reaches};
-ghost use Rattle.cbfs_edit.specs.Changes.{HasCopied, HasWrittenIn, HoldsOn, IsOldOrEmptied};
+ghost use Rattle.cbfs_edit.specs.Changes.{HasWrittenIn, HoldsOn, IsEmptied};
 ghost use Rattle.cbfs_edit.specs.Removals.{IsCellRange, removed, space_end};
 
 use crate::group::CellRange;
-use flash_device::{CopyInFault, Flash, FlashFault, MemSource, Paged, Source, Unwatched, Watch};
+use flash_device::{Flash, FlashFault, MemSource, Paged, Unwatched};
 use flash_format::{HEADER_LENGTH, empty_header};
 use flash_map::Region;
 
@@ -43,26 +42,6 @@ pub fn fill_in<F: Flash>(
     paged.fill(region.start() + at, n, byte)
 }
 
-/// Copies a whole source to an offset.
-pub fn copy_into<F: Flash, S: Source, W: Watch>(
-    paged: &mut Paged<F>,
-    region: Region,
-    at: u64,
-    source: &mut S,
-    watch: &mut W,
-) -> Result<(), CopyInFault>
-    requires { Reaches region (at + length (S.facts source.old).content) paged.old.device }
-
-    ensures after { HasCopied S.facts region at paged.old paged.new source.old source.new result }
-
-    // For an honest source.
-    ensures shown { IsTrue (S.facts source.old).honest → (seen : List ℕ) → W.saw watch.old seen →
-        OnOk result (W.saw watch.new (seen ++ (S.facts source.old).content)) }
-{
-    let n = source.len();
-    paged.copy_in_watched(region.start() + at, n, source, watch)
-}
-
 /// Writes a few bytes at an offset.
 pub fn write_in<F: Flash>(
     paged: &mut Paged<F>,
@@ -77,7 +56,8 @@ pub fn write_in<F: Flash>(
         (SameOutside at (length bytes.now)) paged.old paged.new result }
 {
     let mut source = MemSource::new(bytes);
-    match copy_into(paged, region, at, &mut source, &mut Unwatched) {
+    let at = region.start() + at;
+    match paged.copy_in_watched(at, bytes.len() as u64, &mut source, &mut Unwatched) {
         Ok(()) => Ok(()),
         Err(_) => Err(FlashFault),
     }
@@ -92,7 +72,8 @@ pub fn write_empty_entry<F: Flash>(
     requires { HoldsOn (IsCellRange group) region paged.old.device }
 
     ensures { HasWrittenIn region (region.size / 4096 + 2) (λ x. removed x group)
-        (IsOldOrEmptied group (space_end region.size group.end)) paged.old paged.new result }
+        (λ x y. (y ≡ x) ⊎ IsEmptied group (space_end region.size group.end) x y)
+        paged.old paged.new result }
 {
     let kept = group.end == region.size();
     let header = empty_header((group.end - group.start) as u32, kept);

@@ -1,9 +1,10 @@
-use Rattle.std.proofs.Common.{inr, refl, Some, ap, ◌∙◌, sym, arith, rules}
+use Rattle.std.proofs.Common.{◌+◌, Ok, inr, refl, Some, ap, ◌∙◌, sym, arith, rules}
 use Rattle.std.proofs.lemmas.Result.{err_from_is_err_and}
 use Rattle.flash_device.specs.Regions.{bytes_in}
 use Rattle.flash_device.proofs.DeviceLemmas.{honest_still}
 use Rattle.cbfs_edit.specs.Additions.{new_component}
 use Rattle.cbfs_edit.specs.declared.place.Wanted.{Wanted}
+use Rattle.cbfs_edit.proofs.Changes.{copy-counts, copy-done, copy-outside, copy-torn}
 use Rattle.cbfs_edit.proofs.Insertions.{hash_short, room-for}
 use Rattle.cbfs_edit.proofs.AdditionLemmas.{own-is, no_fault, digest-sized, searched, addition_refused, empty_left, copied_left, shown_left, shown_done}
 use Rattle.cbfs_edit.proofs.addition.add.Goals as goal
@@ -46,7 +47,11 @@ copy_content-requires g c =
 
 pub returns-in_err-digest-clause-after : goal.returns-in_err-digest-clause-after
 returns-in_err-digest-clause-after g c =
-    let len = ap (λ (w : Wanted). w.len) (c.wanted_of-wanted.ensures c.args.kind (g.S.Source.facts c.args.source.now).content c.len.ensures.length) in
+    let source = g.S.Source.facts c.args.source.now in
+    let is = c.wanted_of-wanted.ensures c.args.kind source.content c.len.ensures.length in
+    let len = ap (λ (w : Wanted). w.len) is in
+    let outside = copy-outside c.args.region c.in_ok-place.place.content _ c.write_empty_entry.new.paged.device c.copy_content.new.paged.device source _ (ap (λ n. n + c.in_ok-place.place.content) c.start.ensures) (omega (arith, c.in_ok-place.ensures.found.inside, c.in_ok-place.ensures.found.run.inside, ap (λ (w : Wanted). w.len) is)) _ c.copy_content.ensures.after in
+    let counts = copy-counts c.in_err-digest.field-0.0 in
     search rules
 
 pub returns-in_err-digest-clause-effect : goal.returns-in_err-digest-clause-effect
@@ -59,7 +64,7 @@ returns-in_err-digest-clause-effect g c honest =
     let first = honest_still c.find_place.ensures.after.device.calls.same_honesty honest in
     let second = honest_still c.write_empty_entry.ensures.after.calls.same_honesty first in
     let told = err_from_is_err_and c.from_residual-in_err-digest.result c.from_residual-in_err-digest.ensures.1 in
-    rw (told.1, told.2) (copied_left c.args.region c.args.paged.now.device make c.args.spot source _ c.in_ok-place.place c.requires is c.ranges.kind.fits (omega (arith, c.len.ensures)) (digest-sized c.args.hash source.content) found _ _ (c.find_place.ensures.after.device.unchanged honest) c.write_empty_entry.ensures.after.calls.same_length _ c.copy_content.ensures.after.after.calls.same_length (c.in_ok-write_empty_entry.ensures.written first) (c.copy_content.ensures.after.torn second) c.in_err-digest.field-0.0)
+    rw (told.1, told.2) (copied_left c.args.region c.args.paged.now.device make c.args.spot source _ c.in_ok-place.place c.requires is c.ranges.kind.fits (omega (arith, c.len.ensures)) (digest-sized c.args.hash source.content) found _ _ (c.find_place.ensures.after.device.unchanged honest) c.write_empty_entry.ensures.after.calls.same_length _ c.copy_content.ensures.after.calls.same_length (c.in_ok-write_empty_entry.ensures.written first) (copy-torn c.args.region c.in_ok-place.place.content _ _ _ source _ (ap (λ n. n + c.in_ok-place.place.content) c.start.ensures) (omega (arith, c.in_ok-place.ensures.found.inside, c.in_ok-place.ensures.found.run.inside, ap (λ (w : Wanted). w.len) is)) _ c.copy_content.ensures.after second) c.in_err-digest.field-0.0)
 
 pub describe-requires-clause-room : goal.describe-requires-clause-room
 describe-requires-clause-room g c =
@@ -70,7 +75,10 @@ describe-requires-clause-room g c =
 
 pub returns-in_err-describe-clause-after : goal.returns-in_err-describe-clause-after
 returns-in_err-describe-clause-after g c =
-    let len = ap (λ (w : Wanted). w.len) (c.wanted_of-wanted.ensures c.args.kind (g.S.Source.facts c.args.source.now).content c.len.ensures.length) in
+    let source = g.S.Source.facts c.args.source.now in
+    let is = c.wanted_of-wanted.ensures c.args.kind source.content c.len.ensures.length in
+    let len = ap (λ (w : Wanted). w.len) is in
+    let outside = copy-outside c.args.region c.in_ok-place.place.content _ c.write_empty_entry.new.paged.device c.copy_content.new.paged.device source _ (ap (λ n. n + c.in_ok-place.place.content) c.start.ensures) (omega (arith, c.in_ok-place.ensures.found.inside, c.in_ok-place.ensures.found.run.inside, ap (λ (w : Wanted). w.len) is)) _ c.copy_content.ensures.after in
     search rules
 
 pub returns-in_err-describe-clause-effect : goal.returns-in_err-describe-clause-effect
@@ -82,15 +90,18 @@ returns-in_err-describe-clause-effect g c honest =
     let found = searched (bytes_in c.args.region c.args.paged.now.device.content) (make source.content) c.args.spot _ own is _ (c.in_ok-place.ensures.answer honest) in
     let first = honest_still c.find_place.ensures.after.device.calls.same_honesty honest in
     let second = honest_still c.write_empty_entry.ensures.after.calls.same_honesty first in
-    let third = honest_still c.copy_content.ensures.after.after.calls.same_honesty second in
+    let third = honest_still c.copy_content.ensures.after.calls.same_honesty second in
     let m = c.meta_of-meta in
     let told = err_from_is_err_and c.from_residual-in_err-describe.result c.from_residual-in_err-describe.ensures.1 in
-    rw (told.1, told.2) (shown_left c.args.region c.args.paged.now.device make c.args.spot source _ c.in_ok-place.place c.requires is c.ranges.kind.fits (omega (arith, c.len.ensures)) (digest-sized c.args.hash source.content) found _ _ (c.find_place.ensures.after.device.unchanged honest) c.write_empty_entry.ensures.after.calls.same_length _ c.copy_content.ensures.after.after.calls.same_length (c.in_ok-write_empty_entry.ensures.written first) (c.copy_content.ensures.after.torn second) m.result c.in_ok-digest.digest _ m.ensures.name m.ensures.kind m.ensures.digest m.ensures.gap m.ensures.len
-    (c.in_ok-digest.ensures.digest_len source.content) c.describe.ensures.metadata c.describe.ensures.after.after.calls.same_length c.in_ok-digest.ensures.digest (c.in_ok-digest.ensures.after.copied second) (c.describe.ensures.after.left third))
+    rw (told.1, told.2) (shown_left c.args.region c.args.paged.now.device make c.args.spot source _ c.in_ok-place.place c.requires is c.ranges.kind.fits (omega (arith, c.len.ensures)) (digest-sized c.args.hash source.content) found _ _ (c.find_place.ensures.after.device.unchanged honest) c.write_empty_entry.ensures.after.calls.same_length _ c.copy_content.ensures.after.calls.same_length (c.in_ok-write_empty_entry.ensures.written first) (copy-torn c.args.region c.in_ok-place.place.content _ _ _ source _ (ap (λ n. n + c.in_ok-place.place.content) c.start.ensures) (omega (arith, c.in_ok-place.ensures.found.inside, c.in_ok-place.ensures.found.run.inside, ap (λ (w : Wanted). w.len) is)) _ c.copy_content.ensures.after second) m.result c.in_ok-digest.digest _ m.ensures.name m.ensures.kind m.ensures.digest m.ensures.gap m.ensures.len
+    (c.in_ok-digest.ensures.digest_len source.content) c.describe.ensures.metadata c.describe.ensures.after.after.calls.same_length c.in_ok-digest.ensures.digest (copy-done c.args.region c.in_ok-place.place.content _ _ _ source _ (ap (λ n. n + c.in_ok-place.place.content) c.start.ensures) (omega (arith, c.in_ok-place.ensures.found.inside, c.in_ok-place.ensures.found.run.inside, ap (λ (w : Wanted). w.len) is)) (Ok c.in_ok-digest.digest) c.in_ok-digest.ensures.after (omega (arith, c.requires.inside, c.write_empty_entry.ensures.after.calls.same_length, c.find_place.ensures.after.device.calls.same_length)) second) (c.describe.ensures.after.left third))
 
 pub returns-clause-after : goal.returns-clause-after
 returns-clause-after g c =
-    let len = ap (λ (w : Wanted). w.len) (c.wanted_of-wanted.ensures c.args.kind (g.S.Source.facts c.args.source.now).content c.len.ensures.length) in
+    let source = g.S.Source.facts c.args.source.now in
+    let is = c.wanted_of-wanted.ensures c.args.kind source.content c.len.ensures.length in
+    let len = ap (λ (w : Wanted). w.len) is in
+    let outside = copy-outside c.args.region c.in_ok-place.place.content _ c.write_empty_entry.new.paged.device c.copy_content.new.paged.device source _ (ap (λ n. n + c.in_ok-place.place.content) c.start.ensures) (omega (arith, c.in_ok-place.ensures.found.inside, c.in_ok-place.ensures.found.run.inside, ap (λ (w : Wanted). w.len) is)) _ c.copy_content.ensures.after in
     search rules
 
 pub returns-clause-effect : goal.returns-clause-effect
@@ -102,7 +113,7 @@ returns-clause-effect g c honest =
     let found = searched (bytes_in c.args.region c.args.paged.now.device.content) (make source.content) c.args.spot _ own is _ (c.in_ok-place.ensures.answer honest) in
     let first = honest_still c.find_place.ensures.after.device.calls.same_honesty honest in
     let second = honest_still c.write_empty_entry.ensures.after.calls.same_honesty first in
-    let third = honest_still c.copy_content.ensures.after.after.calls.same_honesty second in
+    let third = honest_still c.copy_content.ensures.after.calls.same_honesty second in
     let m = c.meta_of-meta in
-    shown_done c.args.region c.args.paged.now.device make c.args.spot source _ c.in_ok-place.place c.requires is c.ranges.kind.fits (omega (arith, c.len.ensures)) (digest-sized c.args.hash source.content) found _ _ (c.find_place.ensures.after.device.unchanged honest) c.write_empty_entry.ensures.after.calls.same_length _ c.copy_content.ensures.after.after.calls.same_length (c.in_ok-write_empty_entry.ensures.written first) (c.copy_content.ensures.after.torn second) m.result c.in_ok-digest.digest _ m.ensures.name m.ensures.kind m.ensures.digest m.ensures.gap m.ensures.len
-    (c.in_ok-digest.ensures.digest_len source.content) c.describe.ensures.metadata c.describe.ensures.after.after.calls.same_length c.in_ok-digest.ensures.digest (c.in_ok-digest.ensures.after.copied second) ((returns-clause-after g c).outside honest) (c.in_ok-describe.ensures.after.written third)
+    shown_done c.args.region c.args.paged.now.device make c.args.spot source _ c.in_ok-place.place c.requires is c.ranges.kind.fits (omega (arith, c.len.ensures)) (digest-sized c.args.hash source.content) found _ _ (c.find_place.ensures.after.device.unchanged honest) c.write_empty_entry.ensures.after.calls.same_length _ c.copy_content.ensures.after.calls.same_length (c.in_ok-write_empty_entry.ensures.written first) (copy-torn c.args.region c.in_ok-place.place.content _ _ _ source _ (ap (λ n. n + c.in_ok-place.place.content) c.start.ensures) (omega (arith, c.in_ok-place.ensures.found.inside, c.in_ok-place.ensures.found.run.inside, ap (λ (w : Wanted). w.len) is)) _ c.copy_content.ensures.after second) m.result c.in_ok-digest.digest _ m.ensures.name m.ensures.kind m.ensures.digest m.ensures.gap m.ensures.len
+    (c.in_ok-digest.ensures.digest_len source.content) c.describe.ensures.metadata c.describe.ensures.after.after.calls.same_length c.in_ok-digest.ensures.digest (copy-done c.args.region c.in_ok-place.place.content _ _ _ source _ (ap (λ n. n + c.in_ok-place.place.content) c.start.ensures) (omega (arith, c.in_ok-place.ensures.found.inside, c.in_ok-place.ensures.found.run.inside, ap (λ (w : Wanted). w.len) is)) (Ok c.in_ok-digest.digest) c.in_ok-digest.ensures.after (omega (arith, c.requires.inside, c.write_empty_entry.ensures.after.calls.same_length, c.find_place.ensures.after.device.calls.same_length)) second) ((returns-clause-after g c).outside honest) (c.in_ok-describe.ensures.after.written third)
