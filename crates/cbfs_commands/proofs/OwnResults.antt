@@ -47,7 +47,7 @@ abbrev Blameless : {T E : Type 0} → (E → Refusal) → Result T E → Type 0
 Blameless tell (Ok value) = ⊤
 Blameless tell (Err fault) = BlamesNone (tell fault)
 
-no_fault : {T : Type 0} (answer : Result T Refusal) → Blameless itself answer → ¬ IsFault answer
+pub no_fault : {T : Type 0} (answer : Result T Refusal) → Blameless itself answer → ¬ IsFault answer
 no_fault {T} answer own (inl blamed) = subst (λ (a : Result T Refusal). Blameless itself a) blamed own
 no_fault {T} answer own (inr (inl blamed)) = subst (λ (a : Result T Refusal). Blameless itself a) blamed own
 no_fault {T} answer own (inr (inr blamed)) = subst (λ (a : Result T Refusal). Blameless itself a) blamed own
@@ -142,11 +142,6 @@ by_region image name tell each = printout-blameless store_refusal _ _ (region_of
 edited : (image name source : List ℕ) (make : Range → List ℕ → List ℕ → Result (List ℕ) Refusal) → ((region : Range) (x : List ℕ) → Blameless itself (make region x source)) → Blameless itself ((edits name false make StopsIn).outcome image source).printout.answer
 edited image name source make each = grind (arith, common_steps, next-blameless, region_of-blameless)
 
-own_answer : (r : Request) (image source : List ℕ) → Blameless itself ((effect r).outcome image source).printout.answer
+pub own_answer : (r : Request) (image source : List ℕ) → Blameless itself ((effect r).outcome image source).printout.answer
 unfolding print_region layout
 own_answer r image source = grind (arith, common_steps, addition_in-blameless, by_region, component_in-blameless, edited, found-blameless, next-blameless, plan_for-blameless, printout-blameless, removal_in-blameless, told_found-blameless, unless-misshapen, when)
-
--- ---- the law
-
-pub outcome-blameless : (r : Request) (image source : List ℕ) → ¬ IsFault ((effect r).outcome image source).printout.answer
-outcome-blameless r image source = no_fault ((effect r).outcome image source).printout.answer (own_answer r image source)

@@ -19,7 +19,7 @@ use Rattle.cbfs_edit.specs.Removals.{removal_in}
 use Rattle.cbfs_commands.specs.declared.refusal.Refusal.{Refusal}
 use Rattle.cbfs_commands.specs.declared.refusal.Refusal.TheVariants as refusals
 use Rattle.cbfs_commands.specs.Effects.{add, changes, effect, on_region, remove}
-use Rattle.cbfs_commands.specs.Outcomes.{AddStopsIn, Outcome}
+use Rattle.cbfs_commands.specs.Outcomes.{Outcome}
 use Rattle.cbfs_commands.specs.Refusals.{IsFault, edit_refusal, fault_or, store_refusal}
 use Rattle.cbfs_commands.specs.Printouts.{CommandResult}
 
@@ -37,7 +37,7 @@ module _ (image between now source name : List ℕ) (region : Range) (fault : Ed
 
   pub addition_refused : (component : List ℕ) (kind : ℕ) (hash : HashChoice) (spot : Spot) → let new = new_component component kind hash source in let x = bytes_in region between in let r : Result Placed EditFault = Err fault in
       (IsErrOf r edit.Device ⊎ (IsErrOf r edit.Source ⊎ (r ≡ placed_of (addition_in x new spot)))) → (IsErrOf r edit.Device → AddLeavesWhole x new spot (bytes_in region now)) → (IsErrOf r edit.Source → AddLeavesBefore x new spot (bytes_in region now))
-      → LeavesOr now answer ((effect (on_region name (add component kind hash spot))).outcome image source) × ((found : Range) → region_of image name ≡ Ok found → AddStopsIn found image new spot answer now)
+      → LeavesOr now answer ((effect (on_region name (add component kind hash spot))).outcome image source) × ((found : Range) → region_of image name ≡ Ok found → (IsErrOf answer refusals.Device → AddLeavesWhole (bytes_in found image) new spot (bytes_in found now)) × (IsErrOf answer refusals.Source → AddLeavesBefore (bytes_in found image) new spot (bytes_in found now)))
   addition_refused component kind hash spot is whole before = grind (arith, common_steps)
 
   pub removal_refused : (component : List ℕ) → let x = bytes_in region between in let r : Result CellRange EditFault = Err fault in (IsErrOf r edit.Device ⊎ (r ≡ removal_in x component)) → (IsErrOf r edit.Device → LeavesWhole x component (bytes_in region now))
