@@ -28,7 +28,7 @@ use Rattle.cbfs_commands.specs.declared.refusal.Refusal.TheVariants as refusals
 use Rattle.cbfs_commands.specs.Creations.{head_for, map_place, plan_for, plan_of, region_place, region_places}
 use Rattle.cbfs_commands.specs.Effects.{effect, edits, Request}
 use Rattle.cbfs_commands.specs.Rows.{layout}
-use Rattle.cbfs_commands.specs.Outcomes.{StopsIn, print_region, printed_component, printed_in}
+use Rattle.cbfs_commands.specs.Outcomes.{print_region, printed_component, printed_in}
 use Rattle.cbfs_commands.specs.Refusals.{IsFault, edit_refusal, fault_or, store_refusal, walk_refusal}
 use Rattle.cbfs_commands.specs.Printouts.{Printout, refuses}
 
@@ -139,7 +139,7 @@ told_found-blameless c = grind (arith, common_steps)
 by_region : (image name : List ℕ) (tell : List ℕ → Printout) → ((x : List ℕ) → Blameless itself (tell x).answer) → Blameless itself (printed_in image name tell).answer
 by_region image name tell each = printout-blameless store_refusal _ _ (region_of-blameless image name) (λ region. each (bytes_in region image))
 
-edited : (image name source : List ℕ) (make : Range → List ℕ → List ℕ → Result (List ℕ) Refusal) → ((region : Range) (x : List ℕ) → Blameless itself (make region x source)) → Blameless itself ((edits name false make StopsIn).outcome image source).printout.answer
+edited : (image name source : List ℕ) (make : Range → List ℕ → List ℕ → Result (List ℕ) Refusal) → ((region : Range) (x : List ℕ) → Blameless itself (make region x source)) → Blameless itself ((edits name false make (λ _ _ _ _ _. ⊤)).outcome image source).printout.answer
 edited image name source make each = grind (arith, common_steps, next-blameless, region_of-blameless)
 
 pub own_answer : (r : Request) (image source : List ℕ) → Blameless itself ((effect r).outcome image source).printout.answer

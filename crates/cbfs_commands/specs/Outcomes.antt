@@ -46,13 +46,3 @@ printed_component c =
 abbrev pub extract_region : List ℕ → List ℕ → Printout
 extract_region x name = fault_or (λ fault. refuses (walk_refusal fault)) (component_in x name)
     (λ found. option_map_or printed_component found (refuses refusals.NotFound))
-
--- ---- the effect of a call
-
--- A region after an interrupted write: a prefix of the source, after a device fault an arbitrary
--- piece, then the old bytes. A source of another size changes nothing.
-pub record StopsIn (region : Range) (image source : List ℕ) (answer : CommandResult)
-    (now : List ℕ) : Type 0 where
-  pub of_other_size : length source ≢ region.size → now ≡ image
-  pub by_source : answer ≡ Err refusals.Source → FirstWritten region.start source image now
-  pub by_device : answer ≡ Err refusals.Device → PartWritten region.start source image now
