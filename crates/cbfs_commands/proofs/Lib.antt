@@ -13,4 +13,3 @@ mod PrintedRows
 mod RefusedEdits
 mod RegionOutcomes
 mod RegionPlaces
-mod WriteLaws

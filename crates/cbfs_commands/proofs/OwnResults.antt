@@ -28,7 +28,7 @@ use Rattle.cbfs_commands.specs.declared.refusal.Refusal.TheVariants as refusals
 use Rattle.cbfs_commands.specs.Creations.{head_for, map_place, plan_for, plan_of, region_place, region_places}
 use Rattle.cbfs_commands.specs.Effects.{effect, edits, Request}
 use Rattle.cbfs_commands.specs.Rows.{layout}
-use Rattle.cbfs_commands.specs.Outcomes.{StopsIn, print_region, printed_component, printed_in}
+use Rattle.cbfs_commands.specs.Outcomes.{print_region, printed_component, printed_in}
 use Rattle.cbfs_commands.specs.Refusals.{IsFault, edit_refusal, fault_or, store_refusal, walk_refusal}
 use Rattle.cbfs_commands.specs.Printouts.{Printout, refuses}
 
@@ -47,7 +47,7 @@ abbrev Blameless : {T E : Type 0} → (E → Refusal) → Result T E → Type 0
 Blameless tell (Ok value) = ⊤
 Blameless tell (Err fault) = BlamesNone (tell fault)
 
-no_fault : {T : Type 0} (answer : Result T Refusal) → Blameless itself answer → ¬ IsFault answer
+pub no_fault : {T : Type 0} (answer : Result T Refusal) → Blameless itself answer → ¬ IsFault answer
 no_fault {T} answer own (inl blamed) = subst (λ (a : Result T Refusal). Blameless itself a) blamed own
 no_fault {T} answer own (inr (inl blamed)) = subst (λ (a : Result T Refusal). Blameless itself a) blamed own
 no_fault {T} answer own (inr (inr blamed)) = subst (λ (a : Result T Refusal). Blameless itself a) blamed own
@@ -139,14 +139,9 @@ told_found-blameless c = grind (arith, common_steps)
 by_region : (image name : List ℕ) (tell : List ℕ → Printout) → ((x : List ℕ) → Blameless itself (tell x).answer) → Blameless itself (printed_in image name tell).answer
 by_region image name tell each = printout-blameless store_refusal _ _ (region_of-blameless image name) (λ region. each (bytes_in region image))
 
-edited : (image name source : List ℕ) (make : Range → List ℕ → List ℕ → Result (List ℕ) Refusal) → ((region : Range) (x : List ℕ) → Blameless itself (make region x source)) → Blameless itself ((edits name false make StopsIn).outcome image source).printout.answer
+edited : (image name source : List ℕ) (make : Range → List ℕ → List ℕ → Result (List ℕ) Refusal) → ((region : Range) (x : List ℕ) → Blameless itself (make region x source)) → Blameless itself ((edits name false make (λ _ _ _ _ _. ⊤)).outcome image source).printout.answer
 edited image name source make each = grind (arith, common_steps, next-blameless, region_of-blameless)
 
-own_answer : (r : Request) (image source : List ℕ) → Blameless itself ((effect r).outcome image source).printout.answer
+pub own_answer : (r : Request) (image source : List ℕ) → Blameless itself ((effect r).outcome image source).printout.answer
 unfolding print_region layout
 own_answer r image source = grind (arith, common_steps, addition_in-blameless, by_region, component_in-blameless, edited, found-blameless, next-blameless, plan_for-blameless, printout-blameless, removal_in-blameless, told_found-blameless, unless-misshapen, when)
-
--- ---- the law
-
-pub outcome-blameless : (r : Request) (image source : List ℕ) → ¬ IsFault ((effect r).outcome image source).printout.answer
-outcome-blameless r image source = no_fault ((effect r).outcome image source).printout.answer (own_answer r image source)

@@ -21,7 +21,7 @@ use Rattle.cbfs_commands.specs.declared.refusal.Refusal.{Refusal}
 use Rattle.cbfs_commands.specs.declared.refusal.Refusal.TheVariants as refusals
 use Rattle.cbfs_commands.specs.Outcomes.{print_cut, print_region}
 use Rattle.cbfs_commands.specs.Refusals.{by_device, walk_refusal}
-use Rattle.cbfs_commands.specs.Rows.{details_reads, rows_from, shown_cell}
+use Rattle.cbfs_commands.specs.Rows.{rows_from, shown_cell}
 use Rattle.cbfs_commands.specs.Printouts.{CommandResult, HasOutput, Printout, cell_bytes, shows, refuses}
 use Rattle.cbfs_commands.proofs.OutputParts.{ToldSoFar, so_far-ends, so_far-more, text_then, printout-after, printout-none, printout-refusal, printout-stopped}
 use Rattle.flash_device.proofs.DeviceLemmas.{length-bytes_in}
@@ -54,7 +54,7 @@ region_reads verbose n = if verbose then n / 4 else n / 16
 
 -- up to a cell's end
 reads_with : (verbose : Bool) (at span end : ℕ) → at % 64 ≡ 0 → span % 64 ≡ 0 → 64 ≤ span → at + span ≤ end
-    → region_reads verbose at + (1 + span / 3840 + (2 + span / 3840 + (if verbose then details_reads span else 0))) ≤ region_reads verbose end
+    → region_reads verbose at + (1 + span / 3840 + (2 + span / 3840 + (if verbose then 1 + span / 8 + span / 3840 else 0))) ≤ region_reads verbose end
 reads_with verbose at span end a s some inside = grind (arith, common_steps)
 
 -- after the last cell
@@ -105,7 +105,7 @@ module _ {F W : Type 0} {sink : SinkOf W} {verbose : Bool} {r : Range} {old now 
 
   module _ (c : Cell) (is : a ≡ Ok (steps.Cell c)) (cell : GivesCell w.region.size w.at a) where
     abbrev few : ℕ
-    few = 2 + c.span / 3840 + (if verbose then details_reads c.span else 0)
+    few = 2 + c.span / 3840 + (if verbose then 1 + c.span / 8 + c.span / 3840 else 0)
 
     abbrev Shown : ℕ → Pages F → Pages F → W → CommandResult → Type 0
     Shown n from new out result = HasOutput sink n from new after out result (λ image. shows (shown_cell verbose c.at (cell_bytes r c image)))

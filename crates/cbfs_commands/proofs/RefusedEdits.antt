@@ -13,11 +13,11 @@ use Rattle.cbfs_edit.specs.declared.fault.EditFault.{EditFault}
 use Rattle.cbfs_edit.specs.declared.fault.EditFault.TheVariants as edit
 use Rattle.cbfs_edit.specs.declared.place.Spot.{Spot}
 use Rattle.cbfs_edit.specs.Additions.{new_component}
-use Rattle.cbfs_edit.specs.Changes.{Adds, LeavesWhole, Removes, by_fault}
+use Rattle.cbfs_edit.specs.Changes.{Adds, AddLeavesBefore, AddLeavesWhole, LeavesWhole, Removes, by_fault}
 use Rattle.cbfs_commands.specs.declared.refusal.Refusal.{Refusal}
 use Rattle.cbfs_commands.specs.declared.refusal.Refusal.TheVariants as refusals
 use Rattle.cbfs_commands.specs.Effects.{add, changes, effect, on_region, remove}
-use Rattle.cbfs_commands.specs.Outcomes.{AddStopsIn, Outcome}
+use Rattle.cbfs_commands.specs.Outcomes.{Outcome}
 use Rattle.cbfs_commands.specs.Refusals.{IsFault, edit_refusal, fault_or, store_refusal}
 use Rattle.cbfs_commands.specs.Printouts.{CommandResult}
 
@@ -35,7 +35,8 @@ refused_by _ o = inr (inr (λ is. cc, λ is. cc, o))
 module _ (image between now name : List ℕ) (source : Device) (region : Range) (fault : EditFault) (answer : CommandResult) (sought : (let r : Result Range StoreFault = Ok region in IsErrOf r store.Device ⊎ (r ≡ region_of image name))) (unread : between ≡ image) (printout : IsErrAnd answer (λ refusal. refusal ≡ edit_refusal fault)) where
   pub addition_refused : (component : List ℕ) (kind : ℕ) (hash : HashChoice) (spot : Spot) → IsTrue source.honest → Adds region (new_component component kind hash) spot source (Err fault) between now
       → LeavesOr now answer ((effect (on_region name (add component kind hash spot))).outcome image source.content)
-      × ((found : Range) → region_of image name ≡ Ok found → AddStopsIn found image (new_component component kind hash source.content) spot answer now)
+      × ((found : Range) → region_of image name ≡ Ok found → (IsErrOf answer refusals.Device → AddLeavesWhole (bytes_in found image) (new_component component kind hash source.content) spot (bytes_in found now))
+      × (IsErrOf answer refusals.Source → AddLeavesBefore (bytes_in found image) (new_component component kind hash source.content) spot (bytes_in found now)))
   addition_refused component kind hash spot honest adds =
       let by = refused_by fault adds in grind (arith, common_steps)
 

@@ -1,6 +1,7 @@
 -- The outcome of a command on a region depends only on the region's bytes.
 use Rattle.std.proofs.Common.{arith}
 use Rattle.std.proofs.lemmas.Grind.{common_steps}
+use Rattle.std.specs.Prelude.{⊤}
 use Rattle.std.proofs.Common.{◌≡◌, ℕ, false, List, Result, Ok, Err, refl}
 use Rattle.flash_device.specs.Device.{overwritten}
 use Rattle.flash_device.specs.Regions.{Range, bytes_in}
@@ -8,17 +9,16 @@ use Rattle.flash_map.specs.Regions.{region_of}
 use Rattle.cbfs_commands.specs.declared.refusal.Refusal.{Refusal}
 use Rattle.cbfs_commands.specs.Effects.{changes, effect, edits, Task, on_region}
 use Rattle.cbfs_commands.specs.Refusals.{fault_or}
-use Rattle.cbfs_commands.specs.Outcomes.{Outcome, StopsIn}
-use Rattle.cbfs_commands.specs.Laws.{OutcomesAreOfTheRegion}
+use Rattle.cbfs_commands.specs.Outcomes.{Outcome}
 use Rattle.cbfs_commands.proofs.RegionPlaces.{alike_over, region_lies}
 
 -- two images with equal bytes in a region
 module _ (name : List ℕ) (region : Range) (image other : List ℕ) (here : region_of image name ≡ Ok region) (there : region_of other name ≡ Ok region) (same : bytes_in region other ≡ bytes_in region image) where
   -- equal outputs, and equal bytes of the region
-  abbrev Alike : Outcome → Outcome → Type 0
+  abbrev pub Alike : Outcome → Outcome → Type 0
   Alike a b = (b.printout ≡ a.printout) × (bytes_in region b.image ≡ bytes_in region a.image)
 
-  made : (source : List ℕ) (make : Range → List ℕ → List ℕ → Result (List ℕ) Refusal) → let d = edits name false make StopsIn in Alike (d.outcome image source) (d.outcome other source)
+  made : (source : List ℕ) (make : Range → List ℕ → List ℕ → Result (List ℕ) Refusal) → let d = edits name false make (λ _ _ _ _ _. ⊤) in Alike (d.outcome image source) (d.outcome other source)
   made source make = rw (here, there, same) (go (make region (bytes_in region image) source))
     where
       over : List ℕ → Result (List ℕ) Refusal → Outcome
@@ -28,8 +28,5 @@ module _ (name : List ℕ) (region : Range) (image other : List ℕ) (here : reg
       go (Err refusal) = (refl, same)
       go (Ok bytes) = (refl, alike_over region image other bytes (region_lies image name region here) (region_lies other name region there) same)
 
-  each : (task : Task) (source : List ℕ) → let d = effect (on_region name task) in Alike (d.outcome image source) (d.outcome other source)
+  pub each : (task : Task) (source : List ℕ) → let d = effect (on_region name task) in Alike (d.outcome image source) (d.outcome other source)
   each task source = grind (arith, common_steps, made)
-
-pub outcomes_of_region : OutcomesAreOfTheRegion
-outcomes_of_region name task region image other source here there same = each name region image other here there same task source

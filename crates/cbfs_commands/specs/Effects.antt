@@ -1,28 +1,30 @@
 -- The meaning of commands: outcome, allowed changes, used devices, and effect of an interruption.
-use Rattle.std.specs.Prelude.{ℕ, Bool, List, map, ◌≡◌, ◌+◌, ◌/◌, ◌<◌, ◌⊎◌, true, false, [], length}
+use Rattle.std.specs.Prelude.{ℕ, Bool, List, map, ◌≡◌, ◌≢◌, ◌+◌, ◌/◌, ◌<◌, ◌⊎◌, true, false, [], length}
 use Rattle.std.specs.Prelude.{Option, Some, None, MatchOption, Result, Ok, Err}
 use Rattle.std.specs.Prelude.{IsErrOf, IsTrue, ◌==◌, if◌then◌else◌}
 use Rattle.cbfs_edit.specs.declared.addition.HashChoice.{HashChoice}
 use Rattle.cbfs_edit.specs.declared.place.Spot.{Spot}
 use Rattle.cbfs_commands.specs.declared.command.Command.{Command}
-use Rattle.cbfs_commands.specs.declared.command.Command.TheVariants as commands
+use Rattle.cbfs_commands.specs.declared.command.Command.TheVariants.{Print, Layout, Extract, Add}
+use Rattle.cbfs_commands.specs.declared.command.Command.TheVariants.{Create, Read, Remove, Write}
 use Rattle.std.specs.Result.{ForOk, result_map_both, result_ok, result_unwrap_or}
 use Rattle.flash_format.specs.Flashmap.{area_len}
-use Rattle.flash_device.specs.Device.{SameOutside, overwritten, Device, Calls, call_limit}
+use Rattle.flash_device.specs.Device.{FirstWritten, PartWritten, SameOutside, overwritten}
+use Rattle.flash_device.specs.Device.{Device, Calls, call_limit}
 use Rattle.flash_device.specs.Device.{fault_count}
-use Rattle.flash_device.specs.Pages.{Pages, OnHonest}
+use Rattle.flash_device.specs.Pages.{OnHonest}
 use Rattle.flash_device.specs.Regions.{Range, bytes_in}
 use Rattle.flash_map.specs.Regions.{region_of}
 use Rattle.cbfs_edit.specs.Additions.{added, addition_in, new_component}
 use Rattle.cbfs_edit.specs.Removals.{removal_in, removed}
-use Rattle.cbfs_edit.specs.Changes.{LeavesWhole}
+use Rattle.cbfs_edit.specs.Changes.{AddLeavesBefore, AddLeavesWhole, LeavesWhole}
 use Rattle.cbfs_commands.specs.declared.refusal.Refusal.{Refusal}
 use Rattle.cbfs_commands.specs.declared.refusal.Refusal.TheVariants as refusals
 use Rattle.cbfs_commands.specs.Creations.{created_image, plan_for}
 use Rattle.cbfs_commands.specs.Rows as rows
 use Rattle.cbfs_commands.specs.Refusals.{IsFault, by_device, by_source, edit_refusal}
 use Rattle.cbfs_commands.specs.Refusals.{fault_or, store_refusal}
-use Rattle.cbfs_commands.specs.Outcomes.{Outcome, StopsIn, AddStopsIn, print_region}
+use Rattle.cbfs_commands.specs.Outcomes.{Outcome, print_region}
 use Rattle.cbfs_commands.specs.Outcomes.{extract_region, printed_in}
 use Rattle.cbfs_commands.specs.Printouts.{CommandResult, Printout, shows}
 
@@ -42,15 +44,14 @@ pub data Request : Type 0 where
   create : List (List ℕ) → Request
 
 abbrev pub request_of : Command → Request
-request_of (commands.Print region verbose) = on_region region.now (print verbose)
-request_of commands.Layout = layout
-request_of (commands.Extract region name) = on_region region.now (extract name.now)
-request_of (commands.Add region name kind hash spot) =
-    on_region region.now (add name.now kind hash spot)
-request_of (commands.Remove region name) = on_region region.now (remove name.now)
-request_of (commands.Read region) = on_region region.now read
-request_of (commands.Write region) = on_region region.now write
-request_of (commands.Create regions) = create (map (λ name. name.now) regions.items)
+request_of (Print region verbose) = on_region region.now (print verbose)
+request_of Layout = layout
+request_of (Extract region name) = on_region region.now (extract name.now)
+request_of (Add region name kind hash spot) = on_region region.now (add name.now kind hash spot)
+request_of (Remove region name) = on_region region.now (remove name.now)
+request_of (Read region) = on_region region.now read
+request_of (Write region) = on_region region.now write
+request_of (Create regions) = create (map (λ name. name.now) regions.items)
 
 -- The effect of a command: its outcome by image and source, the region with allowed changes, the
 -- maximum number of source calls (0 if it reads no source), whether it writes output, and the
@@ -74,10 +75,9 @@ reports tell = record {
 
 -- the new image, or an error without a change
 abbrev pub changes : List ℕ → Result (List ℕ) Refusal → Outcome
-changes image made = record {
-  printout = record { written = []; answer = fault_or Err made (λ now. Ok tt) };
-  image = result_unwrap_or made image;
-}
+changes image made =
+    let printout : Printout = record { written = []; answer = fault_or Err made (λ now. Ok tt) } in
+    record { printout = printout; image = result_unwrap_or made image }
 
 -- The change of a named region: whether the command reads the source (once), the new bytes by
 -- region, bytes and source, and the effect of an interruption.
@@ -101,17 +101,23 @@ effect (on_region region (print verbose)) =
 effect (on_region region (extract name)) =
     reports (λ image. printed_in image region (λ x. extract_region x name))
 effect (on_region region read) = reports (λ image. printed_in image region shows)
--- a source of the region's size
+-- A source of the region's size; another source changes nothing. An interruption leaves a prefix of
+-- the source, after a device fault an arbitrary piece, then the old bytes.
 effect (on_region name write) = edits name true
     (λ region x source. if length source == region.size then Ok source else Err refusals.SourceSize)
-    StopsIn
--- at the least allowed place in the first free space with room
+    (λ region image source answer now. (length source ≢ region.size → now ≡ image)
+    × (IsErrOf answer refusals.Source → FirstWritten region.start source image now)
+    × (IsErrOf answer refusals.Device → PartWritten region.start source image now))
+-- At the least allowed place in the first free space with room. A source fault leaves the same
+-- components, a device fault these or also the complete addition.
 effect (on_region region (add name kind hash spot)) =
     let new = new_component name kind hash in
     edits region true
     (λ found x source. result_map_both (added x (new source)) edit_refusal
     (addition_in x (new source) spot))
-    (λ found image source. AddStopsIn found image (new source) spot)
+    (λ found image source answer now. let x = bytes_in found image in let y = bytes_in found now in
+    (IsErrOf answer refusals.Device → AddLeavesWhole x (new source) spot y)
+    × (IsErrOf answer refusals.Source → AddLeavesBefore x (new source) spot y))
 -- an empty entry replaces a component and its adjacent free space
 effect (on_region region (remove name)) = edits region false
     (λ found x source. result_map_both (removed x) edit_refusal (removal_in x name))
@@ -137,8 +143,12 @@ abbrev pub OnAllHonest : Effect → Device → Device → (List ℕ → List ℕ
 OnAllHonest d device source P = IsTrue device.honest
     → (0 < d.source_calls source → IsTrue source.honest) → P device.content source.content
 
--- The effect of a command on an honest device.
-pub record HasEffect (d : Effect) (old new source : Device) (answer : CommandResult) : Type 0 where
+-- A fault implies a failed call of the device or the source. All fields except the calls require
+-- an honest device.
+pub record HasEffect (d : Effect) (old new source source_now : Device)
+    (answer : CommandResult) : Type 0 where
+  pub calls : Calls (call_limit old) (fault_count by_device answer) old new
+  pub source_calls : Calls (d.source_calls source) (fault_count by_source answer) source source_now
   -- all bytes outside the region remain, or all bytes without a region
   pub spares : OnHonest old (λ image. MatchOption (d.target image) (new.content ≡ image)
       (λ region. SameOutside region.start region.size image new.content))
@@ -150,14 +160,3 @@ pub record HasEffect (d : Effect) (old new source : Device) (answer : CommandRes
       ((answer ≡ o.printout.answer) × (new.content ≡ o.image)) ⊎ IsFault answer)
   pub stopped : OnAllHonest d old source
       (λ image content. d.Stopped image content answer new.content)
-
-abbrev pub no_source : Device
-no_source = record { content = []; calls = 0; faults = 0; honest = true }
-
--- A change without output. A fault implies a failure of the device or the source.
-pub record HasApplied {F : Type 0} (d : Effect) (old new : Pages F)
-    (source source_now : Device) (answer : CommandResult) : Type 0 where
-  pub calls : Calls (call_limit old.device) (fault_count by_device answer) old.device new.device
-  pub source_calls : Calls (d.source_calls source) (fault_count by_source answer) source source_now
-  pub no_output : IsErrOf answer refusals.Output → ⊥
-  pub effect : HasEffect d old.device new.device source answer

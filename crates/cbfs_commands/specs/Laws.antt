@@ -20,25 +20,21 @@ use Rattle.cbfs_commands.specs.Refusals.{IsFault}
 use Rattle.cbfs_commands.specs.Rows.{area_line, map_line, shown_cell}
 use Rattle.cbfs_commands.specs.Printouts.{shows}
 
-abbrev pub OutcomesHaveNoFault : Type 0
-OutcomesHaveNoFault = (r : Request) (image source : List ℕ)
-    → ¬ IsFault ((effect r).outcome image source).printout.answer
-
-abbrev pub WritingBackChangesNothing : Type 0
-WritingBackChangesNothing = (image name bytes : List ℕ) → printed_in image name shows ≡ shows bytes
-    → (effect (on_region name write)).outcome image bytes
-    ≡ record { printout = shows []; image = image }
-
--- A command has the same output, and the same result in the region.
-abbrev pub OutcomesAreOfTheRegion : Type 0
-OutcomesAreOfTheRegion =
-    (name : List ℕ) (task : Task) (region : Range) (image other source : List ℕ)
-    → region_of image name ≡ Ok region → region_of other name ≡ Ok region
-    → bytes_in region other ≡ bytes_in region image
-    → let of_image = (effect (on_region name task)).outcome image source in
-    let of_other = (effect (on_region name task)).outcome other source in
-    (of_other.printout ≡ of_image.printout)
-    × (bytes_in region of_other.image ≡ bytes_in region of_image.image)
+pub record OutcomesAreOfTheImage : Type 0 where
+  -- no outcome's own answer is a fault of the device, the output or the source
+  pub faultless : (r : Request) (image source : List ℕ)
+      → ¬ IsFault ((effect r).outcome image source).printout.answer
+  -- writing back the output of `read` changes nothing
+  pub written_back : (image name bytes : List ℕ) → printed_in image name shows ≡ shows bytes
+      → (effect (on_region name write)).outcome image bytes
+      ≡ record { printout = shows []; image = image }
+  -- a command on a region has the same output and region for images alike in the map and region
+  pub of_region : (name : List ℕ) (task : Task) (region : Range) (image other source : List ℕ)
+      → region_of image name ≡ Ok region → region_of other name ≡ Ok region
+      → bytes_in region other ≡ bytes_in region image
+      → let outcome = (effect (on_region name task)).outcome in
+      ((outcome other source).printout ≡ (outcome image source).printout) × (bytes_in region
+      (outcome other source).image ≡ bytes_in region (outcome image source).image)
 
 -- A plan of an image of n bytes by a source. Other areas of the flashmap are not covered.
 pub record PlansAreLaid (n : ℕ) (source : List ℕ) (plan : Plan) : Type 0 where

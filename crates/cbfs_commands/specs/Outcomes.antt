@@ -1,14 +1,12 @@
 -- The outcomes of commands on a region, and the effect of an interruption.
-use Rattle.std.specs.Prelude.{◌≡◌, ◌≢◌, ℕ, Bool, List, length, Ok, Err, if◌then◌else◌}
+use Rattle.std.specs.Prelude.{◌≡◌, ◌≢◌, ℕ, Bool, List, length, Err, if◌then◌else◌}
 use Rattle.std.specs.Option.{option_map_or}
+use Rattle.std.specs.Result.{result_map_both}
 use Rattle.flash_format.specs.Components.{Component, is_packed}
 use Rattle.flash_format.specs.Cut.{Cut, cut}
 use Rattle.flash_device.specs.Device.{FirstWritten, PartWritten}
 use Rattle.flash_device.specs.Regions.{Range, bytes_in}
 use Rattle.flash_map.specs.Regions.{region_of}
-use Rattle.cbfs_edit.specs.Changes.{AddLeavesBefore, AddLeavesWhole}
-use Rattle.cbfs_edit.specs.Additions.{NewComponent}
-use Rattle.cbfs_edit.specs.declared.place.Spot.{Spot}
 use Rattle.cbfs_walk.specs.Search.{component_in, not_found}
 use Rattle.cbfs_walk.specs.CellReadings.{place_after}
 use Rattle.cbfs_walk.specs.Shapes.{shape_fault, refused_or}
@@ -29,9 +27,8 @@ printed_in image name tell = fault_or (λ fault. refuses (store_refusal fault))
 
 -- a row per cell, then the damage after the cells, or success
 abbrev pub print_cut : Bool → ℕ → Cut → Printout
-print_cut verbose at c =
-    let found = not_found (place_after at c.cells) c.end in
-    let answer = fault_or (λ fault. Err (walk_refusal fault)) found (λ none. Ok tt) in
+print_cut verbose at c = let found = not_found (place_after at c.cells) c.end in
+    let answer = result_map_both (λ none. tt) walk_refusal found in
     record { written = rows_from verbose at c.cells; answer = answer }
 
 -- if verbose, also the lines of the components
@@ -49,22 +46,3 @@ printed_component c =
 abbrev pub extract_region : List ℕ → List ℕ → Printout
 extract_region x name = fault_or (λ fault. refuses (walk_refusal fault)) (component_in x name)
     (λ found. option_map_or printed_component found (refuses refusals.NotFound))
-
--- ---- the effect of a call
-
--- A region after an interrupted write: a prefix of the source, after a device fault an arbitrary
--- piece, then the old bytes. A source of another size changes nothing.
-pub record StopsIn (region : Range) (image source : List ℕ) (answer : CommandResult)
-    (now : List ℕ) : Type 0 where
-  pub of_other_size : length source ≢ region.size → now ≡ image
-  pub by_source : answer ≡ Err refusals.Source → FirstWritten region.start source image now
-  pub by_device : answer ≡ Err refusals.Device → PartWritten region.start source image now
-
--- A region after an interrupted addition: after a source fault, the same components; after a device
--- fault, also with the complete addition.
-pub record AddStopsIn (region : Range) (image : List ℕ) (new : NewComponent) (spot : Spot)
-    (answer : CommandResult) (now : List ℕ) : Type 0 where
-  pub by_device : answer ≡ Err refusals.Device
-      → AddLeavesWhole (bytes_in region image) new spot (bytes_in region now)
-  pub by_source : answer ≡ Err refusals.Source
-      → AddLeavesBefore (bytes_in region image) new spot (bytes_in region now)

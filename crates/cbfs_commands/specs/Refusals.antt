@@ -10,6 +10,7 @@ use Rattle.cbfs_edit.specs.declared.fault.EditFault.{EditFault}
 use Rattle.cbfs_edit.specs.declared.fault.EditFault.TheVariants as edit
 use Rattle.cbfs_commands.specs.declared.refusal.Refusal.{Refusal}
 use Rattle.cbfs_commands.specs.declared.refusal.Refusal.TheVariants as refusals
+use Rattle.cbfs_commands.specs.declared.refusal.Refusal.TheVariants.{Device, Output, Source}
 
 abbrev pub store_refusal : StoreFault → Refusal
 store_refusal store.Device = refusals.Device
@@ -55,5 +56,4 @@ by_source _ = 0
 
 -- of the device, the output or the source
 abbrev pub IsFault : {T : Type 0} → Result T Refusal → Type 0
-IsFault answer = IsErrOf answer refusals.Device ⊎ IsErrOf answer refusals.Output
-    ⊎ IsErrOf answer refusals.Source
+IsFault answer = IsErrOf answer Device ⊎ IsErrOf answer Output ⊎ IsErrOf answer Source

@@ -43,8 +43,8 @@ cell_row at x = if is_free (head_of x) then row_text at (head_of x) None 0
 -- offset, name, size and number of areas
 unfoldable pub map_line : FoundMap → List ℕ
 map_line map = codes "fmap" ++ tab ++ hexadecimal map.at ++ tab
-    ++ printed_name (text_of map.head.name) ++ tab
-    ++ decimal map.head.size ++ tab ++ decimal map.head.nareas ++ line_feed
+    ++ printed_name (text_of map.head.name) ++ tab ++ decimal map.head.size
+    ++ tab ++ decimal map.head.nareas ++ line_feed
 
 -- name, offset, size and flags
 unfoldable pub area_line : Area → List ℕ
@@ -75,12 +75,8 @@ hash_line Unsupported = codes "\thash\tunsupported\n"
 
 -- all lines of a component
 abbrev pub details : List ℕ → List ℕ
-details x = let all = cell_attributes x in
-    flat_map attribute_line (map head_of_attribute all) ++ hash_line (hash_state all (cell_content x))
-
--- the maximum number of calls for the lines of a component
-abbrev pub details_reads : ℕ → ℕ
-details_reads span = 1 + span / 8 + span / 3840
+details x = let all = cell_attributes x in flat_map attribute_line (map head_of_attribute all)
+    ++ hash_line (hash_state all (cell_content x))
 
 -- the row, then its lines
 abbrev pub shown_cell : Bool → ℕ → List ℕ → List ℕ

@@ -1,6 +1,7 @@
 //! The command `add`.
 
-ghost use Rattle.cbfs_commands.specs.Effects.{HasApplied, add, effect, on_region};
+ghost use Rattle.std.specs.Prelude.{IsErrOf};
+ghost use Rattle.cbfs_commands.specs.Effects.{HasEffect, add, effect, on_region};
 
 use crate::refusal::Refusal;
 use cbfs_edit::{HashChoice, Spot};
@@ -16,8 +17,9 @@ pub fn add<F: Flash, S: Source>(
     spot: Spot,
     source: &mut S,
 ) -> Result<(), Refusal>
-    ensures { HasApplied (effect (on_region region.now (add name.now kind hash spot)))
-        paged.old paged.new (S.facts source.old) (S.facts source.new) result }
+    ensures effect { HasEffect (effect (on_region region.now (add name.now kind hash spot)))
+        paged.old.device paged.new.device (S.facts source.old) (S.facts source.new) result }
+    ensures no_output { IsErrOf result Refusal.Output → ⊥ }
 {
     let region = flash_map::region(paged, region)?;
     cbfs_edit::add(paged, region, name, kind, hash, spot, source)?;

@@ -1,10 +1,8 @@
 //! Runs a command.
 
 ghost use Rattle.std.specs.Prelude.{◌≡◌, ◌<◌, ◌≤◌, false, IsErrOf};
-ghost use Rattle.flash_device.specs.Device.{Calls, fault_count, call_limit};
 ghost use Rattle.cbfs_commands.specs.Effects.{HasEffect, OnAllHonest, effect_of};
 ghost use Rattle.cbfs_commands.specs.Printouts.{PrintsOut};
-ghost use Rattle.cbfs_commands.specs.Refusals.{by_device, by_source};
 
 use crate::add::add;
 use crate::command::Command;
@@ -25,20 +23,17 @@ pub fn run<F: Flash, S: Source, W: Sink>(
     source: &mut S,
     out: &mut W,
 ) -> Result<(), Refusal>
-    // On any device, for any source and sink. A fault is a failed call of its device.
-    ensures calls { Calls (call_limit paged.old.device) (fault_count by_device result)
-        paged.old.device paged.new.device }
-    ensures source_calls { Calls ((effect_of command.now).source_calls (S.facts source.old))
-        (fault_count by_source result) (S.facts source.old) (S.facts source.new) }
-    ensures faults { W.faults out.old ≤ W.faults out.new }
-    ensures output { IsErrOf result Refusal.Output → W.faults out.old < W.faults out.new }
-
+    ensures effect { HasEffect (effect_of command.now) paged.old.device paged.new.device
+        (S.facts source.old) (S.facts source.new) result }
     ensures unread { (effect_of command.now).source_calls (S.facts source.old) ≡ 0
         → source.new ≡ source.old }
+
+    // For any sink.
+    ensures faults { W.faults out.old ≤ W.faults out.new }
+    ensures output { IsErrOf result Refusal.Output → W.faults out.old < W.faults out.new }
     ensures unwritten { (effect_of command.now).prints ≡ false → out.new ≡ out.old }
 
-    ensures effect { HasEffect (effect_of command.now)
-        paged.old.device paged.new.device (S.facts source.old) result }
+    // The answer and output of the outcome, or a part after a fault.
     ensures outcome { OnAllHonest (effect_of command.now) paged.old.device (S.facts source.old)
         (λ image content. PrintsOut (W.contents out.old) (W.contents out.new) result
         ((effect_of command.now).outcome image content).printout) }

@@ -7,23 +7,14 @@ ghost use Rattle.cbfs_edit.specs.declared.place.Place.{Place};
 ghost use Rattle.cbfs_edit.specs.declared.place.Spot.{Spot};
 ghost use Rattle.cbfs_commands.specs.Creations.{plan_for};
 ghost use Rattle.cbfs_commands.specs.Laws.{AdditionsAreExtracted, LinesAreReadBack};
-ghost use Rattle.cbfs_commands.specs.Laws.{OutcomesAreOfTheRegion, OutcomesHaveNoFault};
-ghost use Rattle.cbfs_commands.specs.Laws.{PlansAreLaid, WritingBackChangesNothing};
+ghost use Rattle.cbfs_commands.specs.Laws.{OutcomesAreOfTheImage, PlansAreLaid};
 ghost use Rattle.cbfs_commands.specs.declared.create.plan.Plan.{Plan};
 
-/// Proves that an outcome's own answer is never a fault of the device, the output or the source.
-pub fn outcomes_have_no_fault()
-    ensures { OutcomesHaveNoFault }
-{}
-
-/// Proves that writing back the output of `read` leaves the image unchanged.
-pub fn writing_back_changes_nothing()
-    ensures { WritingBackChangesNothing }
-{}
-
-/// Proves that only the map and the region's bytes affect a command on a region.
-pub fn outcomes_are_of_the_region()
-    ensures { OutcomesAreOfTheRegion }
+/// Proves that an outcome's own answer is never a fault of the device, the output or the source,
+/// that writing back the output of `read` leaves the image unchanged, and that only the map and the
+/// region's bytes affect a command on a region.
+pub fn outcomes_are_of_the_image()
+    ensures { OutcomesAreOfTheImage }
 {}
 
 /// Proves that the flashmap of a plan fits its area, that all named regions lie in the image with

@@ -19,7 +19,6 @@ pub use command::Command;
 pub use create::{MOST_REGIONS, create_size};
 pub use execution::run;
 pub use laws::{
-    additions_are_extracted, lines_are_read_back, outcomes_are_of_the_region,
-    outcomes_have_no_fault, plans_are_laid, writing_back_changes_nothing,
+    additions_are_extracted, lines_are_read_back, outcomes_are_of_the_image, plans_are_laid,
 };
 pub use refusal::Refusal;

@@ -59,8 +59,8 @@ spot_by (Some alignment) (Some base) = None
 
 -- None without `-A`
 abbrev pub hash_by : Option (List ℕ) → Option HashChoice
-hash_by None = Some Plain
-hash_by (Some name) = option_map choice_of (algorithm_named name)
+hash_by text =
+    option_map_or (λ name. option_map choice_of (algorithm_named name)) text (Some Plain)
 
 -- between commas
 abbrev pub split_names : List ℕ → List (List ℕ)
@@ -106,17 +106,16 @@ module _ (t : Texts) where
       (hash_by (text "hash")) (spot_by (text "alignment") (text "base")))
 
   -- by subcommand
-  abbrev pub requests_of : List (String × Result Request Refusal)
-  requests_of = ("print", on_region (requests.print (verbose_by (text "verbose"))))
+  abbrev pub command_of : Result Request Refusal
+  command_of = let requests : List (String × Result Request Refusal) =
+      ("print", on_region (requests.print (verbose_by (text "verbose"))))
       ∷ ("layout", Ok requests.layout)
       ∷ ("extract", with_file (with_name requests.extract)) ∷ ("add", addition)
       ∷ ("remove", with_name requests.remove) ∷ ("read", with_file (on_region requests.read))
       ∷ ("write", with_file (on_region requests.write))
-      ∷ ("create", with_file (creation_of (split_names region_named))) ∷ []
-
-  abbrev pub command_of : Result Request Refusal
-  command_of = option_map_or (λ row. row.1)
-      (find (λ row. bytes_eq t.subcommand (codes row.0)) requests_of) (Err refusals.Usage)
+      ∷ ("create", with_file (creation_of (split_names region_named))) ∷ [] in
+      option_map_or (λ row. row.1) (find (λ row. bytes_eq t.subcommand (codes row.0)) requests)
+      (Err refusals.Usage)
 
 abbrev pub request_answer : Result Command Refusal → Result Request Refusal
 request_answer (Ok command) = Ok (request_of command)

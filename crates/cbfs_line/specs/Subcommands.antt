@@ -20,16 +20,14 @@ file_option = option_of "file" 102 true
 abbrev pub name_option : Rule
 name_option = option_of "name" 110 true
 
-abbrev pub verbose_option : Rule
-verbose_option = record (option_of "verbose" 118 false) { action = Some SetTrue }
-
 abbrev pub subcommand : String → List Rule → Shape
 subcommand name options = record (new_shape (codes name)) { rules = options }
 
--- `-M` of create names a file
+-- `-v` has no value; `-M` of create names a file
 abbrev pub subcommands : List Shape
-subcommands = subcommand "print" (region_option ∷ verbose_option ∷ []) ∷ subcommand "layout" []
-    ∷ subcommand "extract" (region_option ∷ file_option ∷ name_option ∷ [])
+subcommands = subcommand "print" (region_option
+    ∷ record (option_of "verbose" 118 false) { action = Some SetTrue } ∷ [])
+    ∷ subcommand "layout" [] ∷ subcommand "extract" (region_option ∷ file_option ∷ name_option ∷ [])
     ∷ subcommand "add" (region_option ∷ name_option ∷ file_option ∷ option_of "type" 116 true
     ∷ option_of "alignment" 97 false ∷ option_of "base" 98 false ∷ option_of "hash" 65 false ∷ [])
     ∷ subcommand "remove" (region_option ∷ name_option ∷ [])
@@ -39,7 +37,6 @@ subcommands = subcommand "print" (region_option ∷ verbose_option ∷ []) ∷ s
 
 -- the arguments after IMAGE
 abbrev pub command_line : App
-command_line =
-    let shape = new_shape (codes "cbfstool") in
+command_line = let shape = new_shape (codes "cbfstool") in
     let top = record shape { is_leaf = false; no_binary_name = true; subcommand_required = true } in
     record { top = top; subs = subcommands }

@@ -1,14 +1,14 @@
 //! The command `create`.
 
 ghost use Rattle.std.specs.Prelude.{◌≡◌, ◌+◌, ◌*◌, ◌/◌, ◌≤◌, All, fold, length, map, OnOk, OnErr};
-ghost use Rattle.std.specs.Prelude.{Err};
+ghost use Rattle.std.specs.Prelude.{Err, IsErrOf};
 ghost use Rattle.flash_device.specs.Device.{Calls, refusals};
 ghost use Rattle.flash_device.specs.Laws.{with_edit};
 ghost use Rattle.flash_device.specs.Pages.{OnHonest};
 ghost use Rattle.cbfs_edit.specs.Formats.{formatted};
 ghost use Rattle.cbfs_commands.specs.declared.create.flashmap.TheConstants.{MOST_REGIONS};
 ghost use Rattle.cbfs_commands.specs.Creations.{IsPlace};
-ghost use Rattle.cbfs_commands.specs.Effects.{HasApplied, create, effect};
+ghost use Rattle.cbfs_commands.specs.Effects.{HasEffect, create, effect};
 
 use crate::create::plan::read_plan;
 use crate::refusal::Refusal;
@@ -57,8 +57,9 @@ pub fn create<F: Flash, S: Source>(
     source: &mut S,
 ) -> Result<(), Refusal>
     requires { length names.now ≤ MOST_REGIONS }
-    ensures { HasApplied (effect (create (map (λ name. name.now) names.now)))
-        paged.old paged.new (S.facts source.old) (S.facts source.new) result }
+    ensures effect { HasEffect (effect (create (map (λ name. name.now) names.now)))
+        paged.old.device paged.new.device (S.facts source.old) (S.facts source.new) result }
+    ensures no_output { IsErrOf result Refusal.Output → ⊥ }
 {
     let image_len = paged.len();
     let plan = read_plan(names, source, image_len)?;

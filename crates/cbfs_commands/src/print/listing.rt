@@ -4,7 +4,7 @@ ghost use Rattle.std.specs.Prelude.{◌≡◌, ◌+◌, ◌/◌, ◌<◌, OnOk, 
 ghost use Rattle.flash_device.specs.Pages.{HasAnswered, OnHonest};
 ghost use Rattle.flash_device.specs.Regions.{LiesOn, bytes_in};
 ghost use Rattle.cbfs_commands.specs.Outcomes.{print_region, printed_in};
-ghost use Rattle.cbfs_commands.specs.Rows.{cell_row, details_reads, shown_cell};
+ghost use Rattle.cbfs_commands.specs.Rows.{cell_row, shown_cell};
 ghost use Rattle.cbfs_commands.specs.Printouts.{HasOutput, IsCellOf, cell_bytes, shows};
 ghost use Rattle.flash_device.specs.Device.{call_limit};
 
@@ -52,8 +52,8 @@ fn print_cell<F: Flash, W: Sink>(
 ) -> Result<(), Refusal>
     requires { IsCellOf region cell.now paged.old.device }
 
-    ensures { HasOutput W.Sink (2 + cell.now.span / 3840 + (if verbose then details_reads
-        cell.now.span else 0)) paged.old paged.new out.old out.new result
+    ensures { HasOutput W.Sink (2 + cell.now.span / 3840 + (if verbose then 1 + cell.now.span / 8
+        + cell.now.span / 3840 else 0)) paged.old paged.new out.old out.new result
         (λ image. shows (shown_cell verbose cell.now.at (cell_bytes region cell.now image))) }
 {
     cells_stand_in_their_image();

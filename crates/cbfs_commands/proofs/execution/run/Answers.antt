@@ -12,4 +12,7 @@ pub returns-in-Create-clause-outcome : goal.returns-in-Create-clause-outcome
 returns-in-Create-clause-outcome g c = λ h serves. rw (c.in-Create.is, ← c.as_slice.ensures.value) (silent _ _ _ _ (c.create.ensures.effect.left h (λ reads. serves (rw c.in-Create.is reads))) refl c.create.ensures.no_output)
 
 pub returns-in-Remove-clause-outcome : goal.returns-in-Remove-clause-outcome
-returns-in-Remove-clause-outcome g c = λ h serves. rw c.in-Remove.is (silent _ _ _ _ (c.remove.ensures.effect.left h (λ reads. refl)) refl c.remove.ensures.no_output)
+returns-in-Remove-clause-outcome g c = λ h serves. rw c.in-Remove.is (silent _ _ _ _ ((c.remove.ensures.effect (g.S.Source.facts c.args.source.now)).left h (λ reads. serves (rw c.in-Remove.is reads))) refl c.remove.ensures.no_output)
+
+pub returns-in-Remove-clause-effect : goal.returns-in-Remove-clause-effect
+returns-in-Remove-clause-effect g c = rw c.in-Remove.is (c.remove.ensures.effect (g.S.Source.facts c.args.source.now))
