@@ -45,14 +45,13 @@ fn push_content_changes<F: Flash, G: Flash>(
     left: &mut u64,
     images: &mut Images<F, G>,
     pairs: &[AreaPair],
-    pair: &AreaPair,
+    pair: AreaPair,
 ) -> Result<(), ChangeFault>
     ensures after { HasCompared (blocks_of (left.old - left.new)) images.old images.new result }
-    ensures left { left.new ≡ left_after left.old
-        (same_size_regions (lengths images.old) pair.now) }
+    ensures left { left.new ≡ left_after left.old (same_size_regions (lengths images.old) pair) }
     ensures changes { OnBoth images.old (λ x y. Gains changes.old changes.new result
-        (map (area_change pair.now.new) (content_differences x y pairs.now pair.now
-        (compared left.old (same_size_regions (lengths_of x y) pair.now))))) }
+        (map (area_change pair.new) (content_differences x y pairs.now pair
+        (compared left.old (same_size_regions (lengths_of x y) pair))))) }
 {
     let area = pair.new;
     let Some(regions) = taken(left, pair.same_size_regions(images.lengths())) else {
@@ -78,7 +77,7 @@ fn push_changes<F: Flash, G: Flash>(
     let mut left = MOST_TIMES * images.lengths().new;
     for pair in pairs {
         push_entry_changes(changes, *pair)?;
-        push_content_changes(changes, &mut left, images, pairs, pair)?;
+        push_content_changes(changes, &mut left, images, pairs, *pair)?;
     }
     Ok(())
 }

@@ -1,9 +1,8 @@
 //! Pairs of areas.
-ghost use Rattle.std.specs.Prelude.{◌≡◌, ◌+◌, ◌*◌, ◌<◌, ◌≤◌, ◌^◌, false, length, IfSome, IfOk};
+ghost use Rattle.std.specs.Prelude.{◌≡◌, ◌+◌, ◌*◌, ◌<◌, ◌≤◌, ◌^◌, length, IfSome, IfOk};
 ghost use Rattle.std.specs.List.{flat_map};
-ghost use Rattle.std.specs.Option.{option_map_or};
 ghost use Rattle.check_findings.specs.Lists.{Gains};
-ghost use Rattle.check_changes.specs.Areas.{pairs, gone_of, has_block, is_held, is_same_size};
+ghost use Rattle.check_changes.specs.Areas.{pairs, gone_of, is_held, is_same_size};
 ghost use Rattle.check_changes.specs.Areas.{regions_of, same_size_regions};
 ghost use Rattle.check_changes.specs.Images.{LieWithin};
 ghost use Rattle.flash_device.specs.Pages.{Lists};
@@ -53,24 +52,6 @@ impl AreaPair {
         }
         self.regions(lens)
     }
-
-    fn holds(&self, lens: Lengths, outer: RegionPair, number: u64) -> bool
-        requires fit { (lens.old < 2 ^ 32) × (lens.new < 2 ^ 32) }
-        requires inside { LieWithin lens outer }
-        requires begins { 4096 * number ≤ outer.new.size }
-        ensures { result ≡ option_map_or (has_block outer number)
-            (same_size_regions lens self.now) false }
-    {
-        let Some(inner) = self.same_size_regions(lens) else {
-            return false;
-        };
-        let start = number * PIECE as u64;
-        let end = (start + PIECE as u64).min(outer.new.size());
-        inner.new.size() < outer.new.size()
-            && inner.old.start() + outer.new.start() == outer.old.start() + inner.new.start()
-            && inner.new.start() <= outer.new.start() + start
-            && outer.new.start() + end <= inner.new.start() + inner.new.size()
-    }
 }
 
 /// Returns whether a pair contains this block of `outer`.
@@ -80,7 +61,20 @@ pub fn is_held(pairs: &[AreaPair], lens: Lengths, outer: RegionPair, number: u64
     requires begins { 4096 * number ≤ outer.new.size }
     ensures { result ≡ is_held lens pairs.now outer number }
 {
-    pairs.iter().any(|pair| pair.holds(lens, outer, number))
+    let start = number * PIECE as u64;
+    let end = (start + PIECE as u64).min(outer.new.size());
+    for pair in pairs {
+        if let Some(inner) = pair.same_size_regions(lens) {
+            let is_held = inner.new.size() < outer.new.size()
+                && inner.old.start() + outer.new.start() == outer.old.start() + inner.new.start()
+                && inner.new.start() <= outer.new.start() + start
+                && outer.new.start() + end <= inner.new.start() + inner.new.size();
+            if is_held {
+                return true;
+            }
+        }
+    }
+    false
 }
 
 /// Returns the first new area of each name, in order, with its first old namesake.

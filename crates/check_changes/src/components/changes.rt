@@ -69,7 +69,8 @@ fn push_changes_of<'a, F: Flash, G: Flash>(
 
     ensures after { HasCompared (2 + listed.now.cell.span / 4096) images.old images.new result }
     ensures changes { OnBothIn images.old (listed_regions lists.now)
-        (λ x y. Gains changes.old changes.new result (new_changes x y (lists_of lists.now) listed.now)) }
+        (λ x y. Gains changes.old changes.new result
+        (new_changes x y (lists_of lists.now) listed.now)) }
 {
     if !lists.new.is_first(listed) {
         return Ok(());

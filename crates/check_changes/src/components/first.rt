@@ -58,15 +58,8 @@ pub fn with_firsts<'a>(
     // Backwards: the first component replaces later namesakes.
     while left > 0 {
         left -= 1;
-        note(&mut first, &all[left])?;
+        let listed = &all[left];
+        first.insert(listed.name.as_slice(), listed)?;
     }
     Ok(Listing { region, all, first })
-}
-
-fn note<'a>(first: &mut Firsts<'a>, listed: &'a Listed) -> Result<(), AllocError>
-    ensures { (behind : List Listed) → Notes first.old behind
-        → OnOk result (Notes first.new (listed.now ∷ behind)) }
-{
-    first.insert(listed.name.as_slice(), listed)?;
-    Ok(())
 }

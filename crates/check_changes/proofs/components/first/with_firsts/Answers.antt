@@ -13,5 +13,5 @@ loop-left-preserved c =
     let had = c.loop-left.invariant in
     record {
       inside = omega (arith, had.inside);
-      notes = notes-more c.loop-left.first c.note.new.first c.args.all.now c.loop-left.left (c.loop-left.left - 1) c.index-all-left.result (omega arith) had.inside c.index-all-left.is c.in_ok-note.ensures had.notes;
+      notes = notes-more c.loop-left.first c.insert.new.self c.args.all.now c.loop-left.left (c.loop-left.left - 1) _ (omega arith) had.inside c.index-all-left.is (rw c.as_slice.ensures at c.in_ok-insert.ensures.updates) had.notes;
     }

@@ -9,18 +9,6 @@ use Rattle.std.proofs.Common.{ap}
 use Rattle.flash_format.specs.Head.{is_free}
 use Rattle.check_findings.proofs.region.check.push_cell.Goals as goal
 
-pub returns-in_err-state-clause-after : goal.returns-in_err-state-clause-after
-returns-in_err-state-clause-after g c = search rules
-
-pub returns-in_err-copied-clause-after : goal.returns-in_err-copied-clause-after
-returns-in_err-copied-clause-after g c = search rules
-
-pub returns-in_err-push-clause-after : goal.returns-in_err-push-clause-after
-returns-in_err-push-clause-after g c = search rules
-
-pub returns-clause-after : goal.returns-clause-after
-returns-clause-after g c = search rules
-
 pub returns-then-is_free-clause-found : goal.returns-then-is_free-clause-found
 returns-then-is_free-clause-found g c = λ h stands.
     let r = c.args.region in

@@ -3,9 +3,6 @@ use Rattle.cbfs_walk.specs.Walks.{Walking}
 use Rattle.check_findings.proofs.RegionLemmas.WalkSteps.{checking_start, checking_more, checking_end, checking_tail, checking_damage, checking_size, checking_absent}
 use Rattle.check_findings.proofs.region.check.walk_region.Goals as goal
 
-pub returns-in-Ok-End-clause-after : goal.returns-in-Ok-End-clause-after
-returns-in-Ok-End-clause-after g c = search rules
-
 pub loop-cell-init : goal.loop-cell-init
 loop-cell-init g c = rw (c.new-findings.ensures.items, c.new-walk.ensures, c.new-count.ensures, c.size-size.ensures) (checking_start c.args.region c.args.paged.now c.requires, refl)
 
