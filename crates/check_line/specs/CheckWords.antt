@@ -5,7 +5,7 @@ use Rattle.std.specs.Prelude.{is_none, option_map, Result, Ok, Err, MatchOption,
 use Rattle.std.specs.Prelude.{find, take_while, filter_map, slice_get, nat_eq, nat_lt}
 use Rattle.std.specs.Borrow.{Bor}
 use Rattle.std.specs.List.{list_any, slice_split, starts_with}
-use Rattle.std.specs.Option.{option_map_or, option_or}
+use Rattle.std.specs.Option.{option_copied, option_map_or, option_or}
 use Rattle.std.specs.Str.{bytes_eq}
 use Prim.Native.String.{String}
 use lib.Chars.{codes}
@@ -98,7 +98,7 @@ complaint_in rows = if is_none (value "image" rows) then Some no_image
 -- the images and options of clap's matches
 pub record IsLineOf (rows : List Row) (line : CheckLine) : Type 0 where
   pub image : value "image" rows ≡ Some line.image.now
-  pub new_image : value "new" rows ≡ option_map (λ (path : Bor (List ℕ)). path.now) line.new_image
+  pub new_image : value "new" rows ≡ option_copied line.new_image
   pub areas : texts line.areas.items ≡ parts_of (value "areas" rows)
   pub is_verbose : line.is_verbose ≡ is_set (value "verbose" rows)
   pub is_json : line.is_json ≡ is_set (value "json" rows)
@@ -159,9 +159,8 @@ is_request word = bytes_eq word.now (codes "-h") || bytes_eq word.now (codes "--
     || bytes_eq word.now (codes "--version")
 
 -- the first argument for the help or the version, before `--`, which ends the options
-abbrev pub request_in : Words → Option (List ℕ)
-request_in words = option_map (λ (word : Bor (List ℕ)). word.now)
-    (find is_request (take_while (λ word. not (bytes_eq word.now (codes "--"))) words))
+abbrev pub request_in : Words → Option (Bor (List ℕ))
+request_in words = find is_request (take_while (λ word. not (bytes_eq word.now (codes "--"))) words)
 
 -- by clap's matches
 abbrev pub IsInvocation : List Row → Invocation → Type 0
@@ -176,13 +175,9 @@ IsRefusal words (Err (Word fault word)) = (kind : ErrorKind) × (kind ≢ reason
 IsRefusal words (Err Memory) = ⊤
 IsRefusal words result = ⊥
 
--- by clap's definitions
-abbrev pub IsRead : Words → Result Invocation LineFault → Type 0
-IsRead words result = let rows = matches_of check_words (texts words) in
-    (IsAccepted words × Gives (complaint_in rows) (IsInvocation rows) result)
-    ⊎ IsRefusal words result
-
--- for the arguments after the program's name
+-- for the arguments after the program's name: by clap's definitions, or the requested text
 abbrev pub Answers : Words → Result Invocation LineFault → Type 0
-Answers words result = MatchOption (request_in words) (IsRead words result)
-    (λ word. result ≡ Ok (if bytes_eq word (codes "--version") then Version else Help))
+Answers words result = let rows = matches_of check_words (texts words) in MatchOption (request_in words)
+    ((IsAccepted words × Gives (complaint_in rows) (IsInvocation rows) result)
+    ⊎ IsRefusal words result)
+    (λ word. result ≡ Ok (if bytes_eq word.now (codes "--version") then Version else Help))

@@ -1,7 +1,7 @@
 //! Requests of a command line.
 
 ghost use Rattle.std.specs.Prelude.{◌≡◌, ◌==◌, ◌<◌, ◌∷◌, IfOk, IfSome, Some, filter_map, length, map};
-ghost use Rattle.std.specs.Prelude.{option_map};
+ghost use Rattle.std.specs.Option.{option_copied};
 ghost use Rattle.std.specs.List.{list_any};
 ghost use Rattle.clap.specs.Words.{first_of, found_of, rows_of};
 ghost use Rattle.check_findings.specs.Needs.{wish_of};
@@ -61,8 +61,8 @@ fn has_empty(names: &[&[u8]]) -> bool
 
 /// Returns the names in an option's list. Refuses an empty name.
 fn names_given<'a>(alloc: Global, list: Option<&'a str>) -> Result<Vec<&'a [u8]>, LineFault<'a>>
-    ensures { Gives (bad_areas (option_map (λ t. t.now) list.entry))
-        (λ names. texts names.items ≡ parts_of (option_map (λ t. t.now) list.entry)) result }
+    ensures { Gives (bad_areas (option_copied list.entry))
+        (λ names. texts names.items ≡ parts_of (option_copied list.entry)) result }
 {
     let Some(list) = list else {
         return Ok(Vec::new(alloc));
@@ -76,8 +76,7 @@ fn names_given<'a>(alloc: Global, list: Option<&'a str>) -> Result<Vec<&'a [u8]>
 }
 
 fn first_part<'a>(list: &'a str) -> (&'a str, Option<&'a str>)
-    ensures parts { parts_of (Some list.entry.now)
-        ≡ result.0.now ∷ parts_of (option_map (λ t. t.now) result.1) }
+    ensures parts { parts_of (Some list.entry.now) ≡ result.0.now ∷ parts_of (option_copied result.1) }
     ensures shorter { IfSome result.1 (λ rest. length rest.now < length list.entry.now) }
 {
     match list.split_once(',') {
@@ -88,9 +87,8 @@ fn first_part<'a>(list: &'a str) -> (&'a str, Option<&'a str>)
 
 /// Returns the needs in an option's list. Refuses the first bad part.
 fn needs_given<'a>(alloc: Global, list: Option<&'a str>) -> Result<Vec<Need<'a>>, LineFault<'a>>
-    ensures { Gives (bad_need (option_map (λ t. t.now) list.entry))
-        (λ needs. map wish_of needs.items
-        ≡ filter_map need_in (parts_of (option_map (λ t. t.now) list.entry))) result }
+    ensures { Gives (bad_need (option_copied list.entry)) (λ needs. map wish_of needs.items
+        ≡ filter_map need_in (parts_of (option_copied list.entry))) result }
 {
     let mut needs = Vec::new(alloc);
     let mut rest = list;
@@ -109,7 +107,7 @@ fn needs_given<'a>(alloc: Global, list: Option<&'a str>) -> Result<Vec<Need<'a>>
 }
 
 fn text<'a>(matches: &ArgMatches<'a>, id: &str) -> Option<&'a str>
-    ensures { option_map (λ t. t.now) result ≡ first_of id.now (rows_of (found_of matches.now)) }
+    ensures { option_copied result ≡ first_of id.now (rows_of (found_of matches.now)) }
 {
     matches.get_str(id)
 }

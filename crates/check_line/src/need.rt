@@ -1,8 +1,9 @@
 //! The required components of `--need`.
 
+ghost use Rattle.std.specs.Path.{rsplit_once};
 ghost use Rattle.std.specs.Prelude.{◌≡◌, option_map};
 ghost use Rattle.check_findings.specs.Needs.{wish_of};
-ghost use Rattle.check_line.specs.Needs.{named_in, need_in, needed_place, split_last};
+ghost use Rattle.check_line.specs.Needs.{named_in, need_in, needed_place};
 
 use check_findings::{Need, NeededPlace};
 use flash_format::read_number;
@@ -19,7 +20,7 @@ fn place_of(offset: &str) -> Option<NeededPlace>
 }
 
 fn split_at_last<'a>(text: &'a str) -> Option<(&'a str, &'a str)>
-    ensures { option_map (λ parts. (parts.0.now, parts.1.now)) result ≡ split_last text.entry.now }
+    ensures { option_map (λ parts. (parts.0.now, parts.1.now)) result ≡ rsplit_once 64 text.entry.now }
 {
     text.rsplit_once('@')
 }
@@ -34,6 +35,7 @@ fn named_place<'a>(text: &'a str) -> Option<(&'a str, NeededPlace)>
 }
 
 /// Parses `AREA:NAME` or `AREA:NAME@OFFSET`.
+#[tactic(auto, unfolding(std::specs::Path::rsplit_once))]
 pub fn need_of<'a>(text: &'a str) -> Option<Need<'a>>
     ensures { option_map wish_of result ≡ need_in text.entry.now }
 {

@@ -1,6 +1,6 @@
 //! Parses the arguments, and finds the wrong argument.
 
-ghost use Rattle.std.specs.Prelude.{◌≡◌, IfOk, MatchBool, option_map};
+ghost use Rattle.std.specs.Prelude.{◌≡◌, IfOk, MatchBool};
 ghost use Rattle.check_line.specs.CheckWords.{Answers, IsWrong, IsParsed, IsRefusedFor, Spares};
 ghost use Rattle.check_line.specs.CheckWords.{request_in, word_fault};
 
@@ -13,7 +13,7 @@ use std::alloc::{AllocError, Global};
 
 /// Returns the first argument before `--` for the help or the version.
 fn request_in<'a>(words: &'a [&'a str]) -> Option<&'a str>
-    ensures { option_map (λ w. w.now) result ≡ request_in words.entry.now }
+    ensures { result ≡ request_in words.entry.now }
 {
     words
         .iter()

@@ -51,7 +51,9 @@ pub fn add_area_changes<W: Sink + Drop>(
         (flat_map (of.area_change_rows (names_in kept.now) (names_in vital.now)) changes.now) }
 {
     for change in changes {
-        rows.add_some(area_change_row(kept, vital, change))?;
+        if let Some(row) = area_change_row(kept, vital, change) {
+            rows.add(row)?;
+        }
     }
     Ok(())
 }

@@ -2,13 +2,12 @@
 ghost use Rattle.std.specs.Prelude.{◌≡◌, [], ◌∷◌, None, map};
 ghost use Rattle.std.specs.List.{flat_map};
 ghost use Rattle.flash_format.specs.Texts.{hexadecimal};
-ghost use Rattle.json.specs.Json.{array};
 ghost use Rattle.json.specs.Print.{IsPrintable, print};
 ghost use Rattle.json.specs.Reads.{token_of};
 ghost use Rattle.json.specs.Token.{string};
 ghost use Rattle.json.specs.Tree.{json_tokens};
 ghost use Rattle.check_report.specs.declared.rows.form.Form.TheVariants as forms;
-ghost use Rattle.check_report.specs.Rows.Fields.{items, name_json, number_json, seen_field, seen_line};
+ghost use Rattle.check_report.specs.Rows.Fields.{name_json, seen_field, seen_line};
 ghost use Rattle.check_report.specs.Rows.Reports.{ending, first_fields, member_tokens};
 ghost use Rattle.check_report.specs.Rows.Reports.{parts, start_tokens};
 ghost use Rattle.check_report.specs.Rows.Effects.{AddsTokens};
@@ -29,24 +28,17 @@ fn put(writer: &mut Writer, token: Token<'_>) -> Result<(), AllocError>
     writer.token(token)
 }
 
-fn put_bytes(writer: &mut Writer, bytes: &[u8]) -> Result<(), AllocError>
-    ensures { AddsTokens result writer.old writer.new
-        (json_tokens (array (items (map number_json bytes.now)))) }
-{
-    put(writer, Token::BeginArray)?;
-    for byte in bytes {
-        writer.u64(u64::from(*byte))?;
-    }
-    put(writer, Token::EndArray)
-}
-
 fn put_name(writer: &mut Writer, name: &[u8]) -> Result<(), AllocError>
     ensures { AddsTokens result writer.old writer.new (json_tokens (name_json name.now)) }
 {
-    match str::from_utf8(name) {
-        Ok(text) => put(writer, Token::String(text)),
-        Err(_) => put_bytes(writer, name),
+    if let Ok(text) = str::from_utf8(name) {
+        return put(writer, Token::String(text));
     }
+    put(writer, Token::BeginArray)?;
+    for byte in name {
+        writer.u64(u64::from(*byte))?;
+    }
+    put(writer, Token::EndArray)
 }
 
 fn put_hexadecimal(writer: &mut Writer, n: u64) -> Result<(), AllocError>

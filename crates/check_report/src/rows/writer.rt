@@ -1,6 +1,5 @@
 //! The rows of a report.
 ghost use Rattle.std.specs.Prelude.{◌≡◌, ◌∷◌, ◌||◌, [], false, map, if◌then◌else◌};
-ghost use Rattle.std.specs.Prelude.{option_map, option_to_list};
 ghost use Rattle.std.specs.List.{flat_map};
 ghost use Rattle.check_findings.specs.Lists.{only_if};
 ghost use Rattle.check_report.specs.Rows.Rows.{more_of, row_line, seen_kind, seen_row};
@@ -87,16 +86,6 @@ impl<W: Sink + Drop> RowWriter<W> {
         ensures { Adds W.Sink result self.old self.new (only_if is_there (seen_row row.entry)) }
     {
         if is_there { self.add(row) } else { Ok(()) }
-    }
-
-    pub fn add_some(&mut self, row: Option<Row<'_>>) -> Result<(), WriteFault>
-        ensures { Adds W.Sink result self.old self.new
-            (option_to_list (option_map seen_row row.entry)) }
-    {
-        match row {
-            Some(row) => self.add(row),
-            None => Ok(()),
-        }
     }
 
     /// Prints the end. Returns whether a row is bad.

@@ -1,6 +1,6 @@
-use Rattle.std.proofs.Common.{◌≡◌, ◌+◌, ◌++◌, length, map, option_map}
+use Rattle.std.proofs.Common.{◌≡◌, ◌+◌, ◌++◌, length, map}
 use Rattle.std.specs.Prelude.{filter_map, find, is_none}
-use Rattle.std.specs.Option.{option_map_or}
+use Rattle.std.specs.Option.{option_copied, option_map_or}
 use Rattle.check_findings.specs.Needs.{wish_of}
 use Rattle.check_line.specs.CheckWords.{parts_of}
 use Rattle.check_line.specs.Needs.{need_in}
@@ -8,8 +8,8 @@ use Rattle.check_line.proofs.line.needs_given.Given as goal
 
 abbrev pub invariant-loop-rest : goal.invariant-loop-rest
 invariant-loop-rest l =
-    let all = parts_of (option_map (λ t. t.now) l.fn.list) in
-    let left = parts_of (option_map (λ t. t.now) l.rest) in
+    let all = parts_of (option_copied l.fn.list) in
+    let left = parts_of (option_copied l.rest) in
     record {
       bad : find (λ part. is_none (need_in part)) left ≡ find (λ part. is_none (need_in part)) all;
       taken : map wish_of l.needs.items ++ filter_map need_in left ≡ filter_map need_in all;
