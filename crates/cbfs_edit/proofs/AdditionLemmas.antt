@@ -8,9 +8,9 @@ use Rattle.flash_format.specs.Entry.{is_nul}
 use Rattle.flash_format.specs.Made.{empty_entry, IsDigest, IsMade, meta_length, made_metadata, header_length, padding, described_len, hash_len, metadata_of}
 use Rattle.flash_format.specs.Cut.{cut}
 use Rattle.flash_format.specs.Components.{components}
-use Rattle.flash_format.specs.Placings.{HasOneMore, IsSpace, IsPlacing, space_cells}
+use Rattle.flash_format.specs.Placings.{HasOneMore, IsSpace, space_cells}
 use Rattle.flash_format.proofs.MadeLaws.{length-metadata, hash_as_long, made_as_long, made_alone}
-use Rattle.flash_format.proofs.Placings.{empty_is_space, components_placed}
+use Rattle.flash_format.proofs.Placings.{IsPlacing, empty_is_space, components_placed}
 use Rattle.flash_device.specs.Device.{Device, SameOutside, overwritten}
 use Rattle.flash_device.proofs.BytesLemmas.{SameOutside-overwritten, further, length-overwritten}
 use Rattle.cbfs_edit.specs.Removals.{IsCellRange, kept_at, removed, space_end}
