@@ -44,6 +44,9 @@ pub record GroupsAreReplaced (x : List ℕ) (start end : ℕ) (g : CellsBetween 
   -- components outside the group are unchanged
   pub listed : components (splice x start end (concat new))
       ≡ components_from 0 g.before ++ components_from start new ++ components_from end g.after
+  -- free cells, such as empty entries, add no component
+  pub emptied : AllFree new → components (splice x start end (concat new))
+      ≡ components_from 0 g.before ++ components_from end g.after
 
 -- a used cell between free space, in place of free cells, adds exactly one component
 abbrev pub ComponentsArePlaced : Type 0

@@ -48,7 +48,7 @@ pub fn empty_headers_are_free_cells()
         → size < 2 ^ 32 → IsCell bytes × (is_free (head_of bytes) ≡ true) }
 {}
 
-/// Proves that replaced cells change no other component.
+/// Proves that replaced cells change no other component, and that an empty entry adds no component.
 pub fn groups_are_replaced()
     ensures { (x : List ℕ) (a b : ℕ) (g : CellsBetween x a b) (new : List (List ℕ)) → All IsCell new
         → a + length (concat new) ≡ b → GroupsAreReplaced x a b g new }

@@ -1,6 +1,6 @@
 //! A component's metadata: the head, the name, the hash attribute and a gap.
 
-ghost use Rattle.std.specs.Prelude.{◌≡◌, ◌≤◌, ◌<◌, ◌++◌, length, take, drop};
+ghost use Rattle.std.specs.Prelude.{◌≡◌, ◌≤◌, ◌<◌, ◌+◌, ◌++◌, length, take, drop};
 ghost use Rattle.std.specs.Option.{option_copied};
 ghost use Rattle.arrayvec.specs.ArrayVec.{array_vec_len};
 ghost use Rattle.flash_format.specs.Made.{IsDigest, meta_length, hash_bytes, hash_len, metadata_of, described_len};
@@ -95,7 +95,7 @@ pub fn write_meta(meta: &Meta<'_>, out: &mut [u8]) -> usize
 /// Appends the hash attribute, if any.
 #[tactic(auto, unfolding(crate::specs::Made::hash_attribute))]
 fn push_hash(bytes: &mut ArrayVec<u8, LONGEST_METADATA>, digest: Option<&Digest>)
-    requires { array_vec_len bytes.old ≤ 152 }
+    requires { array_vec_len bytes.old + 76 ≤ LONGEST_METADATA }
     ensures { bytes.new.items ≡ bytes.old.items ++ hash_bytes (option_copied digest.entry) }
 {
     if let Some(digest) = digest {
