@@ -9,7 +9,6 @@ use Rattle.std.proofs.lemmas.List.Elements.{All-head, All-tail}
 use Rattle.fmd_lang.specs.Words.{words_after, Word, words, kind_of}
 use Rattle.fmd_lang.specs.Numbers.{number_at, literal_value}
 use Rattle.fmd_lang.specs.Tree.{Tree, section, Forest, none, some}
-use Rattle.fmd_lang.specs.ParserResults.{IsBody}
 use Rattle.fmd_lang.specs.Grammar.{Then, One, IsA, IsName, IsSection, AreSections, AreAnnotations, HaveFlags, IsOffset, IsSize, HasValue, Until, annotation_flag, flags_with}
 use Rattle.fmd_lang.specs.Faults.{Stage, start, in_annotations, at_sign, past, Standing, token_fault, fault_from, first_fault, next_standing, wanted_at}
 use Rattle.fmd_lang.specs.declared.word.Kind.{Kind}
@@ -17,7 +16,7 @@ use Rattle.fmd_lang.specs.declared.word.Kind.TheVariants.{Name, Number, OpenPare
 use Rattle.fmd_lang.specs.declared.fault.FmdFault.TheVariants as faults
 use Rattle.fmd_lang.proofs.NameFields.{IsWhole, words_whole}
 use Rattle.fmd_lang.proofs.OptionLemmas.{cond-none, map_or-none, or-none}
-use Rattle.fmd_lang.proofs.FormLemmas.{annotation-name, flags-cons, name-short}
+use Rattle.fmd_lang.proofs.FormLemmas.{IsBody, annotation-name, flags-cons, name-short}
 
 -- ---- the rest of a text
 

@@ -8,11 +8,15 @@ use Rattle.fmd_lang.proofs.OptionLemmas.{and-then-some}
 use Rattle.std.specs.Int.Bits.{bit_or}
 use Rattle.std.specs.List.{list_all}
 use Rattle.fmd_lang.specs.Words.{Word, kind_of}
-use Rattle.fmd_lang.specs.Grammar.{One, Then, IsA, IsSection, AreSections, annotation_flag, annotations, flags_with}
-use Rattle.fmd_lang.specs.Tree.{Tree, forest_of, view, views}
+use Rattle.fmd_lang.specs.Grammar.{Enclosed, One, Then, IsA, IsSection, AreSections, annotation_flag, annotations, flags_with}
+use Rattle.fmd_lang.specs.Tree.{Tree, Forest, none, forest_of, view, views}
 use Rattle.fmd_lang.specs.declared.section.Section.{Section}
 use Rattle.fmd_lang.specs.declared.word.Kind.{Kind}
-use Rattle.fmd_lang.specs.declared.word.Kind.TheVariants.{Name, CloseParen}
+use Rattle.fmd_lang.specs.declared.word.Kind.TheVariants.{Name, CloseParen, OpenBrace, CloseBrace}
+
+-- sections in braces, or no token
+abbrev pub IsBody : Forest → List Word → Type 0
+IsBody parts = Enclosed OpenBrace CloseBrace (AreSections parts) (parts ≡ none)
 
 abbrev pub IsAnnotation : ℕ → Word → Type 0
 IsAnnotation flag w = annotation_flag w.bytes ≡ Some flag
@@ -57,7 +61,7 @@ section-opens w t v (front, back, split, (x, one, same), is) = grind (arith, nat
 
 sections-push : (ts : List Tree) (t : Tree) (ws more : List Word) → AreSections (forest_of ts) ws → IsSection t more →
     AreSections (forest_of (ts ++ t ∷ [])) (ws ++ more)
-sections-push [] t ws more none one = (more, [], rw (none) (sym (append-nil more)), one, refl)
+sections-push [] t ws more empty one = (more, [], rw (empty) (sym (append-nil more)), one, refl)
 sections-push (u ∷ ts) t ws more (first, rest, split, head, tail) one = grind (arith, nat_tests, append_assoc, sections-push ts t rest more tail one)
 
 pub sections-snoc : (parts : List Section) (part : Section) (v : List Word) →

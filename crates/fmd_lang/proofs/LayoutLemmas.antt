@@ -1,7 +1,7 @@
 -- The layout of a tree, by section.
 use Rattle.std.proofs.lemmas.Bool.Decides.{nat_tests}
 use Rattle.std.proofs.lemmas.Grind.{common_steps}
-use Rattle.std.proofs.Common.{◌≡◌, ℕ, suc, ◌+◌, ◌<◌, ◌≤◌, List, [], ◌∷◌, ◌++◌, length, drop, take, min, replicate, Option, get_or, IsTrue, nat_le, Some, None, Result, Ok, Err, unwrap_or, length-append, refl, sym, ◌∙◌, ap, arith, add-one, append_assoc}
+use Rattle.std.proofs.Common.{◌≡◌, ℕ, suc, ◌+◌, ◌<◌, ◌≤◌, List, [], ◌∷◌, ◌++◌, length, drop, take, min, replicate, Option, get_or, IsTrue, nat_eq, nat_le, Some, None, Result, Ok, Err, unwrap_or, length-append, refl, sym, ◌∙◌, ap, arith, add-one, append_assoc}
 use Rattle.std.proofs.Math.Nat.{min_comm}
 use Rattle.std.proofs.Math.Seq.{drop-cons}
 use Rattle.std.proofs.lemmas.List.{take_min, drop-replicate}
@@ -9,9 +9,11 @@ use Rattle.fmd_lang.specs.Tree.{Tree, section, Forest, none, some, section_count
 use Rattle.fmd_lang.specs.declared.section.Section.TheFolds.{fold_out-Section}
 use Rattle.fmd_lang.specs.Table.{field_of, area_limit, section_area, areas_below, areas_of, IsTable, table_head}
 use Rattle.fmd_lang.specs.Layout.{and_then, siblings, places_of, place_end}
-use Rattle.fmd_lang.specs.LayoutFaults.{layout_fault, names_fault, size_fault, table_fault}
+use Rattle.fmd_lang.specs.LayoutFaults.{layout_fault, names_fault, table_fault}
 use Rattle.std.specs.List.{list_all}
-use Rattle.std.specs.Option.{option_or}
+use Rattle.std.specs.Bool.{then_some}
+use Rattle.std.specs.Option.{option_map_or, option_or}
+use Rattle.fmd_lang.specs.declared.fault.FmdFault.TheVariants as faults
 use Rattle.std.specs.Result.{result_err, result_unwrap_or}
 use Rattle.fmd_lang.proofs.OptionLemmas.{or-none}
 use Rattle.fmd_lang.proofs.RowLemmas.{and_then-ok, length-placed, placed-inside, valid-places}
@@ -162,7 +164,7 @@ table-is s table base size name areas = rw (view-is s) (base, size, name, rw (vi
 -- the faults before those of the areas
 pub root-sized : (s : Section) (size : Option ℕ) → names_fault (names (view s)) ≡ None → (out-Section s).size ≡ size →
     layout_fault (view s) ≡ (let areas = areas_below 0 (unwrap_or size 0) (view s) [] in
-    option_or (size_fault size) (option_or (result_err areas) (table_fault (result_unwrap_or areas []))))
+    option_or (option_map_or (λ n. then_some (nat_eq n 0) (faults.EmptySection 0)) size (Some (faults.Ambiguous 0))) (option_or (result_err areas) (table_fault (result_unwrap_or areas []))))
 unfolding layout_fault
 root-sized s size named sized =
     let given : size_of (view s) ≡ size = rw (view-is s) sized in

@@ -7,14 +7,13 @@ use Rattle.std.specs.Int.Bits.{bit_or}
 use Rattle.fmd_lang.specs.Words.{Word, words, kind_of}
 use Rattle.fmd_lang.specs.Numbers.{literal_value}
 use Rattle.fmd_lang.specs.Tree.{Tree, section, Forest, none, some}
-use Rattle.fmd_lang.specs.ParserResults.{IsBody}
 use Rattle.fmd_lang.specs.Grammar.{Then, IsA, IsSection, AreSections, AreAnnotations, IsOffset, IsSize, annotation_flag, flags_with}
 use Rattle.fmd_lang.specs.Faults.{Stage, Standing, start, in_annotations, at_sign, past, token_fault, next_standing, text_limit, fault_from, first_fault}
 use Rattle.fmd_lang.specs.declared.fault.FmdFault.TheVariants as faults
 use Rattle.fmd_lang.specs.declared.fault.Expected.{Expected}
 use Rattle.fmd_lang.specs.declared.word.Kind.{Kind}
 use Rattle.fmd_lang.specs.declared.word.Kind.TheVariants.{Name, Number, OpenParen, CloseParen, At, OpenBrace, CloseBrace}
-use Rattle.fmd_lang.proofs.FormLemmas.{annotation-name}
+use Rattle.fmd_lang.proofs.FormLemmas.{IsBody, annotation-name}
 use Rattle.fmd_lang.proofs.OptionLemmas.{and-then-some, or-other}
 
 -- The parts and sections built from the tokens, last to first: the parts of the next name, or an

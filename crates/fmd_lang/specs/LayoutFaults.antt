@@ -2,7 +2,7 @@
 use Rattle.std.specs.Prelude.{ℕ, suc, ◌+◌, ◌*◌, nat_lt, nat_eq, not, if◌then◌else◌, List, [], ◌∷◌}
 use Rattle.std.specs.Prelude.{◌++◌, length, Option, Some, None, unwrap_or, option_map, codes, drop}
 use Rattle.std.specs.Bool.{then_some}
-use Rattle.std.specs.Option.{option_or}
+use Rattle.std.specs.Option.{option_map_or, option_or}
 use Rattle.std.specs.Result.{result_err, result_unwrap_or}
 use Rattle.std.specs.List.{list_any}
 use Rattle.std.specs.Str.{bytes_eq}
@@ -29,10 +29,6 @@ names_fault ns = let below = drop 1 ns in
     (option_or (then_some (not (list_any (bytes_eq (codes "FMAP")) below)) faults.NoFmap)
     (count_fault (length below)))
 
-abbrev pub size_fault : Option ℕ → Option FmdFault
-size_fault None = Some (faults.Ambiguous 0)
-size_fault (Some n) = then_some (nat_eq n 0) (faults.EmptySection 0)
-
 -- an area FMAP smaller than the table
 abbrev pub table_fault : List Area → Option FmdFault
 table_fault areas = then_some
@@ -41,5 +37,6 @@ table_fault areas = then_some
 -- names, root size, places and table, in order
 unfoldable pub layout_fault : Tree → Option FmdFault
 layout_fault t = let areas = areas_below 0 (unwrap_or (size_of t) 0) t [] in
-    option_or (names_fault (names t)) (option_or (size_fault (size_of t))
+    option_or (names_fault (names t)) (option_or (option_map_or
+    (λ n. then_some (nat_eq n 0) (faults.EmptySection 0)) (size_of t) (Some (faults.Ambiguous 0)))
     (option_or (result_err areas) (table_fault (result_unwrap_or areas []))))

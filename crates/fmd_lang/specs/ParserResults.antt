@@ -3,11 +3,10 @@ use Rattle.std.specs.Prelude.{◌≡◌, ◌≢◌, ℕ, ◌+◌, ◌<◌, ◌�
 use Rattle.std.specs.Prelude.{MatchOption, Result, Ok, Err}
 use Rattle.fmd_lang.specs.Words.{Word, word, words_after, kind_of}
 use Rattle.fmd_lang.specs.Faults.{Standing, fault_at, token_fault}
-use Rattle.fmd_lang.specs.Grammar.{Enclosed, AreSections, HasValue}
-use Rattle.fmd_lang.specs.Tree.{Forest, none}
+use Rattle.fmd_lang.specs.Grammar.{HasValue}
 use Rattle.fmd_lang.specs.declared.word.Word.{Word as Piece}
 use Rattle.fmd_lang.specs.declared.parser.Token.{Token}
-use Rattle.fmd_lang.specs.declared.word.Kind.TheVariants.{Number, OpenBrace, CloseBrace}
+use Rattle.fmd_lang.specs.declared.word.Kind.TheVariants.{Number}
 use Rattle.fmd_lang.specs.declared.fault.FmdFault.{FmdFault}
 use Rattle.fmd_lang.specs.declared.fault.FmdFault.TheVariants as faults
 
@@ -48,7 +47,3 @@ pub record IsNext (text : List ℕ) (from depth : ℕ) (token : Token) : Type 0 
   pub kind : kind_of token.word.bytes.now ≡ token.kind
   pub clear : token_fault (kind_of token.word.bytes.now) depth (word_of token.word) ≡ None
   pub value : MatchOption token.value (token.kind ≢ Number) (λ n. HasValue n (word_of token.word))
-
--- sections in braces, or no token
-abbrev pub IsBody : Forest → List Word → Type 0
-IsBody parts = Enclosed OpenBrace CloseBrace (AreSections parts) (parts ≡ none)

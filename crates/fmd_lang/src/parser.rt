@@ -5,12 +5,12 @@ ghost use Rattle.std.specs.Prelude.{Some, None, Err, IfOk, IfErr};
 ghost use Rattle.fmd_lang.specs.Words.{words};
 ghost use Rattle.fmd_lang.specs.Faults.{Stage, depth_limit, fault_at, FailsWith, start};
 ghost use Rattle.fmd_lang.specs.Faults.{past, at_sign, in_annotations, first_fault};
-ghost use Rattle.fmd_lang.specs.Grammar.{IsName, One, HasValue, HaveFlags, IsOffset, IsSize};
+ghost use Rattle.fmd_lang.specs.Grammar.{Enclosed, IsName, One, HasValue, HaveFlags, IsOffset, IsSize};
 ghost use Rattle.fmd_lang.specs.Grammar.{AreAnnotations, AreSections, IsSection, Until};
-ghost use Rattle.fmd_lang.specs.ParserResults.{Parses, IsNext, IsBody, word_of, piece_end};
-ghost use Rattle.fmd_lang.specs.Tree.{view, views};
+ghost use Rattle.fmd_lang.specs.ParserResults.{Parses, IsNext, word_of, piece_end};
+ghost use Rattle.fmd_lang.specs.Tree.{none, view, views};
 ghost use Rattle.fmd_lang.specs.Grammar as grammar;
-ghost use Rattle.fmd_lang.specs.declared.word.Kind.TheVariants.{CloseBrace, CloseParen, Name};
+ghost use Rattle.fmd_lang.specs.declared.word.Kind.TheVariants.{CloseBrace, CloseParen, OpenBrace};
 ghost use Rattle.fmd_lang.specs.declared.word.Kind.TheVariants.{Number};
 
 use crate::fault::{Expected, FmdFault};
@@ -96,8 +96,8 @@ fn body(
     from: usize,
     depth: u32,
 ) -> Result<(Vec<Section>, usize), FmdFault>
-    ensures { Parses (λ v. IsBody (views v.items)) (past 3, depth) (past 4, depth) text.now from
-        result }
+    ensures { Parses (λ v. Enclosed OpenBrace CloseBrace (AreSections (views v.items))
+        (views v.items ≡ none)) (past 3, depth) (past 4, depth) text.now from result }
 {
     let token = peek(text, from, depth)?;
     match token.kind {

@@ -1,12 +1,12 @@
 use Rattle.std.proofs.lemmas.Bool.Decides.{nat_tests}
 use Rattle.std.proofs.Common.{◌≡◌, suc, ◌∷◌, [], refl, rules, arith, inr, add-one, ◌++◌}
 use Rattle.fmd_lang.specs.Faults.{past}
-use Rattle.fmd_lang.specs.ParserResults.{IsBody, word_of, piece_end}
+use Rattle.fmd_lang.specs.ParserResults.{word_of, piece_end}
 use Rattle.fmd_lang.specs.Grammar.{AreSections, Until}
 use Rattle.fmd_lang.specs.Tree.{Tree, view, views}
 use Rattle.fmd_lang.specs.declared.section.Section.TheFolds.{fold-roll-Section}
 use Rattle.fmd_lang.specs.declared.word.Kind.TheVariants.{CloseBrace, Name, OpenBrace}
-use Rattle.fmd_lang.proofs.FormLemmas.{section-opens, sections-snoc}
+use Rattle.fmd_lang.proofs.FormLemmas.{IsBody, section-opens, sections-snoc}
 use Rattle.fmd_lang.proofs.StepLemmas.{parses-after, reads-as, reads-then, token-mark, token-takes}
 use Rattle.fmd_lang.proofs.parser.+section.Goals as goal
 
