@@ -13,7 +13,7 @@ use Rattle.flash_device.specs.Regions.{Range}
 use Rattle.flash_device.proofs.WindowLemmas.{HasRead-within}
 use Rattle.cbfs_walk.specs.declared.cell.Cell.{Cell}
 use Rattle.cbfs_walk.specs.Cells.{PassesChecks, content_start}
-use Rattle.cbfs_walk.specs.Walks.{Passes, reads_over, StepResult, Walking, EndsWalk, by_device, GivesCell, walk_after, answer_by, entry_or, answer_at, reads_at}
+use Rattle.cbfs_walk.specs.Walks.{Passes, reads_over, StepResult, Walking, walk_of, by_device, GivesCell, walk_after, answer_by, entry_or, answer_at, reads_at}
 use Rattle.cbfs_walk.proofs.Checks.{checks_give}
 use Rattle.cbfs_walk.proofs.ReadSequences.{Passes-then}
 use Rattle.cbfs_walk.specs.Shapes.{has_bad_size, is_absent}
@@ -79,19 +79,16 @@ cell_gives size c (Ok step) is good aligned inside told =
 
 -- ---- an ended walk
 
-pub ends_faultless : (a : StepResult) → EndsWalk a → fault_count by_device a ≡ 0
-ends_faultless a e = grind (arith, common_steps)
+pub ends_faultless : (r : Range) (a : StepResult) → (walk_after (walk_of r) a).ended ≡ Some a → fault_count by_device a ≡ 0
+ends_faultless r a e = grind (arith, common_steps)
 
-pub ends_cell : (size at : ℕ) (a : StepResult) → EndsWalk a → GivesCell size at a
-ends_cell size at a e = grind (arith, common_steps)
+pub ends_cell : (r : Range) (size at : ℕ) (a : StepResult) → (walk_after (walk_of r) a).ended ≡ Some a → GivesCell size at a
+ends_cell r size at a e = grind (arith, common_steps)
 
-pub ends_moved : (w : Walking) (a : StepResult) → EndsWalk a → w.ended ≡ Some a → w ≡ walk_after w a
-ends_moved w a e is = grind (arith, common_steps)
+pub ends_moved : (r : Range) (w : Walking) (a : StepResult) → (walk_after (walk_of r) a).ended ≡ Some a → w.ended ≡ Some a → w ≡ walk_after w a
+ends_moved r w a e is = grind (arith, common_steps)
 
 -- ---- the last steps of a walk
 
 abbrev pub IsLast : Step → Type 0
 IsLast step = ((at : ℕ) × (step ≡ steps.Tail at)) ⊎ (step ≡ steps.End)
-
-pub last_reads : (step : Step) (size at : ℕ) → IsLast step → reads_at size at (Ok step) ≡ reads_over (size - at)
-last_reads step size at it = grind (arith, common_steps)

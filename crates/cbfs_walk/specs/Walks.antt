@@ -102,11 +102,6 @@ abbrev pub GivesCell : ℕ → ℕ → StepResult → Type 0
 GivesCell size at (Ok (steps.Cell c)) = IsCellIn size c × (c.at ≡ at)
 GivesCell size at _ = ⊤
 
-abbrev pub EndsWalk : StepResult → Type 0
-EndsWalk (Ok (steps.Cell c)) = ⊥
-EndsWalk (Err faults.Device) = ⊥
-EndsWalk _ = ⊤
-
 -- ---- the maximum number of device calls
 
 abbrev pub reads_at : ℕ → ℕ → StepResult → ℕ

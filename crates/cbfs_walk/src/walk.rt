@@ -61,16 +61,16 @@ pub struct Walk {
 }
 
 impl Model for Walk {
-    ghost use Rattle.std.specs.Prelude.{◌≡◌, ◌*◌, ◌%◌, ◌≤◌};
+    ghost use Rattle.std.specs.Prelude.{◌≡◌, ◌*◌, ◌%◌, ◌≤◌, Some};
     ghost use Rattle.std.specs.Option.{ForSome};
-    ghost use Rattle.cbfs_walk.specs.Walks.{Walking, EndsWalk};
+    ghost use Rattle.cbfs_walk.specs.Walks.{Walking, walk_of, walk_after};
 
     ghost Value = { Walking };
 
     ghost view = { λ w. record { region = w.region; at = w.at; steps = w.steps; ended = w.ended } };
 
     ghost invariant = { λ w. (w.at ≤ w.region.size) × (w.at % 64 ≡ 0) × (64 * w.steps ≤ w.at)
-        × ForSome w.ended EndsWalk };
+        × ForSome w.ended (λ answer. (walk_after (walk_of w.region) answer).ended ≡ Some answer) };
 }
 
 impl Walk {

@@ -1,5 +1,5 @@
 use Rattle.std.proofs.lemmas.Grind.{common_steps}
-use Rattle.std.proofs.Common.{ap, ◌∙◌, ◌+◌, arith, le_refl, rules, Some, None}
+use Rattle.std.proofs.Common.{ap, ◌∙◌, ◌+◌, arith, le_refl, Some, None}
 use Rattle.std.proofs.lemmas.Bool.{eq-eqb, ne_eqb}
 use Rattle.std.proofs.lemmas.Result.{err_from_is_err_and}
 use Rattle.cbfs_walk.specs.AttrWalks.{data_at}
