@@ -18,7 +18,7 @@ use Rattle.cbfs_edit.specs.Runs.{runs}
 use Rattle.cbfs_edit.specs.Places.{is_bad_align, IsWanted, IsFirstPlace, placing_in}
 use Rattle.cbfs_edit.specs.Places.{Fits}
 use Rattle.cbfs_edit.specs.Changes.{Adds, AddLeavesWhole, AddLeavesBefore, IsEmptied, copy_edit_fault}
-use Rattle.cbfs_edit.specs.Additions.{NewComponent, added, added_component, addition_in, empty_between, cell_end, metadata_len_of, is_bad_name, made_at, argument_fault, wanted_for, algorithm_of, digest_of, HasRoom, with_component, IsUnfinished}
+use Rattle.cbfs_edit.specs.Additions.{NewComponent, added, added_component, addition_in, empty_between, cell_end, metadata_len_of, made_at, argument_fault, wanted_for, algorithm_of, digest_of, HasRoom, with_component, IsUnfinished}
 use Rattle.cbfs_edit.specs.Laws.{IsAdded}
 use Rattle.cbfs_edit.specs.declared.fault.EditFault.{EditFault}
 use Rattle.cbfs_edit.specs.declared.group.CellRange.{CellRange}
@@ -63,9 +63,9 @@ record IsAccepted (x : List ℕ) (new : NewComponent) (spot : Spot) (place : Pla
 
 accepted : (x : List ℕ) (new : NewComponent) (spot : Spot) (place : Place) → addition_in x new spot ≡ Ok place → IsAccepted x new spot place
 unfolding addition_in
-accepted x new spot place is = go (is_bad_name new.name) (new.kind == 0 || new.kind == 0xffffffff) (is_bad_align spot) refl refl refl is
+accepted x new spot place is = go (eqb (length new.name) 0 || ltb 127 (length new.name) || list_any is_nul new.name) (new.kind == 0 || new.kind == 0xffffffff) (is_bad_align spot) refl refl refl is
   where
-    go : (n k s : Bool) → is_bad_name new.name ≡ n → (new.kind == 0 || new.kind == 0xffffffff) ≡ k → is_bad_align spot ≡ s
+    go : (n k s : Bool) → (eqb (length new.name) 0 || ltb 127 (length new.name) || list_any is_nul new.name) ≡ n → (new.kind == 0 || new.kind == 0xffffffff) ≡ k → is_bad_align spot ≡ s
         → option_map_or (λ fault. Err fault) (cond n (Some faults.BadName) (cond k (Some faults.BadType) (cond s (Some faults.BadAlign) None))) (placing_in x new.name (wanted_for new spot)) ≡ Ok place → IsAccepted x new spot place
     go true k s e f h p = absurd cc
     go false true s e f h p = absurd cc

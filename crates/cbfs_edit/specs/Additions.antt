@@ -1,7 +1,7 @@
 -- The effect and errors of an addition.
 use Rattle.std.specs.List.{list_any}
 use Rattle.std.specs.Option.{option_map, option_map_or}
-use Rattle.std.specs.Prelude.{◌≡◌, ℕ, ◌+◌, ◌-◌, ◌==◌, ◌||◌, max, Bool, List, [], ◌++◌, length}
+use Rattle.std.specs.Prelude.{◌≡◌, ℕ, ◌+◌, ◌-◌, ◌==◌, ◌||◌, max, List, [], ◌++◌, length}
 use Rattle.std.specs.Prelude.{nat_lt, Option, Some, None, Result, Err, if◌then◌else◌}
 use Rattle.std.specs.Prelude.{◌≤◌, false, take, drop}
 use Rattle.flash_format.specs.Head.{round64}
@@ -79,14 +79,11 @@ module _ (x : List ℕ) (new : NewComponent) (place : Place) where
 
 -- ---- the errors
 
--- empty, more than 127 bytes, or with a NUL
-abbrev pub is_bad_name : List ℕ → Bool
-is_bad_name name = (length name == 0) || nat_lt 127 (length name) || list_any is_nul name
-
--- the first error that depends on no device; 0 and 0xffffffff are the types of free space
+-- The first error that depends on no device: a name that is empty, longer than 127 bytes or has a
+-- NUL; a type of free space.
 abbrev pub argument_fault : List ℕ → ℕ → Spot → Option EditFault
 argument_fault name kind spot =
-    if is_bad_name name then Some BadName
+    if (length name == 0) || nat_lt 127 (length name) || list_any is_nul name then Some BadName
     else (if kind == 0 || kind == 0xffffffff then Some BadType
     else (if is_bad_align spot then Some BadAlign else None))
 

@@ -2,7 +2,7 @@
 use Rattle.std.specs.Prelude.{◌≡◌, ℕ, ◌+◌, List, length, Result, IsTrue, OnOk, ◌⊎◌}
 use Rattle.std.specs.Prelude.{◌-◌, max, drop, Ok, Err, ◌==◌}
 use Rattle.flash_device.specs.Device.{overwritten, SameOutside, Device, refusals}
-use Rattle.flash_device.specs.Pages.{Pages, HasChanged}
+use Rattle.flash_device.specs.Pages.{Pages, HasChanged, OnHonestIn}
 use Rattle.flash_device.specs.Regions.{Range, LiesOn, bytes_in}
 use Rattle.flash_device.specs.declared.paged.CopyInFault.{CopyInFault}
 use Rattle.flash_device.specs.declared.paged.CopyInFault.TheVariants as causes
@@ -35,12 +35,6 @@ abbrev pub copy_edit_fault : CopyInFault → EditFault
 copy_edit_fault causes.Device = faults.Device
 copy_edit_fault causes.Source = faults.Source
 
--- P of a region before and after, on an honest device
-abbrev pub OnHonestChange : {F : Type 0} → Range → Pages F → Pages F
-    → (List ℕ → List ℕ → Type 0) → Type 0
-OnHonestChange region old new P = IsTrue old.device.honest
-    → P (bytes_in region old.device.content) (bytes_in region new.device.content)
-
 -- a property of the size of a region on a device
 pub record HoldsOn (Is : ℕ → Type 0) (r : Range) (device : Device) : Type 0 where
   pub region : LiesOn r device
@@ -52,8 +46,9 @@ pub record HasWrittenIn {F T E : Type 0} (region : Range) (n : ℕ)
     (done : List ℕ → List ℕ) (Left : List ℕ → List ℕ → Type 0) (old new : Pages F)
     (result : Result T E) : Type 0 where
   pub after : HasChanged region n (refusals result) old new
-  pub written : OnHonestChange region old new (λ x y. OnOk result (y ≡ done x))
-  pub left : OnHonestChange region old new Left
+  pub written : OnHonestIn old.device region (λ x.
+      OnOk result (bytes_in region new.device.content ≡ done x))
+  pub left : OnHonestIn old.device region (λ x. Left x (bytes_in region new.device.content))
 
 -- between the commits of an edit: an empty entry's header over the group, then arbitrary bytes up
 -- to `to`

@@ -9,7 +9,7 @@ ghost use Rattle.flash_device.specs.Pages.{HasChanged, HasCopiedIn, OnHonest, Re
 ghost use Rattle.flash_device.specs.Regions.{LiesOn};
 ghost use Rattle.cbfs_edit.specs.Changes.{Adds, by_device, by_source};
 ghost use Rattle.cbfs_edit.specs.Additions.{algorithm_of, argument_fault, choice_of, digest_of};
-ghost use Rattle.cbfs_edit.specs.Additions.{is_bad_name, new_component, wanted_for};
+ghost use Rattle.cbfs_edit.specs.Additions.{new_component, wanted_for};
 
 use crate::fault::EditFault;
 use crate::hashing::Hashing;
@@ -165,7 +165,7 @@ fn wanted_of(name: &[u8], hash: HashChoice, len: u64, spot: Spot) -> Wanted
 fn argument_fault(name: &[u8], kind: u32, spot: Spot) -> Option<EditFault>
     ensures { result ≡ argument_fault name.now kind spot }
 {
-    if is_bad_name(name) {
+    if name.is_empty() || name.len() > 127 || has_nul(name) {
         return Some(EditFault::BadName);
     }
     if kind == 0 || kind == 0xffff_ffff {
@@ -175,12 +175,6 @@ fn argument_fault(name: &[u8], kind: u32, spot: Spot) -> Option<EditFault>
         Spot::Aligned(0) => Some(EditFault::BadAlign),
         Spot::Aligned(_) | Spot::First | Spot::Fixed(_) => None,
     }
-}
-
-fn is_bad_name(name: &[u8]) -> bool
-    ensures { result ≡ is_bad_name name.now }
-{
-    name.is_empty() || name.len() > 127 || has_nul(name)
 }
 
 fn has_nul(name: &[u8]) -> bool

@@ -2,10 +2,10 @@
 ghost use Rattle.std.specs.Prelude.{◌≡◌, ◌≢◌, ◌⊎◌, ◌+◌, ◌/◌, ◌<◌, Ok, Err, if◌then◌else◌, IsTrue};
 ghost use Rattle.std.specs.Prelude.{IsErrOf, IfErr, OnOk};
 ghost use Rattle.flash_device.specs.Device.{fault_count};
-ghost use Rattle.flash_device.specs.Pages.{HasChanged};
-ghost use Rattle.flash_device.specs.Regions.{LiesOn};
+ghost use Rattle.flash_device.specs.Pages.{HasChanged, OnHonestIn};
+ghost use Rattle.flash_device.specs.Regions.{LiesOn, bytes_in};
 ghost use Rattle.cbfs_walk.specs.Shapes.{has_bad_size};
-ghost use Rattle.cbfs_edit.specs.Changes.{OnHonestChange, by_device};
+ghost use Rattle.cbfs_edit.specs.Changes.{by_device};
 ghost use Rattle.cbfs_edit.specs.Formats.{formatted, IsOneFreeCell};
 ghost use Rattle.cbfs_edit.specs.Removals.{last_four};
 
@@ -25,13 +25,13 @@ pub fn format<F: Flash>(paged: &mut Paged<F>, region: Region) -> Result<(), Edit
     ensures answer { IsErrOf result EditFault.Device
         ⊎ (result ≡ (if has_bad_size region.size then Err EditFault.RegionShape else Ok tt)) }
 
-    ensures formatted { OnHonestChange region paged.old paged.new
-        (λ x y. OnOk result (y ≡ formatted x)) }
+    ensures formatted { OnHonestIn paged.old.device region (λ x.
+        OnOk result (bytes_in region paged.new.device.content ≡ formatted x)) }
     ensures refused { IsTrue paged.old.device.honest → IfErr result
         (λ fault. fault ≢ EditFault.Device → paged.new.device.content ≡ paged.old.device.content) }
-    ensures stopped { OnHonestChange region paged.old paged.new (λ x y.
-        IsErrOf result EditFault.Device
-        → ((y ≡ x) ⊎ IsOneFreeCell y) × (last_four y ≡ last_four x)) }
+    ensures stopped { OnHonestIn paged.old.device region (λ x. IsErrOf result EditFault.Device
+        → let y = bytes_in region paged.new.device.content in
+        ((y ≡ x) ⊎ IsOneFreeCell y) × (last_four y ≡ last_four x)) }
 {
     let end = region.size();
     if end == 0 || end % 64 != 0 {
