@@ -1,4 +1,5 @@
 use Rattle.std.proofs.Common.{◌≡◌, ℕ, ◌-◌, List, [], ◌++◌, length, take, replicate, refl, sym, ap, ◌∙◌, arith, append_assoc}
+use Rattle.std.proofs.lemmas.Grind.{common_steps}
 use Rattle.std.specs.Option.{option_copied}
 use Rattle.std.proofs.lemmas.List.{take_at, take-replicate}
 use Rattle.flash_format.specs.declared.head.Head.{Head}
@@ -24,3 +25,6 @@ returns-clause-written c =
     (c.push_text-4.ensures.items ∙ ap (λ (l : List ℕ). c.push_hash.new.bytes.items ++ l) (take-replicate m.gap 63 255 (omega arith))) in
     let copied : c.copy_from_slice.new.self ≡ c.push_text-4.new.buffer.items = c.copy_from_slice.ensures.after ∙ c.as_slice.ensures.value in
     take_at c.copy_from_slice.new.self _ c.len-end.result (ap length copied ∙ sym c.len-end.ensures.value) ∙ copied ∙ items
+
+pub returns-clause-count : goal.returns-clause-count
+returns-clause-count c = grind (arith, common_steps, ap (λ (l : List ℕ). length l) (returns-clause-written c))
