@@ -19,7 +19,7 @@ returns-clause-written c =
     let h : Head = made_head name m.kind d m.gap m.len in
     let nuls = name_room (length name) - length name in
     let head : c.write.result ≡ head_bytes h = c.write.ensures.bytes ∙ ap (λ (k : Head). head_bytes k) (grind arith) in
-    let zeros = ap (λ (k : ℕ). take k (replicate {A = ℕ} 4 0)) {x = c.meta_len-name_end.result - 24 - length name} (omega arith) ∙ take-replicate nuls 4 0 (omega arith) in
+    let zeros : take (c.meta_len-name_end.result - 24 - length name) (replicate {A = ℕ} 4 0) ≡ replicate nuls 0 = ap (λ (k : ℕ). take k (replicate {A = ℕ} 4 0)) {x = c.meta_len-name_end.result - 24 - length name} (omega arith) ∙ take-replicate nuls 4 0 (omega arith) in
     let items = in_a_row c.new-bytes.result.items _ _ _ _ _ (head_bytes h) name (replicate nuls 0) (hash_bytes d) (replicate m.gap 255) c.new-bytes.ensures (rw head at c.push_text.ensures.items) c.push_text-2.ensures.items
     (c.push_text-3.ensures.items ∙ ap (λ (l : List ℕ). c.push_text-2.new.buffer.items ++ l) zeros) c.push_hash.ensures
     (c.push_text-4.ensures.items ∙ ap (λ (l : List ℕ). c.push_hash.new.bytes.items ++ l) (take-replicate m.gap 63 255 (omega arith))) in
