@@ -1,11 +1,11 @@
 -- Made cells decode to their components.
-use Rattle.std.proofs.Common.{◌≡◌, ℕ, zero, suc, ◌+◌, ◌-◌, ◌%◌, ◌^◌, ◌<◌, ◌≤◌, Bool, true, false, List, [], ◌∷◌, ◌++◌, length, take, drop, replicate, Option, Some, None, Result, refl, sym, ap, ◌∙◌, subst, arith, not, append_assoc, length-append, length-drop}
+use Rattle.std.proofs.Common.{◌≡◌, ℕ, zero, suc, ◌+◌, ◌-◌, ◌%◌, ◌^◌, ◌<◌, ◌≤◌, Bool, true, false, List, [], ◌∷◌, ◌++◌, length, take, drop, replicate, Option, Some, None, Result, refl, sym, ap, ◌∙◌, arith, not, append_assoc, length-append, length-drop}
 use Rattle.std.specs.Prelude.{slice_range}
 use Rattle.std.specs.List.{list_any, before_first, prefix_len}
 use Rattle.std.proofs.lemmas.Bool.{le-ltb, ne_eqb, or_from, or_parts, or_right}
 use Rattle.std.proofs.lemmas.Bool.Decides.{nat_tests}
 use Rattle.std.proofs.lemmas.List.Folds.{list_any-append}
-use Rattle.std.proofs.lemmas.List.{take_at, drop_at, append-nil, length-replicate}
+use Rattle.std.proofs.lemmas.List.{take_at, drop_at, length-replicate}
 use Rattle.std.proofs.Math.Seq.{take-append-add}
 use Rattle.byteorder.specs.Numbers.{big_number-reads_back}
 use Rattle.flash_format.specs.declared.head.Head.{Head}
@@ -93,7 +93,7 @@ pub length-padded : (name : List ℕ) → length (padded_name name) ≡ name_roo
 length-padded name = omega (arith, length-append name (replicate (name_room (length name) - length name) 0), length-replicate {A = ℕ} (name_room (length name) - length name) 0)
 
 pub length-metadata : (name : List ℕ) (kind : ℕ) (digest : Option Digest) (gap n : ℕ) → length (made_metadata name kind digest gap n) ≡ (made_head name kind digest gap n).offset
-length-metadata name kind digest gap n = simp (length-append, length-head_bytes, length-padded, length-replicate) (omega arith)
+length-metadata name kind digest gap n = simp (length-append, length-head_bytes, length-replicate) (omega arith)
 
 padded_is : (name : List ℕ) → padded_name name ≡ name ++ (0 ∷ replicate (name_room (length name) - length name - 1) 0)
 padded_is name = ap (λ (l : List ℕ). name ++ l) (zeros_begin (name_room (length name) - length name) (omega arith))
@@ -172,18 +172,11 @@ pub length-made : (name : List ℕ) (kind : ℕ) (digest : Option Digest) (gap :
     → length (made name kind digest gap content last) ≡ round64 (length (made_metadata name kind digest gap (length content) ++ content))
 length-made name kind digest gap content last four = grind (arith, nat_tests, length-append, length-padding, up)
 
-pub made_is_read : (name : List ℕ) (kind : ℕ) (digest : Option Digest) (gap : ℕ) (content : List ℕ) (last : Option (List ℕ)) (more : List ℕ) → IsMade name kind digest gap content → KeepsFour last
-    → IsReadAs name kind digest content (made name kind digest gap content last ++ more) (length (made name kind digest gap content last))
-made_is_read name kind digest gap content last more is four =
-    let whole : List ℕ = made_metadata name kind digest gap (length content) ++ content in
-    let pad : List ℕ = padding (round64 (length whole) - length whole) last in
-    rw (length-made name kind digest gap content last four, append_assoc whole pad more) (metadata_is_read name kind digest gap content (pad ++ more) is)
-
 pub made_alone : (name : List ℕ) (kind : ℕ) (digest : Option Digest) (gap : ℕ) (content : List ℕ) (last : Option (List ℕ)) → IsMade name kind digest gap content → KeepsFour last
     → IsReadAs name kind digest content (made name kind digest gap content last) (length (made name kind digest gap content last))
 made_alone name kind digest gap content last is four =
-    let x : List ℕ = made name kind digest gap content last in
-    subst (λ (l : List ℕ). IsReadAs name kind digest content l (length x)) (append-nil x) (made_is_read name kind digest gap content last [] is four)
+    let whole : List ℕ = made_metadata name kind digest gap (length content) ++ content in
+    rw (length-made name kind digest gap content last four) (metadata_is_read name kind digest gap content (padding (round64 (length whole) - length whole) last) is)
 
 pub hash_as_long : (digest : Option Digest) → IsDigest digest → length (hash_bytes digest) ≡ hash_len digest
 hash_as_long None is = refl

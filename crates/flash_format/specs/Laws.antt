@@ -12,7 +12,7 @@ use Rattle.flash_format.specs.declared.flashmap.Area.{Area}
 use Rattle.flash_format.specs.declared.flashmap.FmapHead.{FmapHead}
 use Rattle.flash_format.specs.Texts.{hexadecimal, is_field, printed_name}
 
--- a cell of span bytes in front of x
+-- a cell of span bytes at the start of x
 pub record EntriesAreReadAlike (x : List ℕ) (span : ℕ) : Type 0 where
   -- a multiple of 64, inside bytes of such a length
   pub positive : 64 ≤ span

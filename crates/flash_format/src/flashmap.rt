@@ -33,7 +33,7 @@ impl FmapHead {
     pub const LENGTH: usize = 56;
 
     /// Decodes a head, or returns `None` without the signature.
-    #[tactic(auto, unfolding(crate::specs::Flashmap::has_signature, crate::specs::Flashmap::fmap_head_of))]
+    #[tactic(auto, unfolding(crate::specs::Flashmap::has_signature))]
     pub fn read(bytes: &[u8; Self::LENGTH]) -> Option<FmapHead>
         ensures { result ≡ then_some (has_signature bytes.now) (fmap_head_of bytes.now) }
     {

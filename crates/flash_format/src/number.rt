@@ -11,9 +11,9 @@ const LIMIT: u64 = 1 << 32;
 pub fn read_number(text: &str) -> Option<u32>
     ensures { result ≡ spec.number_of text.now }
 {
-    let value = match text.as_bytes() {
-        [b'0', b'x', digits @ ..] => digits_value(16, digits),
-        digits => digits_value(10, digits),
+    let value = match text.strip_prefix("0x") {
+        Some(digits) => digits_value(16, digits.as_bytes()),
+        None => digits_value(10, text.as_bytes()),
     };
     match value {
         Some(value) if value < LIMIT => Some(value as u32),

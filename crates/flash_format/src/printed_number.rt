@@ -19,7 +19,7 @@ pub fn digit(value: u8) -> u8
     }
 }
 
-/// Appends `0x` and lower-case digits without leading zeros.
+/// Appends the text of `hexadecimal`.
 pub fn push_hexadecimal<const N: usize>(buffer: &mut ArrayVec<u8, N>, n: u64)
     requires { array_vec_len buffer.old + 18 ≤ N }
     ensures { Pushes buffer.old (hexadecimal n) 18 buffer.new }
@@ -27,7 +27,7 @@ pub fn push_hexadecimal<const N: usize>(buffer: &mut ArrayVec<u8, N>, n: u64)
     push_text(buffer, hexadecimal(n).as_slice());
 }
 
-/// Returns the text of `push_hexadecimal`.
+/// Returns `0x` and lower-case digits without leading zeros.
 #[tactic(auto, unfolding(crate::specs::Texts::hexadecimal))]
 pub fn hexadecimal(n: u64) -> ArrayVec<u8, 18>
     ensures { result.items ≡ hexadecimal n }
