@@ -34,7 +34,7 @@ abbrev pub table_fault : List Area → Option FmdFault
 table_fault areas = then_some
     (nat_lt (fmap_size areas) (fmap_head_len + area_len * length areas)) faults.FmapTooSmall
 
--- names, root size, places and table, in order
+-- the first fault of the names, the root's size (omitted or 0), the places and the table, in order
 unfoldable pub layout_fault : Tree → Option FmdFault
 layout_fault t = let areas = areas_below 0 (unwrap_or (size_of t) 0) t [] in
     option_or (names_fault (names t)) (option_or (option_map_or

@@ -2,7 +2,8 @@
 -- this project's own.
 use Rattle.std.specs.Prelude.{ℕ, ◌-◌, ◌*◌, ◌^◌, nat_eq, nat_lt, if◌then◌else◌, List, ◌∷◌, length}
 use Rattle.std.specs.Map.{lookup}
-use Rattle.std.specs.Prelude.{[], unwrap_or, take, slice_index, Option, Some, None, Result, Ok, Err, option_map}
+use Rattle.std.specs.Prelude.{[], unwrap_or, take, slice_index, Option, Some, None, Result, Ok}
+use Rattle.std.specs.Prelude.{Err, option_map}
 use Rattle.flash_format.specs.Numbers.{digits_value}
 use Rattle.fmd_lang.specs.declared.fault.FmdFault.{FmdFault}
 use Rattle.fmd_lang.specs.declared.fault.FmdFault.TheVariants as faults

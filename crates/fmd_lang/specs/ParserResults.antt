@@ -1,6 +1,6 @@
 -- Tokens of the code, and the results of the parser's functions.
-use Rattle.std.specs.Prelude.{◌≡◌, ◌≢◌, ℕ, ◌+◌, ◌<◌, ◌≤◌, ◌⊎◌, List, [], ◌∷◌, ◌++◌, length, Some, None}
-use Rattle.std.specs.Prelude.{MatchOption, Result, Ok, Err}
+use Rattle.std.specs.Prelude.{◌≡◌, ◌≢◌, ℕ, ◌+◌, ◌<◌, ◌≤◌, ◌⊎◌, List, [], ◌∷◌, ◌++◌, length, Some}
+use Rattle.std.specs.Prelude.{None, MatchOption, Result, Ok, Err}
 use Rattle.fmd_lang.specs.Words.{Word, word, words_after, kind_of}
 use Rattle.fmd_lang.specs.Faults.{Standing, fault_at, token_fault}
 use Rattle.fmd_lang.specs.Grammar.{HasValue}

@@ -26,8 +26,8 @@ section_area at q (section name flags offset size parts) =
     record { offset = at + q.start; size = q.size; name = field_of name; flags = flags }
 
 abbrev mutual
-  -- the areas below a section at `at` of the size `size`, in preorder, added to `areas`; or the
-  -- first fault
+  -- The areas below a section at `at` of the size `size`, in preorder, added to `areas`, or the
+  -- first fault. The section's number is the number of `areas`.
   pub areas_below : ℕ → ℕ → Tree → List Area → Result (List Area) FmdFault
   areas_below at size (section name flags offset given parts) areas =
       and_then (places_of size (siblings (length areas + 1) parts)) (areas_of at parts areas)

@@ -7,7 +7,6 @@ ghost use Rattle.fmd_lang.specs.Tree.{section_count, names, names_of, view, view
 ghost use Rattle.fmd_lang.specs.Layout as spec;
 ghost use Rattle.fmd_lang.specs.Table.{area_limit, areas_below, IsTable};
 ghost use Rattle.fmd_lang.specs.Table as spec_table;
-ghost use Rattle.fmd_lang.specs.LayoutFaults as faults;
 ghost use Rattle.fmd_lang.specs.LayoutFaults.{layout_fault};
 
 use crate::fault::FmdFault;

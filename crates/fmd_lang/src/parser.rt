@@ -5,8 +5,8 @@ ghost use Rattle.std.specs.Prelude.{Some, None, Err, IfOk, IfErr};
 ghost use Rattle.fmd_lang.specs.Words.{words};
 ghost use Rattle.fmd_lang.specs.Faults.{Stage, depth_limit, fault_at, FailsWith, start};
 ghost use Rattle.fmd_lang.specs.Faults.{past, at_sign, in_annotations, first_fault};
-ghost use Rattle.fmd_lang.specs.Grammar.{Enclosed, IsName, One, HasValue, HaveFlags, IsOffset, IsSize};
-ghost use Rattle.fmd_lang.specs.Grammar.{AreAnnotations, AreSections, IsSection, Until};
+ghost use Rattle.fmd_lang.specs.Grammar.{One, HasValue, HaveFlags, IsName, IsOffset, IsSize};
+ghost use Rattle.fmd_lang.specs.Grammar.{AreAnnotations, AreSections, Enclosed, IsSection, Until};
 ghost use Rattle.fmd_lang.specs.ParserResults.{Parses, IsNext, word_of, piece_end};
 ghost use Rattle.fmd_lang.specs.Tree.{none, view, views};
 ghost use Rattle.fmd_lang.specs.Grammar as grammar;
@@ -216,7 +216,8 @@ fn size(text: &[u8], from: usize, depth: u32) -> Result<(Option<u32>, usize), Fm
 /// Returns the token at an offset, or the lexical fault.
 fn peek<'t>(text: &'t [u8], from: usize, depth: u32) -> Result<Token<'t>, FmdFault>
     ensures next { IfOk result (λ token. IsNext text.now from depth token) }
-    ensures refused { IfErr result (λ fault. (s : Stage) → fault_at text.now from (s, depth) ≡ Some fault) }
+    ensures refused { IfErr result (λ fault.
+        (s : Stage) → fault_at text.now from (s, depth) ≡ Some fault) }
 {
     let word = next_word(text, from);
     let kind = word.kind();

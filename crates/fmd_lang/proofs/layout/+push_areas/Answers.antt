@@ -1,6 +1,8 @@
-use Rattle.std.proofs.Common.{refl, ◌∙◌, ap, arith, length, rules}
+use Rattle.std.proofs.Common.{drop, ◌∙◌, ap, arith, length, rules}
 use Rattle.std.proofs.lemmas.Bool.Decides.{nat_tests}
 use Rattle.std.proofs.lemmas.Result.{err_from_is_err_and}
+use Rattle.fmd_lang.specs.Table.{areas_of}
+use Rattle.fmd_lang.specs.Tree.{views}
 use Rattle.fmd_lang.specs.declared.fault.FmdFault.{FmdFault}
 use Rattle.std.proofs.lemmas.List.{drop_all}
 use Rattle.fmd_lang.proofs.LayoutLemmas.{area-is, count-from, none-pushed, part-next, part-pushed, place-inside, row-refused}
@@ -53,4 +55,5 @@ loop-index-preserved t c =
 pub returns : goal.returns
 returns t c =
     let over = rw c.deref-part-items.ensures.value at c.loop-index-test.false in
-    c.loop-index.invariant.items ∙ rw (drop_all c.loop-index.index _ over) refl
+    let left = drop c.loop-index.index c.in_ok-places.places.items in
+    c.loop-index.invariant.items ∙ ap (λ ss. areas_of c.args.at (views ss) c.loop-index.areas.items left) (drop_all c.loop-index.index _ over)
