@@ -185,7 +185,7 @@ fn front_at<F: Flash>(
     Ok(Head::read(&bytes))
 }
 
-#[tactic(auto, using(crate::proofs::Checks::content_fits))]
+#[tactic(auto, using(crate::proofs::Checks::content_fits, crate::proofs::CellNames::field_used))]
 /// Returns the first failed check of a component after the checks of its head. Free space has none.
 fn damage_in<F: Flash>(
     paged: &mut Paged<F>,
