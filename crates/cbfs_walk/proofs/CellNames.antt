@@ -8,7 +8,7 @@ use Rattle.flash_format.specs.declared.head.Head.{Head}
 use Rattle.flash_format.specs.Head.{head_of, is_free}
 use Rattle.flash_format.specs.Entry.{name_end, name_field, is_nul}
 use Rattle.flash_format.specs.Components.{cell_name}
-use Rattle.cbfs_walk.specs.Cells.{IsComponentIn, cell_in}
+use Rattle.cbfs_walk.specs.Cells.{PassesChecks, IsComponentIn, cell_in}
 use Rattle.cbfs_walk.specs.Walks.{StandsIn}
 use Rattle.cbfs_walk.specs.declared.cell.Cell.{Cell}
 use Rattle.cbfs_walk.proofs.Parts.{range-drop, range-take, length-range}
@@ -22,12 +22,14 @@ pub record HasField (size : ℕ) (c : Cell) : Type 0 where
   pub high : name_end c.head ≤ c.head.offset
   pub inside : c.at + name_end c.head ≤ size
 
+pub field_used : (size : ℕ) (c : Cell) → PassesChecks size c → is_free c.head ≡ false → HasField size c
+field_used size c checks used =
+    let k = checks_give (size - c.at) c.head c.span checks in
+    let high = k.name_high used in
+    record { low = k.name_low used; high = high; inside = omega (arith, high, k.room, k.inside) }
+
 pub has_field : (size : ℕ) (c : Cell) → IsComponentIn size c → HasField size c
-has_field size c is =
-    let k = checks_give (size - c.at) c.head c.span is.checks in
-    let low = k.name_low is.used in
-    let high = k.name_high is.used in
-    record { low = low; high = high; inside = omega (arith, high, k.room, k.inside) }
+has_field size c is = field_used size c is.checks is.used
 
 abbrev pub field_of : List ℕ → Cell → List ℕ
 field_of x c = slice_range x (c.at + 24) (c.at + name_end c.head)

@@ -1,13 +1,13 @@
 -- Consecutive reads.
 use Rattle.std.proofs.lemmas.Grind.{common_steps}
 use Rattle.std.proofs.Common.{◌≡◌, ◌⊎◌, inl, inr, ⊎_elim, ℕ, ◌+◌, ◌-◌, ◌*◌, ◌<◌, ◌≤◌, Result, Ok, Err, refl, sym, subst, arith, le_refl}
-use Rattle.std.specs.Prelude.{IfOk, OnOk, length}
+use Rattle.std.specs.Prelude.{IfOk, OnOk, IsErrAnd, List, length}
 use Rattle.flash_device.specs.Device.{refusals}
 use Rattle.flash_device.specs.Pages.{Pages, HasAnswered, HasSeen}
 use Rattle.flash_device.specs.Regions.{Range, LiesOn}
 use Rattle.flash_device.proofs.DeviceLemmas.{refusals-ok}
 use Rattle.flash_device.proofs.WindowLemmas.{HasRead-none, HasRead-then, HasRead-at_most, HasRead-within, ahead_covers, covered}
-use Rattle.cbfs_walk.specs.Walks.{IsLoad, Passes, reads_over}
+use Rattle.cbfs_walk.specs.Walks.{IsLoad, Passes, ReadsIn, reads_over}
 
 pub IfOk-to : {E : Type 0} (result : Result ℕ E) (v w : ℕ) → v ≡ w → IfOk result (λ x. x ≡ v) → IfOk result (λ x. x ≡ w)
 IfOk-to result v w same told = grind (arith, common_steps)
@@ -73,3 +73,8 @@ Passes-within {F} {r} {at} {p} {q} {last} {refused} {old} {new} passes low high 
 pub Passes-answers : {F T E : Type 0} {r : Range} {at end n : ℕ} {old new : Pages F} {result : Result T E} → Passes r at end (refusals result) old new → end < at + 3840 * n
     → HasAnswered n old new result
 Passes-answers {F} {T} {E} {r} {at} {end} {n} {old} {new} {result} passes few = record { read = HasRead-within (reads_over (end - at)) n (refusals result) old new (omega (arith, passes.order, few)) passes.read }
+
+-- reads that fail
+pub ReadsIn-refused : {F T E : Type 0} {r : Range} {at end : ℕ} {old new : Pages F} {Is : List ℕ → T → Type 0} (P : E → Type 0) (result : Result T E) → IsErrAnd result P → Passes r at end 1 old new → ReadsIn r at end old new result Is
+ReadsIn-refused P (Ok value) told passed = absurd told
+ReadsIn-refused P (Err fault) told passed = record { passed = passed; value = λ h. tt }

@@ -86,7 +86,7 @@ impl AttrWalk {
 }
 
 /// Returns the value of a component's first compression attribute, or 0 without one.
-#[tactic(auto, using(crate::proofs::AttributeScans::attributes_found, crate::proofs::Checks::content_fits))]
+#[tactic(auto, using(crate::proofs::Checks::content_fits))]
 pub fn packing<F: Flash>(
     paged: &mut Paged<F>,
     region: Region,

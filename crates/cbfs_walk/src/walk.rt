@@ -185,8 +185,8 @@ fn front_at<F: Flash>(
     Ok(Head::read(&bytes))
 }
 
-#[tactic(auto, using(crate::proofs::Checks::content_fits))]
 /// Returns the first failed check of a component after the checks of its head. Free space has none.
+#[tactic(auto, using(crate::proofs::Checks::content_fits, crate::proofs::CellNames::field_used))]
 fn damage_in<F: Flash>(
     paged: &mut Paged<F>,
     region: Region,

@@ -1,5 +1,5 @@
 use Rattle.std.proofs.Common.{true, false, refl, rules}
-use Rattle.std.proofs.lemmas.Result.{err_from_is_err_and}
+use Rattle.cbfs_walk.proofs.ReadSequences.{ReadsIn-refused}
 use Rattle.cbfs_walk.proofs.AttributeScans.{scanning_start, scanned, lies_still, asked_more, asked_here, are_formed, formed_more, formed_end, formed_malformed}
 use Rattle.cbfs_walk.proofs.attribute_walk.are_well_formed.Goals as goal
 
@@ -28,5 +28,4 @@ returns-in-Malformed g c = record {
 }
 
 pub returns-in_err-head : goal.returns-in_err-head
-returns-in_err-head g c =
-    rw (err_from_is_err_and c.from_residual.result c.from_residual.ensures.1).1 (record { passed = scanned c.loop-head.invariant c.in_err-head.ensures.passes; value = λ h. tt })
+returns-in_err-head g c = ReadsIn-refused _ _ c.from_residual.ensures.1 (scanned c.loop-head.invariant c.in_err-head.ensures.passes)

@@ -1,3 +1,4 @@
+use Rattle.std.proofs.lemmas.Grind.{common_steps}
 use Rattle.std.proofs.Common.{arith, le_refl, ap, ◌∙◌}
 use Rattle.std.specs.Option.{option_map_or}
 use Rattle.flash_format.specs.Head.{be32}
@@ -21,3 +22,6 @@ returns-in-Some-clause-value g c = λ h.
 
 pub returns-in-Some-clause-packing : goal.returns-in-Some-clause-packing
 returns-in-Some-clause-packing g c = λ h stands. IfOk-to _ _ _ (ap packing (attributes_found c.args.region _ c.args.cell.now c.requires.region.inside c.requires.cell stands)) (returns-in-Some-clause-value g c h)
+
+pub returns-in-None-clause-packing : goal.returns-in-None-clause-packing
+returns-in-None-clause-packing g c = grind (arith, common_steps, attributes_found)

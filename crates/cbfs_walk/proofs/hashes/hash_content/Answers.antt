@@ -1,8 +1,7 @@
 use Rattle.std.proofs.lemmas.Grind.{common_steps}
 use Rattle.std.proofs.Common.{arith}
-use Rattle.std.proofs.lemmas.Result.{err_from_is_err_and}
 use Rattle.cbfs_walk.proofs.Checks.{content_fits}
-use Rattle.cbfs_walk.proofs.ReadSequences.{Passes-within}
+use Rattle.cbfs_walk.proofs.ReadSequences.{ReadsIn-refused, Passes-within}
 use Rattle.cbfs_walk.proofs.AttributeScans.{scanned, lies_still}
 use Rattle.cbfs_walk.proofs.Digests.{taking_more, content_taken}
 use Rattle.cbfs_walk.proofs.hashes.hash_content.Goals as goal
@@ -11,9 +10,7 @@ pub piece_in-requires-clause-reach : goal.piece_in-requires-clause-reach
 piece_in-requires-clause-reach g c = record { region = lies_still c.loop-at.invariant c.requires.region; inside = omega (arith, (content_fits c.args.region.size c.args.cell.now c.requires.cell).in_region) }
 
 pub returns-in_err-bytes : goal.returns-in_err-bytes
-returns-in_err-bytes g c =
-    let passed = Passes-within (scanned c.loop-at.invariant (rw c.in_err-bytes.was at c.piece_in.follows.holds-at-none)) (omega arith) (omega arith) in
-    rw (err_from_is_err_and c.from_residual.result c.from_residual.ensures.1).1 (record { passed = passed; value = λ h. tt })
+returns-in_err-bytes g c = ReadsIn-refused _ _ c.from_residual.ensures.1 (Passes-within (scanned c.loop-at.invariant (rw c.in_err-bytes.was at c.piece_in.follows.holds-at-none)) (omega arith) (omega arith))
 
 pub loop-at-preserved : goal.loop-at-preserved
 loop-at-preserved g c =

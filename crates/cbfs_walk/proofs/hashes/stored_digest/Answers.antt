@@ -1,8 +1,7 @@
 use Rattle.std.proofs.lemmas.Grind.{common_steps}
 use Rattle.std.proofs.Common.{arith, le_refl, sym, ◌∙◌, None}
-use Rattle.std.proofs.lemmas.Result.{err_from_is_err_and}
 use Rattle.flash_device.proofs.DeviceLemmas.{honest_still}
-use Rattle.cbfs_walk.proofs.ReadSequences.{Passes-then, Passes-within}
+use Rattle.cbfs_walk.proofs.ReadSequences.{ReadsIn-refused, Passes-then, Passes-within}
 use Rattle.cbfs_walk.proofs.Digests.{stored_by, stored_whole, stored_short}
 use Rattle.cbfs_walk.proofs.hashes.stored_digest.Goals as goal
 
@@ -19,9 +18,7 @@ returns-then-n-len g c = record {
 }
 
 pub returns-in_err-bytes : goal.returns-in_err-bytes
-returns-in_err-bytes g c =
-    let passed = Passes-then c.in_ok-number.ensures.passed (rw c.in_err-bytes.was at c.piece_in.follows.holds-at-none) (le_refl _) (omega arith) (omega (arith, c.if-n-len.false)) in
-    rw (err_from_is_err_and c.from_residual-in_err-bytes.result c.from_residual-in_err-bytes.ensures.1).1 (record { passed = passed; value = λ h. tt })
+returns-in_err-bytes g c = ReadsIn-refused _ _ c.from_residual-in_err-bytes.ensures.1 (Passes-then c.in_ok-number.ensures.passed (rw c.in_err-bytes.was at c.piece_in.follows.holds-at-none) (le_refl _) (omega arith) (omega (arith, c.if-n-len.false)))
 
 pub returns : goal.returns
 returns g c = record {
