@@ -1,6 +1,6 @@
 -- An accepted addition: its place, its effect and its calls.
 use Rattle.std.proofs.Common.{◌≡◌, inl, inr, ℕ, ◌+◌, ◌-◌, ◌%◌, ◌^◌, ◌<◌, ◌≤◌, Bool, true, false, cond, eqb, ltb, ◌||◌, List, [], ◌∷◌, ◌++◌, length, drop, Contains, Option, Some, None, Ok, sym, ◌∙◌, ap, subst, refl, arith, rules, length-append, append_assoc, IsTrue, ◌⊎◌, ⊎_elim, Result, Err}
-use Rattle.std.specs.Prelude.{◌==◌, IsErrOf, slice_range, max, option_copied}
+use Rattle.std.specs.Prelude.{◌==◌, IsErrOf, slice_range, max, min, option_copied}
 use Rattle.std.specs.List.{list_any}
 use Rattle.std.proofs.lemmas.Bool.{cond_both, eqb-false, eqb-true, ltb-false, or_parts}
 use Rattle.std.proofs.lemmas.List.Elements.{Contains-append_right}
@@ -206,10 +206,11 @@ module _ (x : List ℕ) (new : NewComponent) (spot : Spot) (place : Place) (is :
           components = inr (ap (λ (l : List ℕ). components l) done);
           end = ap (λ (l : List ℕ). (cut l).end) done ∙ more.same_end;
           same_length = ap length done ∙ added_length;
-          outside =
-              subst (λ (l : List ℕ). SameOutside place.run.start (place.run.end - place.run.start) x l) (sym done)
-              (SameOutside-overwritten x place.run.start (place.run.end - place.run.start) (before ++ (made_at x new place ++ after)) (omega (arith, whole_long)) (omega (arith, range.some, range.inside)));
-          last = further x y to (max (place.content + length new.content) (length x - 4)) (omega (arith, below)) last;
+          outside = record {
+            before = (subst (λ (l : List ℕ). SameOutside place.run.start (place.run.end - place.run.start) x l) (sym done)
+                (SameOutside-overwritten x place.run.start (place.run.end - place.run.start) (before ++ (made_at x new place ++ after)) (omega (arith, whole_long)) (omega (arith, range.some, range.inside)))).before;
+            after = further x y to (place.run.start + (min place.run.end (max (place.content + length new.content) (length x - 4)) - place.run.start)) (omega (arith, below, near.0, fits.inside)) last;
+          };
         },
       )
 

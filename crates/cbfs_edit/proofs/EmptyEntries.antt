@@ -1,10 +1,10 @@
 -- An edit between its first and last commit: an empty entry's header over a group.
 use Rattle.std.proofs.Common.{◌≡◌, ◌⊎◌, inl, inr, ℕ, ◌+◌, ◌-◌, ◌≤◌, List, ◌++◌, length, sym, ◌∙◌, ap, arith, refl, ◌%◌, Bool, true, false, cond, take, drop, replicate, Some, None, subst, append_assoc, length-append, length-drop, ◌^◌, ◌<◌}
-use Rattle.std.specs.Prelude.{slice_range, ◌==◌}
+use Rattle.std.specs.Prelude.{slice_range, ◌==◌, min}
 use Rattle.flash_format.specs.Made.{header_length, empty_header, padding}
 use Rattle.flash_format.proofs.EmptyEntryLaws.{length-empty_header}
 use Rattle.flash_device.specs.Device.{overwritten, SameOutside}
-use Rattle.flash_device.proofs.BytesLemmas.{SameOutside-overwritten, SameOutside-trans, SameOutside-wider, overwritten-more_at, length-overwritten, length-slice_range, changed-overwritten, overwritten-front, slice_range_is, further}
+use Rattle.flash_device.proofs.BytesLemmas.{SameOutside-overwritten, SameOutside-trans, SameOutside-wider, overwritten-more_at, length-overwritten, length-slice_range, changed-overwritten, overwritten-front, slice_range_is}
 use Rattle.cbfs_edit.specs.Changes.{IsEmptied, IsStopped, SameCells}
 use Rattle.cbfs_edit.specs.declared.group.CellRange.{CellRange}
 use Rattle.cbfs_edit.proofs.Changes.{again, unchanged, within, is_some-cond}
@@ -100,8 +100,7 @@ module _ (x : List ℕ) (group : CellRange) (range : IsCellRange group (length x
         components = cells;
         end = ends;
         same_length = is.same_length;
-        outside = SameOutside-wider x y group.start (to - group.start) (group.end - group.start) (omega (arith, inside)) (emptied-outside order);
-        last = further x y (group.start + (to - group.start)) last (omega (arith, order, later)) (emptied-outside order).after;
+        outside = SameOutside-wider x y group.start (to - group.start) (min group.end last - group.start) (omega (arith, inside, later)) (emptied-outside order);
       }
 
   pub old_or-wider : (to later : ℕ) (y : List ℕ) → to ≤ later → IsOldOrEmptied group to x y → IsOldOrEmptied group later x y

@@ -28,16 +28,16 @@ BeginsWithComponent cells = IfSome (slice_get cells 0) IsComponent
 
 -- ---- a range among the cells of its region
 
-abbrev pub between : (x : List ℕ) (range : CellRange) → length x % 64 ≡ 0 → IsRangeAmong (cut x).cells range → CellsBetween x range.start range.end
-between x range aligned r =
+abbrev pub between : (x : List ℕ) (row : List (List ℕ)) (range : CellRange) → length x % 64 ≡ 0 → IsRangeAmong (cut x).cells row range → CellsBetween x range.start range.end
+between x row range aligned r =
     let all = cut_exists x aligned in
     record {
       before = r.before;
-      group = r.row;
+      group = row;
       after = r.after;
       rest = all.0;
       ending = (cut x).end;
-      is = subst (λ (cells : List (List ℕ)). IsCut x cells all.0 (cut x).end) (r.whole ∙ sym (append_assoc r.before r.row r.after)) all.1;
+      is = subst (λ (cells : List (List ℕ)). IsCut x cells all.0 (cut x).end) (r.whole ∙ sym (append_assoc r.before row r.after)) all.1;
       start_is = r.start_is;
       end_is = r.end_is;
     }
@@ -128,7 +128,6 @@ exact name start at done row (c ∷ cells) group none ends free begun is found =
             subst (λ (g : CellRange). IsGroupOf name (done ++ (row ++ c ∷ cells)) g) (some-inj _ group (rw (used, named) at found)) (record {
               range = record {
                 before = done;
-                row = row ++ c ∷ r.row;
                 after = r.others;
                 whole = ap (λ (l : List (List ℕ)). done ++ (row ++ c ∷ l)) r.whole ∙ ap (λ (l : List (List ℕ)). done ++ l) (sym (append_assoc row (c ∷ r.row) r.others));
                 no_more_before = ends;
@@ -139,7 +138,6 @@ exact name start at done row (c ∷ cells) group none ends free begun is found =
               row_before = row;
               component = c;
               row_after = r.row;
-              row_is = refl;
               is_component = used;
               named = named;
               first = none;
@@ -174,10 +172,10 @@ group_none x name none = none_left name 0 0 (cut x).cells none
 
 -- a group's cells, and its end
 pub whole_of : (name : List ℕ) (cells : List (List ℕ)) (group : CellRange) (g : IsGroupOf name cells group) → cells ≡ g.range.before ++ (g.row_before ++ (g.component ∷ (g.row_after ++ g.range.after)))
-whole_of name cells group g = g.range.whole ∙ ap (λ (row : List (List ℕ)). g.range.before ++ (row ++ g.range.after)) g.row_is ∙ ap (λ (l : List (List ℕ)). g.range.before ++ l) (append_assoc g.row_before (g.component ∷ g.row_after) g.range.after)
+whole_of name cells group g = g.range.whole ∙ ap (λ (l : List (List ℕ)). g.range.before ++ l) (append_assoc g.row_before (g.component ∷ g.row_after) g.range.after)
 
 pub end_of : (name : List ℕ) (cells : List (List ℕ)) (group : CellRange) (g : IsGroupOf name cells group) → group.start + length (concat g.row_before) + length g.component + length (concat g.row_after) ≡ group.end
-end_of name cells group g = omega (arith, g.range.end_is, ap (λ (row : List (List ℕ)). length (concat row)) g.row_is, length-group g.row_before g.component g.row_after)
+end_of name cells group g = omega (arith, g.range.end_is, length-group g.row_before g.component g.row_after)
 
 component_some : (c : List ℕ) → IsComponent c → 0 < length c
 unfolding head_of

@@ -38,7 +38,7 @@ unfolding removal_in
 accepted x name group is =
     let a = accepted_by x (ok_or (group_of x name) faults.NotFound) group is in
     let g : IsGroupOf name (cut x).cells group = group_exact x name group (found-some (group_of x name) faults.NotFound group a.is) in
-    let cells = between x group a.sound.whole g.range in
+    let cells = between x (g.row_before ++ (g.component ∷ g.row_after)) group a.sound.whole g.range in
     record { whole = a.sound.whole; is = g; cells = cells; range = group_range x group cells (group_some x name group g) }
 
 -- an unchanged image
@@ -102,7 +102,7 @@ removal_takes_one x name group small is =
     let a = accepted x name group is in
     let g = a.is in
     let r = g.range in
-    let cells = between x group a.whole r in
+    let cells = between x (g.row_before ++ (g.component ∷ g.row_after)) group a.whole r in
     let first : 0 + length (concat r.before) ≡ group.start = omega (arith, r.start_is) in
     record {
       component = component_at (group.start + length (concat g.row_before)) g.component;

@@ -27,7 +27,8 @@ use Rattle.cbfs_edit.proofs.EmptyEntries.{group_range, emptied-components, empti
 closed : (start at : ℕ) (done row others : List (List ℕ)) (run : CellRange) → EndsWithComponent done → All IsFree row → BeginsWithComponent others → length (concat done) ≡ start → start + length (concat row) ≡ at
     → start < at → record { start = start; end = at } ≡ run → IsRunOf (done ++ (row ++ others)) run
 closed start at done row others run ends free begins begun is some here = subst (λ (r : CellRange). IsRunOf (done ++ (row ++ others)) r) here (record {
-  range = record { before = done; row = row; after = others; whole = refl; no_more_before = ends; no_more_after = begins; start_is = begun; end_is = is };
+  row = row;
+  range = record { before = done; after = others; whole = refl; no_more_before = ends; no_more_after = begins; start_is = begun; end_is = is };
   free = free;
   some = some;
 })
@@ -102,7 +103,7 @@ runs_exact x run = (
   run_maximal x run,
   λ is.
       subst (λ (cs : List (List ℕ)). Contains (runs_from 0 0 cs) run) (sym is.range.whole)
-      (there 0 0 is.range.before is.range.row is.range.after run (λ none. refl) is.range.no_more_before is.free is.range.no_more_after (omega (arith, is.range.start_is)) is.range.end_is is.some),
+      (there 0 0 is.range.before is.row is.range.after run (λ none. refl) is.range.no_more_before is.free is.range.no_more_after (omega (arith, is.range.start_is)) is.range.end_is is.some),
 )
 
 -- ---- runs in order, with a cell between neighbours
@@ -156,7 +157,7 @@ pub record IsRun (x : List ℕ) (run : CellRange) : Type 0 where
 pub run_of : (x : List ℕ) (run : CellRange) → length x % 64 ≡ 0 → Contains (runs x) run → IsRun x run
 run_of x run aligned has =
     let r = run_maximal x run has in
-    let cells : CellsBetween x run.start run.end = between x run aligned r.range in
+    let cells : CellsBetween x run.start run.end = between x r.row run aligned r.range in
     record { cells = cells; free = r.free; range = group_range x run cells r.some }
 
 pub emptied_runs : (x : List ℕ) (run : CellRange) (y : List ℕ) → length x % 64 ≡ 0 → length x < 2 ^ 32 → Contains (runs x) run → IsEmptied run run.end x y → SameCells y x

@@ -1,6 +1,6 @@
 -- The effect of edits on a region, also after a fault.
 use Rattle.std.specs.Prelude.{◌≡◌, ℕ, ◌+◌, List, length, Result, IsTrue, OnOk, ◌⊎◌}
-use Rattle.std.specs.Prelude.{◌-◌, max, drop, Ok, Err, ◌==◌}
+use Rattle.std.specs.Prelude.{◌-◌, max, min, Ok, Err, ◌==◌}
 use Rattle.flash_device.specs.Device.{overwritten, SameOutside, Device, refusals}
 use Rattle.flash_device.specs.Pages.{Pages, HasChanged, OnHonestIn}
 use Rattle.flash_device.specs.Regions.{Range, LiesOn, bytes_in}
@@ -67,8 +67,7 @@ pub record IsStopped (group : CellRange) (kept : ℕ) (x done y : List ℕ) : Ty
   pub components : (components y ≡ components x) ⊎ (components y ≡ components done)
   pub end : (cut y).end ≡ (cut x).end
   pub same_length : length y ≡ length x
-  pub outside : SameOutside group.start (group.end - group.start) x y
-  pub last : drop kept y ≡ drop kept x
+  pub outside : SameOutside group.start (min group.end kept - group.start) x y
 
 -- after a device fault of a removal
 abbrev pub LeavesWhole : List ℕ → List ℕ → List ℕ → Type 0

@@ -61,10 +61,9 @@ IsComponent c = is_free (head_of c) ≡ false
 abbrev pub IsNot : List ℕ → List ℕ → Type 0
 IsNot name c = IsComponent c → bytes_eq (cell_name c) name ≡ false
 
--- adjacent cells between components, or at an end of the cells
-pub record IsRangeAmong (cells : List (List ℕ)) (range : CellRange) : Type 0 where
+-- a row of cells between components, or at an end of the cells
+pub record IsRangeAmong (cells row : List (List ℕ)) (range : CellRange) : Type 0 where
   pub before : List (List ℕ)
-  pub row : List (List ℕ)
   pub after : List (List ℕ)
   pub whole : cells ≡ before ++ (row ++ after)
   pub no_more_before : IfSome (last_or None before) IsComponent
@@ -74,11 +73,10 @@ pub record IsRangeAmong (cells : List (List ℕ)) (range : CellRange) : Type 0 w
 
 -- the first component with the name, and all adjacent free cells
 pub record IsGroupOf (name : List ℕ) (cells : List (List ℕ)) (group : CellRange) : Type 0 where
-  pub range : IsRangeAmong cells group
   pub row_before : List (List ℕ)
   pub component : List ℕ
   pub row_after : List (List ℕ)
-  pub row_is : range.row ≡ row_before ++ (component ∷ row_after)
+  pub range : IsRangeAmong cells (row_before ++ (component ∷ row_after)) group
   pub is_component : IsComponent component
   pub named : bytes_eq (cell_name component) name ≡ true
   pub first : All (IsNot name) range.before

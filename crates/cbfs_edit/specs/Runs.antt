@@ -20,6 +20,7 @@ runs x = runs_from 0 0 (cut x).cells
 
 -- free cells between components, or at an end of the cells
 pub record IsRunOf (cells : List (List ℕ)) (run : CellRange) : Type 0 where
-  pub range : IsRangeAmong cells run
-  pub free : AllFree range.row
+  pub row : List (List ℕ)
+  pub range : IsRangeAmong cells row run
+  pub free : AllFree row
   pub some : run.start < run.end

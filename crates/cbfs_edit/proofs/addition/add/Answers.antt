@@ -50,7 +50,7 @@ returns-in_err-digest-clause-after g c =
     let source = g.S.Source.facts c.args.source.now in
     let is = c.wanted_of-wanted.ensures c.args.kind source.content c.len.ensures.length in
     let len = ap (λ (w : Wanted). w.len) is in
-    let outside = copy-outside c.args.region c.in_ok-place.place.content _ c.write_empty_entry.new.paged.device c.copy_content.new.paged.device source _ (ap (λ n. n + c.in_ok-place.place.content) c.start.ensures) (omega (arith, c.in_ok-place.ensures.found.inside, c.in_ok-place.ensures.found.run.inside, ap (λ (w : Wanted). w.len) is)) _ c.copy_content.ensures.after in
+    let outside = copy-outside c.args.region c.in_ok-place.place.content _ _ _ source _ (ap (λ n. n + c.in_ok-place.place.content) c.start.ensures) (omega (arith, c.in_ok-place.ensures.found.inside, c.in_ok-place.ensures.found.run.inside, ap (λ (w : Wanted). w.len) is)) _ c.copy_content.ensures.after in
     let counts = copy-counts c.in_err-digest.field-0.0 in
     search rules
 
@@ -78,7 +78,7 @@ returns-in_err-describe-clause-after g c =
     let source = g.S.Source.facts c.args.source.now in
     let is = c.wanted_of-wanted.ensures c.args.kind source.content c.len.ensures.length in
     let len = ap (λ (w : Wanted). w.len) is in
-    let outside = copy-outside c.args.region c.in_ok-place.place.content _ c.write_empty_entry.new.paged.device c.copy_content.new.paged.device source _ (ap (λ n. n + c.in_ok-place.place.content) c.start.ensures) (omega (arith, c.in_ok-place.ensures.found.inside, c.in_ok-place.ensures.found.run.inside, ap (λ (w : Wanted). w.len) is)) _ c.copy_content.ensures.after in
+    let outside = copy-outside c.args.region c.in_ok-place.place.content _ _ _ source _ (ap (λ n. n + c.in_ok-place.place.content) c.start.ensures) (omega (arith, c.in_ok-place.ensures.found.inside, c.in_ok-place.ensures.found.run.inside, ap (λ (w : Wanted). w.len) is)) _ c.copy_content.ensures.after in
     search rules
 
 pub returns-in_err-describe-clause-effect : goal.returns-in_err-describe-clause-effect
@@ -101,7 +101,7 @@ returns-clause-after g c =
     let source = g.S.Source.facts c.args.source.now in
     let is = c.wanted_of-wanted.ensures c.args.kind source.content c.len.ensures.length in
     let len = ap (λ (w : Wanted). w.len) is in
-    let outside = copy-outside c.args.region c.in_ok-place.place.content _ c.write_empty_entry.new.paged.device c.copy_content.new.paged.device source _ (ap (λ n. n + c.in_ok-place.place.content) c.start.ensures) (omega (arith, c.in_ok-place.ensures.found.inside, c.in_ok-place.ensures.found.run.inside, ap (λ (w : Wanted). w.len) is)) _ c.copy_content.ensures.after in
+    let outside = copy-outside c.args.region c.in_ok-place.place.content _ _ _ source _ (ap (λ n. n + c.in_ok-place.place.content) c.start.ensures) (omega (arith, c.in_ok-place.ensures.found.inside, c.in_ok-place.ensures.found.run.inside, ap (λ (w : Wanted). w.len) is)) _ c.copy_content.ensures.after in
     search rules
 
 pub returns-clause-effect : goal.returns-clause-effect
