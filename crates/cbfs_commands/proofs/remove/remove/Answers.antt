@@ -1,4 +1,4 @@
-use Rattle.std.proofs.Common.{[], IsTrue, rules}
+use Rattle.std.proofs.Common.{IsTrue, rules}
 use Rattle.flash_device.proofs.DeviceLemmas.{honest_still}
 use Rattle.cbfs_commands.proofs.RefusedEdits.{removal_refused}
 use Rattle.cbfs_commands.proofs.remove.remove.Goals as goal
