@@ -1,8 +1,7 @@
 //! The command line: IMAGE, a subcommand, and its options.
 
 ghost use Rattle.std.specs.Prelude.{◌≡◌, ◌≢◌, ◌<◌, ◌⊎◌, [], ◌∷◌, length, Some, IfSome, IfOk, IfErr};
-ghost use Rattle.std.specs.Prelude.{drop, map, option_map, option_and_then, true};
-ghost use Rattle.flash_format.specs.TypeNames.{type_of_text};
+ghost use Rattle.std.specs.Prelude.{drop, map, option_map, true};
 ghost use Rattle.clap.specs.Words.{fault_of, first_of, has_subcommand, subcommand_rows_of};
 ghost use Rattle.cbfs_line.specs.Subcommands.{command_line};
 ghost use Rattle.cbfs_line.specs.CommandLine.{addition, command_of, creation_of, hash_by, split_names};
