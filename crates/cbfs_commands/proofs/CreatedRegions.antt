@@ -93,8 +93,4 @@ plans_laid n names source plan is =
     let long_erased : length erased ≡ n = length-replicate {A = ℕ} n 0xff in
     let long : length (overwritten erased plan.map.start flashmap) ≡ n = length-overwritten erased plan.map.start flashmap (omega (arith, length-take plan.map_len source, k.fits.room, k.fits.map, long_erased)) ∙ long_erased in
     let parts = or_parts (list_any (share_bytes plan.map) plan.regions.items) (some_overlap plan.regions.items) k.none in
-    record {
-      fits = k.fits;
-      apart = all_apart (plan.map ∷ plan.regions.items) k.none;
-      free = λ small. all_free n (overwritten erased plan.map.start flashmap) plan.regions.items small long k.fits.regions parts.1;
-    }
+    record { fits = k.fits; apart = all_apart (plan.map ∷ plan.regions.items) k.none; free = λ small. all_free n (overwritten erased plan.map.start flashmap) plan.regions.items small long k.fits.regions parts.1 }

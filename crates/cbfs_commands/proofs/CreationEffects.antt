@@ -27,7 +27,7 @@ all-written image filled mapped now read source n at len regions long is_filled 
 module _ (names : List (List ℕ)) {old new source now : Device} where
   module _ {answer : CommandResult} (calls : Calls (call_limit old) (fault_count by_device answer) old new) (reads : Calls ((effect (create names)).source_calls source) (fault_count by_source answer) source now) where
     creation : (answer ≡ Ok tt) ⊎ IsErrOf answer refusals.Device ⊎ IsErrOf answer refusals.Source → OnAllHonest (effect (create names)) old source (λ image content. LeavesOr new.content answer ((effect (create names)).outcome image content)) → HasEffect (effect (create names)) old new source now answer
-    creation may left = record { calls = calls; source_calls = reads; spares = λ h. whole-image _ _ calls.same_length; refused = λ h. grind (arith, common_steps); left = left; stopped = λ h serves. calls.same_length }
+    creation may left = record { calls = calls; source_calls = reads; no_output = λ silent failed. grind (arith, common_steps); spares = λ h. whole-image _ _ calls.same_length; refused = λ h. grind (arith, common_steps); left = left; stopped = λ h serves. calls.same_length }
 
     pub creation_stopped : IsErrOf answer refusals.Device ⊎ IsErrOf answer refusals.Source → HasEffect (effect (create names)) old new source now answer
     creation_stopped failed = creation (inr failed) (λ h serves. grind (arith, common_steps))

@@ -110,25 +110,13 @@ module _ {F W : Type 0} {sink : SinkOf W} where
   module _ {k : ℕ} {old mid new : Pages F} {a b : W} {answer : CommandResult} {t : List ℕ → Printout} (printout : HasOutput sink k mid new a b answer t) where
     -- output after reads
     pub printout-after : {n : ℕ} (m : ℕ) → HasRead n 0 old mid → n + k ≤ m → HasOutput sink m old new a b answer t
-    printout-after {n} m first few = record {
-      read = HasRead-within (n + k) m _ old new few (HasRead-then n k _ old mid new first printout.read);
-      faults = printout.faults;
-      output = printout.output;
-      no_source = printout.no_source;
-      printout = λ h. subst (λ (l : List ℕ). PrintsOut (sink.contents a) (sink.contents b) answer (t l)) (first.device.unchanged h) (printout.printout (honest_still first.device.calls.same_honesty h));
-    }
+    printout-after {n} m first few = record { read = HasRead-within (n + k) m _ old new few (HasRead-then n k _ old mid new first printout.read); faults = printout.faults; output = printout.output; no_source = printout.no_source; printout = λ h. subst (λ (l : List ℕ). PrintsOut (sink.contents a) (sink.contents b) answer (t l)) (first.device.unchanged h) (printout.printout (honest_still first.device.calls.same_honesty h)) }
 
   module _ {k : ℕ} {old new : Pages F} {a b : W} {text : List ℕ → List ℕ} where
     -- a partial text is a prefix of the output
     pub printout-stopped : {refusal : Refusal} {answer : CommandResult} (t : List ℕ → Printout) → HasOutput sink k old new a b (Err refusal) (λ image. shows (text image)) → IsErrAnd answer (λ r. r ≡ refusal)
         → HasOutput sink k old new a b answer (λ image. text_then (text image) (t image))
-    printout-stopped {refusal} {answer} t printout is = subst (λ (r : CommandResult). HasOutput sink k old new a b r (λ image. text_then (text image) (t image))) (handed answer refusal is) (record {
-      read = printout.read;
-      faults = printout.faults;
-      output = printout.output;
-      no_source = printout.no_source;
-      printout = λ h. prints-stopped _ _ refusal (text old.device.content) (t old.device.content) (printout.printout h);
-    })
+    printout-stopped {refusal} {answer} t printout is = subst (λ (r : CommandResult). HasOutput sink k old new a b r (λ image. text_then (text image) (t image))) (handed answer refusal is) (record { read = printout.read; faults = printout.faults; output = printout.output; no_source = printout.no_source; printout = λ h. prints-stopped _ _ refusal (text old.device.content) (t old.device.content) (printout.printout h) })
 
     -- a complete output before the next output
     pub so_far-of : (next : List ℕ → Printout) → HasOutput sink k old new a b (Ok tt) (λ image. shows (text image))

@@ -82,10 +82,7 @@ planned_of n m len area areas plan in_source is =
     let size : found.0.size ≡ map.0.size = ap (λ (r : Range). r.size) roomy.1 in
     let end : found.0.start + found.0.size ≡ map.0.start + map.0.size = ap (λ (r : Range). r.start + r.size) roomy.1 in
     let room : len ≤ found.0.size = enough found.0.size len roomy.0 in
-    subst (λ (q : Plan). IsPlanned n m q) apart.1 (record {
-      fits = record { in_source = in_source; room = omega (arith, room, size); map = omega (arith, lies, end); regions = are_places n areas regions.0 regions.1 };
-      none = apart.0;
-    })
+    subst (λ (q : Plan). IsPlanned n m q) apart.1 (record { fits = record { in_source = in_source; room = omega (arith, room, size); map = omega (arith, lies, end); regions = are_places n areas regions.0 regions.1 }; none = apart.0 })
   where
     enough : (size len : ℕ) → nat_lt size len ≡ false → len ≤ size
     enough size len none = grind (arith, nat_tests)

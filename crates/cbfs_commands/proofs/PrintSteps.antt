@@ -120,13 +120,7 @@ module _ {F W : Type 0} {sink : SinkOf W} {verbose : Bool} {r : Range} {old now 
     lines printout = printout-after printout _ (rw is at read) (omega arith)
 
     pub printed-more : {new : Pages F} {out : W} → Shown few next new out (Ok tt) → (v : Walking) → v ≡ walk_after w a → PrintedTo sink verbose r old new before out v
-    printed-more {new} {out} printout v is_moved = subst (λ (u : Walking). PrintedTo sink verbose r old new before out u) (sym (rw is at is_moved)) (record {
-      region = p.region;
-      going = p.going;
-      inside = omega (arith, given.0.inside, given.1, size);
-      aligned = omega (arith, p.aligned, given.0.whole);
-      printout = so_far-more p.printout _ _ (lines printout) others (reads_with verbose w.at c.span (w.at + c.span) p.aligned given.0.whole given.0.positive (omega arith));
-    })
+    printed-more {new} {out} printout v is_moved = subst (λ (u : Walking). PrintedTo sink verbose r old new before out u) (sym (rw is at is_moved)) (record { region = p.region; going = p.going; inside = omega (arith, given.0.inside, given.1, size); aligned = omega (arith, p.aligned, given.0.whole); printout = so_far-more p.printout _ _ (lines printout) others (reads_with verbose w.at c.span (w.at + c.span) p.aligned given.0.whole given.0.positive (omega arith)) })
 
     pub printed-stops : {new : Pages F} {out : W} {refusal : Refusal} {result : CommandResult} → Shown few next new out (Err refusal) → IsErrAnd result (λ x. x ≡ refusal) → Printed new out result
     printed-stops printout stopped =

@@ -184,8 +184,4 @@ maps_read_back a b more rest fa fb e =
     are_fields_of m f = (refl, (hexadecimal_field m.at (f 0 0 (omega arith)), (name_field _, (decimal_field _ (f 1 0 (omega arith)), (decimal_field _ (f 2 0 (omega arith)), tt)))))
 
 pub lines_read_back : LinesAreReadBack
-lines_read_back = record {
-  cells = are_read_back _ _ (λ c more e. begun _ _ (e ∙ row_shape (is_free (head_of c.1)) c.0 c.1 more)) (λ a b more rest. rows_read_back (is_free (head_of a.1)) (is_free (head_of b.1)) a.0 b.0 a.1 b.1 more rest refl refl);
-  areas = are_read_back _ _ (λ a more e. begun _ _ (e ∙ area_shape a more)) areas_read_back;
-  maps = are_read_back _ _ (λ m more e. let none = e ∙ map_shape m more in cc) maps_read_back;
-}
+lines_read_back = record { cells = are_read_back _ _ (λ c more e. begun _ _ (e ∙ row_shape (is_free (head_of c.1)) c.0 c.1 more)) (λ a b more rest. rows_read_back (is_free (head_of a.1)) (is_free (head_of b.1)) a.0 b.0 a.1 b.1 more rest refl refl); areas = are_read_back _ _ (λ a more e. begun _ _ (e ∙ area_shape a more)) areas_read_back; maps = are_read_back _ _ (λ m more e. let none = e ∙ map_shape m more in cc) maps_read_back }

@@ -143,12 +143,13 @@ abbrev pub OnAllHonest : Effect → Device → Device → (List ℕ → List ℕ
 OnAllHonest d device source P = IsTrue device.honest
     → (0 < d.source_calls source → IsTrue source.honest) → P device.content source.content
 
--- A fault implies a failed call of the device or the source. All fields except the calls require
+-- A fault implies a failed call of the device or the source, or an output. All later fields require
 -- an honest device.
 pub record HasEffect (d : Effect) (old new source source_now : Device)
     (answer : CommandResult) : Type 0 where
   pub calls : Calls (call_limit old) (fault_count by_device answer) old new
   pub source_calls : Calls (d.source_calls source) (fault_count by_source answer) source source_now
+  pub no_output : d.prints ≡ false → IsErrOf answer refusals.Output → ⊥
   -- all bytes outside the region remain, or all bytes without a region
   pub spares : OnHonest old (λ image. MatchOption (d.target image) (new.content ≡ image)
       (λ region. SameOutside region.start region.size image new.content))

@@ -1,11 +1,10 @@
 -- The outcomes of commands on a region, and the effect of an interruption.
-use Rattle.std.specs.Prelude.{◌≡◌, ◌≢◌, ℕ, Bool, List, length, Err, if◌then◌else◌}
+use Rattle.std.specs.Prelude.{ℕ, Bool, List, if◌then◌else◌}
 use Rattle.std.specs.Option.{option_map_or}
 use Rattle.std.specs.Result.{result_map_both}
 use Rattle.flash_format.specs.Components.{Component, is_packed}
 use Rattle.flash_format.specs.Cut.{Cut, cut}
-use Rattle.flash_device.specs.Device.{FirstWritten, PartWritten}
-use Rattle.flash_device.specs.Regions.{Range, bytes_in}
+use Rattle.flash_device.specs.Regions.{bytes_in}
 use Rattle.flash_map.specs.Regions.{region_of}
 use Rattle.cbfs_walk.specs.Search.{component_in, not_found}
 use Rattle.cbfs_walk.specs.CellReadings.{place_after}
@@ -13,7 +12,7 @@ use Rattle.cbfs_walk.specs.Shapes.{shape_fault, refused_or}
 use Rattle.cbfs_commands.specs.declared.refusal.Refusal.TheVariants as refusals
 use Rattle.cbfs_commands.specs.Refusals.{fault_or, store_refusal, walk_refusal}
 use Rattle.cbfs_commands.specs.Rows.{rows_from}
-use Rattle.cbfs_commands.specs.Printouts.{CommandResult, Printout, shows, refuses}
+use Rattle.cbfs_commands.specs.Printouts.{Printout, shows, refuses}
 
 pub record Outcome : Type 0 where
   pub printout : Printout

@@ -1,6 +1,6 @@
 -- The output of `print` and `layout`, in this project's own formats.
 use Rattle.std.specs.Prelude.{ℕ, List, ◌++◌, drop, if◌then◌else◌, Option, Some, None}
-use Rattle.std.specs.Prelude.{◌+◌, ◌/◌, Bool, not, ◌&&◌, [], length, map}
+use Rattle.std.specs.Prelude.{◌+◌, Bool, not, ◌&&◌, [], length, map}
 use Rattle.std.specs.List.{flat_map, scan}
 use Rattle.std.specs.Option.{option_map_or}
 use Rattle.std.specs.Fmt.{decimal}

@@ -1,6 +1,5 @@
 //! The command `add`.
 
-ghost use Rattle.std.specs.Prelude.{IsErrOf};
 ghost use Rattle.cbfs_commands.specs.Effects.{HasEffect, add, effect, on_region};
 
 use crate::refusal::Refusal;
@@ -17,9 +16,8 @@ pub fn add<F: Flash, S: Source>(
     spot: Spot,
     source: &mut S,
 ) -> Result<(), Refusal>
-    ensures effect { HasEffect (effect (on_region region.now (add name.now kind hash spot)))
+    ensures { HasEffect (effect (on_region region.now (add name.now kind hash spot)))
         paged.old.device paged.new.device (S.facts source.old) (S.facts source.new) result }
-    ensures no_output { IsErrOf result Refusal.Output → ⊥ }
 {
     let region = flash_map::region(paged, region)?;
     cbfs_edit::add(paged, region, name, kind, hash, spot, source)?;

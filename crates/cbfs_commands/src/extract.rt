@@ -1,6 +1,6 @@
 //! The command `extract`.
 
-ghost use Rattle.std.specs.Prelude.{◌+◌, ◌/◌, ◌<◌};
+ghost use Rattle.std.specs.Prelude.{◌+◌, ◌/◌};
 ghost use Rattle.flash_format.specs.Components.{component_at};
 ghost use Rattle.cbfs_commands.specs.Outcomes.{extract_region, printed_component, printed_in};
 ghost use Rattle.cbfs_commands.specs.Printouts.{HasOutput, IsComponentOf, cell_bytes};

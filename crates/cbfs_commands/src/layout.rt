@@ -1,8 +1,8 @@
 //! The command `layout`.
 
-ghost use Rattle.std.specs.Prelude.{◌≡◌, ◌+◌, ◌*◌, ◌/◌, ◌<◌, ◌≤◌, length, drop, Ok, Err};
+ghost use Rattle.std.specs.Prelude.{◌≡◌, ◌+◌, ◌/◌, ◌≤◌, length, drop};
 ghost use Rattle.std.specs.List.{flat_map};
-ghost use Rattle.flash_format.specs.Flashmap.{fmap_head_len, area_len, map_len, area_of};
+ghost use Rattle.flash_format.specs.Flashmap.{fmap_head_len, area_len, map_len};
 ghost use Rattle.flash_format.specs.Flashmap.{areas_from};
 ghost use Rattle.cbfs_commands.specs.Rows.{layout, map_line, area_line};
 ghost use Rattle.cbfs_commands.specs.Printouts.{HasOutput, shows};

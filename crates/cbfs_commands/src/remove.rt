@@ -1,6 +1,5 @@
 //! The command `remove`.
 
-ghost use Rattle.std.specs.Prelude.{IsErrOf};
 ghost use Rattle.flash_device.specs.Device.{Device};
 ghost use Rattle.cbfs_commands.specs.Effects.{HasEffect, effect, on_region, remove};
 
@@ -9,9 +8,8 @@ use flash_device::{Flash, Paged};
 
 /// Replaces the first component with the name by free space.
 pub fn remove<F: Flash>(paged: &mut Paged<F>, region: &[u8], name: &[u8]) -> Result<(), Refusal>
-    ensures effect { (source : Device) → HasEffect (effect (on_region region.now (remove name.now)))
+    ensures { (source : Device) → HasEffect (effect (on_region region.now (remove name.now)))
         paged.old.device paged.new.device source source result }
-    ensures no_output { IsErrOf result Refusal.Output → ⊥ }
 {
     let region = flash_map::region(paged, region)?;
     cbfs_edit::remove(paged, region, name)?;

@@ -2,10 +2,9 @@
 
 ghost use Rattle.std.specs.Prelude.{◌≡◌, ◌+◌, ◌≤◌, length, unwrap_or};
 ghost use Rattle.std.specs.Fmt.{decimal};
-ghost use Rattle.std.specs.Option.{ForSome, option_copied, option_map_or};
-ghost use lib.Chars.{codes};
+ghost use Rattle.std.specs.Option.{ForSome, option_copied};
 ghost use Rattle.arrayvec.specs.ArrayVec.{array_vec_len};
-ghost use Rattle.flash_format.specs.Texts.{Pushes, hexadecimal, printed_name};
+ghost use Rattle.flash_format.specs.Texts.{Pushes, hexadecimal};
 ghost use Rattle.cbfs_commands.specs.Rows.{row_text};
 
 use arrayvec::ArrayVec;

@@ -1,6 +1,5 @@
 //! The command `write`.
 
-ghost use Rattle.std.specs.Prelude.{IsErrOf};
 ghost use Rattle.cbfs_commands.specs.Effects.{HasEffect, effect, on_region, write};
 
 use crate::refusal::Refusal;
@@ -12,9 +11,8 @@ pub fn write<F: Flash, S: Source>(
     name: &[u8],
     source: &mut S,
 ) -> Result<(), Refusal>
-    ensures effect { HasEffect (effect (on_region name.now write)) paged.old.device
+    ensures { HasEffect (effect (on_region name.now write)) paged.old.device
         paged.new.device (S.facts source.old) (S.facts source.new) result }
-    ensures no_output { IsErrOf result Refusal.Output → ⊥ }
 {
     let region = flash_map::region(paged, name)?;
     if source.len() != region.size() {

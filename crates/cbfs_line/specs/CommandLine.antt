@@ -10,8 +10,6 @@ use Prim.Native.String.{String}
 use lib.Chars.{codes}
 use Rattle.clap.specs.Words.{Row, first_of}
 use Rattle.clap.specs.Words as clap
-use Rattle.clap.specs.declared.error.ErrorKind.{ErrorKind}
-use Rattle.clap.specs.declared.error.ErrorKind.TheVariants.{OutOfMemory}
 use Rattle.cbfs_line.specs.Subcommands.{command_line}
 use Rattle.flash_format.specs.Numbers.{number_of}
 use Rattle.flash_format.specs.Made.{algorithm_named}
@@ -26,11 +24,6 @@ use Rattle.cbfs_commands.specs.Effects as requests
 use Rattle.cbfs_commands.specs.declared.command.Command.{Command}
 use Rattle.cbfs_commands.specs.declared.refusal.Refusal.{Refusal}
 use Rattle.cbfs_commands.specs.declared.refusal.Refusal.TheVariants as refusals
-
--- an allocation failure, or any other error
-abbrev pub refusal_by : ErrorKind → Refusal
-refusal_by OutOfMemory = refusals.Memory
-refusal_by _ = refusals.Usage
 
 -- the image's path, the subcommand, and the options
 pub record Texts : Type 0 where

@@ -1,20 +1,19 @@
 //! The command line: IMAGE, a subcommand, and its options.
 
 ghost use Rattle.std.specs.Prelude.{◌≡◌, ◌≢◌, ◌<◌, ◌⊎◌, [], ◌∷◌, length, Some, IfSome, IfOk, IfErr};
-ghost use Rattle.std.specs.Prelude.{drop, map, option_map, option_and_then, true};
-ghost use Rattle.flash_format.specs.TypeNames.{type_of_text};
-ghost use Rattle.clap.specs.Words.{fault_of, first_of, has_subcommand, kind_of, subcommand_rows_of};
+ghost use Rattle.std.specs.Prelude.{drop, map, option_map, true};
+ghost use Rattle.clap.specs.Words.{fault_of, first_of, has_subcommand, subcommand_rows_of};
 ghost use Rattle.cbfs_line.specs.Subcommands.{command_line};
 ghost use Rattle.cbfs_line.specs.CommandLine.{addition, command_of, creation_of, hash_by, split_names};
-ghost use Rattle.cbfs_line.specs.CommandLine.{names_of, refusal_by, request_answer, spot_by};
+ghost use Rattle.cbfs_line.specs.CommandLine.{names_of, request_answer, spot_by};
 ghost use Rattle.cbfs_line.specs.CommandLine.{region_named, text, texts_of, verbose_by, with_file, with_image};
 
 use crate::words::whole_command;
 use arrayvec::ArrayVec;
 use cbfs_commands::{Command, MOST_REGIONS, Refusal};
 use cbfs_edit::{HashChoice, Spot};
+use clap::ArgMatches;
 use clap::error::ErrorKind;
-use clap::{ArgMatches, Error};
 use flash_format::{Algorithm, read_number, type_number};
 use std::alloc::Global;
 use std::marker::Model;
@@ -121,7 +120,11 @@ impl<'a> Line<'a> {
         let (Some(name), Some(_)) = (self.option("name"), self.file()) else {
             return Err(Refusal::Usage);
         };
-        match (self.kind(), self.hash(), self.spot()) {
+        let kind = match self.option("type") {
+            Some(text) => type_number(text),
+            None => None,
+        };
+        match (kind, self.hash(), self.spot()) {
             (Some(kind), Some(hash), Some(spot)) => Ok(Command::Add {
                 region,
                 name: name.as_bytes(),
@@ -139,15 +142,6 @@ impl<'a> Line<'a> {
         match self.option("verbose") {
             Some(text) => text == "true",
             None => false,
-        }
-    }
-
-    fn kind(&self) -> Option<u32>
-        ensures { result ≡ option_and_then type_of_text (text self.now "type") }
-    {
-        match self.option("type") {
-            Some(text) => type_number(text),
-            None => None,
         }
     }
 
@@ -199,15 +193,6 @@ fn first_name<'a>(list: &'a str) -> (&'a str, Option<&'a str>)
     }
 }
 
-fn refusal_of(error: Error) -> Refusal
-    ensures { result ≡ refusal_by (kind_of error) }
-{
-    match error.kind() {
-        ErrorKind::OutOfMemory => Refusal::Memory,
-        _ => Refusal::Usage,
-    }
-}
-
 fn line_of<'a>(image: &'a str, mut matches: ArgMatches<'a>) -> Line<'a>
     requires { has_subcommand matches ≡ true }
     ensures { Some result
@@ -241,6 +226,9 @@ pub fn read_line<'a>(alloc: Global, words: &'a [&'a str]) -> Result<Line<'a>, Re
     };
     match command.try_get_matches_from(rest) {
         Ok(matches) => Ok(line_of(image, matches)),
-        Err(error) => Err(refusal_of(error)),
+        Err(error) => match error.kind() {
+            ErrorKind::OutOfMemory => Err(Refusal::Memory),
+            _ => Err(Refusal::Usage),
+        },
     }
 }

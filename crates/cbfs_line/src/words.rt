@@ -1,10 +1,10 @@
 //! The clap command: subcommands with options.
 
 ghost use Rattle.std.specs.Prelude.{◌≡◌, IfOk, true, false};
-ghost use Rattle.clap.specs.Words.{app_of, with_rule};
+ghost use Rattle.clap.specs.Words.{app_of};
 ghost use Rattle.clap.specs.declared.builder.command.Command.TheViews.{out-Command as fields_of};
 ghost use Rattle.cbfs_line.specs.Subcommands.{command_line};
-ghost use Rattle.cbfs_line.specs.Table.{IsLocal, rule_by, with_options, with_row, with_rows};
+ghost use Rattle.cbfs_line.specs.Table.{IsLocal, with_options, with_row, with_rows};
 
 use clap::{Arg, ArgAction, Command};
 use std::alloc::{AllocError, Global};
@@ -96,18 +96,6 @@ const SUBCOMMANDS: [TableRow; 8] = [
     ("create", &[MAP, REGION]),
 ];
 
-fn with_option<'a>(
-    alloc: Global,
-    command: Command<'a>,
-    option: TableOption,
-) -> Result<Command<'a>, AllocError>
-    requires { (fields_of command).has_globals ≡ false }
-    ensures { IfOk result (λ c. IsLocal c (with_rule (app_of command.entry) (rule_by option))) }
-{
-    let arg = Arg::new(alloc, option.id).short(option.letter);
-    command.arg(arg.action(option.action).required(option.required))
-}
-
 fn with_options<'a>(
     alloc: Global,
     mut command: Command<'a>,
@@ -117,7 +105,8 @@ fn with_options<'a>(
     ensures { IfOk result (λ c. IsLocal c (with_options (app_of command.entry) options.entry.now)) }
 {
     while let [option, rest @ ..] = options {
-        command = with_option(alloc, command, *option)?;
+        let arg = Arg::new(alloc, option.id).short(option.letter);
+        command = command.arg(arg.action(option.action).required(option.required))?;
         options = rest;
     }
     Ok(command)

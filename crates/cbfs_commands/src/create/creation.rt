@@ -1,7 +1,7 @@
 //! The command `create`.
 
 ghost use Rattle.std.specs.Prelude.{◌≡◌, ◌+◌, ◌*◌, ◌/◌, ◌≤◌, All, fold, length, map, OnOk, OnErr};
-ghost use Rattle.std.specs.Prelude.{Err, IsErrOf};
+ghost use Rattle.std.specs.Prelude.{Err};
 ghost use Rattle.flash_device.specs.Device.{Calls, refusals};
 ghost use Rattle.flash_device.specs.Laws.{with_edit};
 ghost use Rattle.flash_device.specs.Pages.{OnHonest};
@@ -57,9 +57,8 @@ pub fn create<F: Flash, S: Source>(
     source: &mut S,
 ) -> Result<(), Refusal>
     requires { length names.now ≤ MOST_REGIONS }
-    ensures effect { HasEffect (effect (create (map (λ name. name.now) names.now)))
+    ensures { HasEffect (effect (create (map (λ name. name.now) names.now)))
         paged.old.device paged.new.device (S.facts source.old) (S.facts source.new) result }
-    ensures no_output { IsErrOf result Refusal.Output → ⊥ }
 {
     let image_len = paged.len();
     let plan = read_plan(names, source, image_len)?;

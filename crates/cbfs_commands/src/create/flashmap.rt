@@ -1,6 +1,6 @@
 //! The source's flashmap.
 
-ghost use Rattle.std.specs.Prelude.{◌≡◌, ◌⊎◌, ◌<◌, ◌≤◌, ◌++◌, ◌∷◌, [], List, Option, length, map};
+ghost use Rattle.std.specs.Prelude.{◌≡◌, ◌⊎◌, ◌≤◌, ◌++◌, ◌∷◌, [], List, Option, length, map};
 ghost use Rattle.std.specs.Prelude.{take, drop, IfOk, IfErr};
 ghost use Rattle.std.specs.Option.{ok_or, option_map};
 ghost use lib.Chars.{codes};

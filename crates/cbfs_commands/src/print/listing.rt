@@ -1,6 +1,6 @@
 //! The command `print`.
 
-ghost use Rattle.std.specs.Prelude.{◌≡◌, ◌+◌, ◌/◌, ◌<◌, OnOk, if◌then◌else◌};
+ghost use Rattle.std.specs.Prelude.{◌≡◌, ◌+◌, ◌/◌, OnOk, if◌then◌else◌};
 ghost use Rattle.flash_device.specs.Pages.{HasAnswered, OnHonest};
 ghost use Rattle.flash_device.specs.Regions.{LiesOn, bytes_in};
 ghost use Rattle.cbfs_commands.specs.Outcomes.{print_region, printed_in};

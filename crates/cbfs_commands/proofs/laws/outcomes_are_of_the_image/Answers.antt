@@ -10,8 +10,4 @@ use Rattle.cbfs_commands.proofs.RegionPlaces.{region_lies}
 use Rattle.cbfs_commands.proofs.laws.outcomes_are_of_the_image.Goals as goal
 
 pub returns : goal.returns
-returns c = record {
-  faultless = λ r image source. no_fault ((effect r).outcome image source).printout.answer (own_answer r image source);
-  written_back = λ image name bytes printout. grind (arith, common_steps, eq-eqb, length-bytes_in, overwritten-same, region_lies);
-  of_region = λ name task region image other source here there same. each name region image other here there same task source;
-}
+returns c = record { faultless = λ r image source. no_fault ((effect r).outcome image source).printout.answer (own_answer r image source); written_back = λ image name bytes printout. grind (arith, common_steps, eq-eqb, length-bytes_in, overwritten-same, region_lies); of_region = λ name task region image other source here there same. each name region image other here there same task source }
