@@ -17,10 +17,10 @@ loop-area-preserved g c =
     record {
       read = HasRead-within _ _ 0 _ _ (omega (arith, had.checked.total, add.left, fewer)) (HasRead-then _ _ 0 _ _ _ had.read add.after);
       checked = rw (c.in_ok-push.ensures.items, add.left) (checked_more _ c.loop-area.area-index c.loop-area.left _ c.in_ok-finding.finding c.loop-area.findings.items (c.requires c.loop-area.area-index _ c.loop-area-test.true) add.area had.checked);
-      found = λ h names has. rw add.left (found_more _ names c.loop-area.left c.loop-area.area-index c.args.areas.now _ c.in_ok-finding.finding _ _ _ c.loop-area-test.true c.in_ok-push.ensures.items
-          (rw (device.unchanged h) at (add.found (honest_still device.calls.same_honesty h) names has)) (had.found h names has));
+      found = λ h. rw add.left (found_more _ _ c.loop-area.left c.loop-area.area-index c.args.areas.now _ c.in_ok-finding.finding _ _ _ c.loop-area-test.true c.in_ok-push.ensures.items
+          (rw (device.unchanged h) at (add.found (honest_still device.calls.same_honesty h))) (had.found h));
     }
 
 pub returns-clause-found : goal.returns-clause-found
-returns-clause-found g c = λ h names has.
-    rw (drop_all c.loop-area.area-index c.args.areas.now c.loop-area-test.false, append-nil) at (c.loop-area.invariant.found h names has)
+returns-clause-found g c = λ h.
+    rw (drop_all c.loop-area.area-index c.args.areas.now c.loop-area-test.false, append-nil) at (c.loop-area.invariant.found h)
