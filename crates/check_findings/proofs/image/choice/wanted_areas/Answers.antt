@@ -19,8 +19,6 @@ loop-area-preserved g c =
       inside = more.0;
       count = omega (arith, had.count, more.1);
       areas = λ h.
-          let a = get_or c.args.areas.now c.loop-area.area-index (record { number = 0; area = record { offset = 0; size = 0; name = []; flags = 0 } }) in
-          let p = is_wanted content (is_named_in c.args.expected.now) (has_smaller c.args.areas.now) in
-          let is = (rw (device.unchanged h) at (add.wanted (honest_still device.calls.same_honesty h))) ∙ ap (λ (f : NumberedArea → Bool). is_wanted content (is_named_in c.args.expected.now) f a) c.in_ok-starts.ensures in
-          filtered p c.args.areas.now c.loop-area.area-index _ _ _ c.loop-area-test.true (had.areas h) (rw is at c.in_ok-push_if.ensures);
+          let is = (rw (device.unchanged h) at (add.wanted (honest_still device.calls.same_honesty h))) ∙ ap (λ (f : NumberedArea → Bool). is_wanted content (is_named_in c.args.expected.now) f (get_or c.args.areas.now c.loop-area.area-index (record { number = 0; area = record { offset = 0; size = 0; name = []; flags = 0 } }))) c.in_ok-starts.ensures in
+          filtered (is_wanted content (is_named_in c.args.expected.now) (has_smaller c.args.areas.now)) c.args.areas.now c.loop-area.area-index _ _ _ c.loop-area-test.true (had.areas h) (rw is at c.in_ok-push_if.ensures);
     }

@@ -1,12 +1,8 @@
 use Rattle.std.proofs.Common.{◌≤◌, arith}
-use Rattle.std.proofs.lemmas.List.{append-nil, drop_all}
 use Rattle.flash_device.proofs.DeviceLemmas.{honest_still}
 use Rattle.flash_device.proofs.WindowLemmas.{HasRead-then, HasRead-within}
 use Rattle.check_findings.proofs.ImageLemmas.Regions.{checked_more, found_more}
 use Rattle.check_findings.proofs.image.image.areas_findings.Goals as goal
-
-pub area_finding-requires : goal.area_finding-requires
-area_finding-requires g c = rw c.loop-area.invariant.read.device.calls.same_length (c.requires c.loop-area.area-index _ c.loop-area-test.true)
 
 pub loop-area-preserved : goal.loop-area-preserved
 loop-area-preserved g c =
@@ -21,6 +17,3 @@ loop-area-preserved g c =
           (rw (device.unchanged h) at (add.found (honest_still device.calls.same_honesty h))) (had.found h));
     }
 
-pub returns-clause-found : goal.returns-clause-found
-returns-clause-found g c = λ h.
-    rw (drop_all c.loop-area.area-index c.args.areas.now c.loop-area-test.false, append-nil) at (c.loop-area.invariant.found h)
