@@ -1,17 +1,16 @@
 -- Findings of an image. This project defines their order and the choice of regions.
-use Rattle.std.specs.Prelude.{◌≡◌, ℕ, ◌+◌, ◌-◌, ◌*◌, ◌≤◌, Bool, false, not, ◌&&◌, ◌||◌, All, List}
+use Rattle.std.specs.Prelude.{ℕ, ◌+◌, ◌-◌, ◌*◌, ◌≤◌, Bool, false, not, ◌&&◌, ◌||◌, All, List}
 use Rattle.std.specs.Prelude.{[], ◌∷◌, ◌++◌, filter, length, map, is_none, is_some, nat_le, nat_lt}
 use Rattle.std.specs.Prelude.{◌==◌, if◌then◌else◌}
 use Rattle.std.specs.List.{enumerate_from, find, flat_map, list_any, scan, sum_by}
 use Rattle.std.specs.Option.{option_map_or}
 use Rattle.std.specs.Borrow.{Bor}
 use Rattle.std.specs.Ordering.{nat_cmp}
-use Rattle.std.specs.Str.{bytes_eq}
 use Rattle.std.specs.Cmp.Lexicographic.{slice_cmp}
 use Rattle.std.specs.BTreeMap.{get, get_by}
 use lib.Chars.{codes}
 use Rattle.check_findings.specs.Lists.{only_if}
-use Rattle.flash_format.specs.Flashmap.{is_area}
+use Rattle.flash_format.specs.Flashmap.{is_area, text_of}
 use Rattle.flash_device.specs.Regions.{Range, bytes_in}
 use Rattle.flash_map.specs.declared.areas.NumberedArea.{NumberedArea}
 use Rattle.check_findings.specs.MapFindings.{map_findings}
@@ -48,31 +47,31 @@ begins_at at size a = a.area.offset == at && (nat_le 24 a.area.size && nat_lt a.
 abbrev pub has_smaller : List NumberedArea → NumberedArea → Bool
 has_smaller areas a = list_any (begins_at a.area.offset a.area.size) areas
 
--- the area lies inside the image, and has a name of the list, or begins with an entry and is the
--- smallest at its offset
-abbrev pub is_wanted : List ℕ → List (List ℕ) → List NumberedArea → NumberedArea → Bool
-is_wanted image names areas a = nat_le (area_end a.area) (length image)
-    && (has_one_of names a || (not (has_smaller areas a) && begins_with_entry (bytes_of image a)))
+-- the area lies inside the image, and is expected, or begins with an entry and isn't above a
+-- smaller one
+abbrev pub is_wanted : List ℕ → (NumberedArea → Bool) → (NumberedArea → Bool) → NumberedArea → Bool
+is_wanted image expects has_smaller a = nat_le (area_end a.area) (length image)
+    && (expects a || (not (has_smaller a) && begins_with_entry (bytes_of image a)))
 
-abbrev pub wanted_areas : List ℕ → List (List ℕ) → List NumberedArea → List NumberedArea
-wanted_areas image names areas = filter (is_wanted image names areas) areas
+abbrev pub wanted_areas : List ℕ → (NumberedArea → Bool) → List NumberedArea → List NumberedArea
+wanted_areas image expects areas = filter (is_wanted image expects (has_smaller areas)) areas
 
 -- the areas to check without expected names
 abbrev pub cbfs_areas : List ℕ → List NumberedArea → List NumberedArea
-cbfs_areas image areas = wanted_areas image [] areas
+cbfs_areas image areas = wanted_areas image (has_one_of []) areas
 
 -- of an area, with `left` bytes for checks
-abbrev pub area_finding : List ℕ → List (List ℕ) → ℕ → NumberedArea → ImageFinding
-area_finding image names left a = if nat_le a.area.size left
-    then Region a (region_findings (bytes_of image a)) else NotChecked a (has_one_of names a)
+abbrev pub area_finding : List ℕ → (NumberedArea → Bool) → ℕ → NumberedArea → ImageFinding
+area_finding image expects left a = if nat_le a.area.size left
+    then Region a (region_findings (bytes_of image a)) else NotChecked a (expects a)
 
 -- the remaining bytes for checks
 abbrev pub left_after : ℕ → NumberedArea → ℕ
 left_after left a = if nat_le a.area.size left then left - a.area.size else left
 
 -- of the areas to check, with `left` bytes for checks
-abbrev pub areas_findings : List ℕ → List (List ℕ) → ℕ → List NumberedArea → List ImageFinding
-areas_findings image names left areas = scan left_after (area_finding image names) left areas
+abbrev pub areas_findings : List ℕ → (NumberedArea → Bool) → ℕ → List NumberedArea → List ImageFinding
+areas_findings image expects left areas = scan left_after (area_finding image expects) left areas
 
 -- of a name without an area, by its index
 abbrev pub missing_name : List NumberedArea → ℕ × List ℕ → List ImageFinding
@@ -81,7 +80,7 @@ missing_name areas n = only_if (is_none (find (has_name n.1) areas)) (NoArea n.0
 -- of the map, regions, and names without an area
 unfoldable pub image_findings : List ℕ → List (List ℕ) → List (List ℕ) → List ImageFinding
 image_findings image names expected = let areas = image_areas image in
-    let all = expected_names names expected in map Map (map_findings image)
+    let all = has_one_of (expected_names names expected) in map Map (map_findings image)
     ++ areas_findings image all (2 * length image) (wanted_areas image all areas)
     ++ flat_map (missing_name areas) (enumerate_from 0 names)
 
@@ -105,17 +104,11 @@ pub record AreChecked (n most left : ℕ) (areas : List NumberedArea) : Type 0 w
 
 -- ---- tables of names and offsets
 
-abbrev pub holds_name : NameSet → List ℕ → Bool
-holds_name set name = is_some (get_by (λ k. slice_cmp nat_cmp name k.now) set.names)
+-- the set has the area's name
+abbrev pub is_named_in : NameSet → NumberedArea → Bool
+is_named_in set a = is_some (get_by (λ k. slice_cmp nat_cmp (text_of a.area.name) k.now) set.names)
 
--- the set has exactly these names
-abbrev pub HasNames : NameSet → List (List ℕ) → Type 0
-HasNames set names = (name : List ℕ) → holds_name set name ≡ list_any (λ n. bytes_eq n name) names
-
--- the table has a size below `size` at `at`
-abbrev pub is_below : Starts → ℕ → ℕ → Bool
-is_below s at size = option_map_or (λ n. nat_lt n size) (get nat_cmp s.smallest at) false
-
--- the table has a smaller size exactly if a smaller area with room for an entry has the offset
-abbrev pub HasStarts : Starts → List NumberedArea → Type 0
-HasStarts s areas = (at size : ℕ) → is_below s at size ≡ list_any (begins_at at size) areas
+-- the table has a smaller size at the area's offset
+abbrev pub knows_smaller : Starts → NumberedArea → Bool
+knows_smaller s a =
+    option_map_or (λ n. nat_lt n a.area.size) (get nat_cmp s.smallest a.area.offset) false

@@ -22,7 +22,7 @@ use Rattle.check_findings.proofs.MapLemmas.Sound.{named, none_of}
 use Rattle.check_findings.specs.declared.image.finding.ImageFinding.{ImageFinding}
 use Rattle.check_findings.specs.declared.image.finding.ImageFinding.TheVariants.{Map, NotChecked}
 use Rattle.check_findings.specs.RegionFindings.{region_findings}
-use Rattle.check_findings.specs.ImageFindings.{areas_findings, bytes_of, expected_names, has_one_of, image_findings, is_wanted, left_after, range_of}
+use Rattle.check_findings.specs.ImageFindings.{areas_findings, has_smaller, bytes_of, expected_names, has_one_of, image_findings, is_wanted, left_after, range_of}
 use Rattle.check_findings.specs.Laws.{InFitImages, IsFit}
 use Rattle.check_findings.specs.ImageFindings.{region_areas}
 use Rattle.check_findings.specs.Verdicts.{is_bad, is_bad_map, is_bad_region}
@@ -64,20 +64,20 @@ fit_areas image (Some map) found fit =
 -- ---- checked areas
 
 -- without bad findings, the checked areas are fit
-module _ (needs : Bool) (image : List ℕ) (names : List (List ℕ)) where
+module _ (needs : Bool) (image : List ℕ) (expects : NumberedArea → Bool) where
   fit_areas_of : (left : ℕ) (areas : List NumberedArea) → All (λ (a : NumberedArea). region_of image (text_of a.area.name) ≡ Ok (range_of a)) areas
-      → list_any (is_bad needs) (areas_findings image names left areas) ≡ false → All (IsFit image) (region_areas (areas_findings image names left areas))
+      → list_any (is_bad needs) (areas_findings image expects left areas) ≡ false → All (IsFit image) (region_areas (areas_findings image expects left areas))
   fit_areas_of left [] each fit = All-nil (IsFit image)
   fit_areas_of left (a ∷ areas) each fit =
       let Is : NumberedArea → Type 0 = λ b. region_of image (text_of b.area.name) ≡ Ok (range_of b) in
       go (nat_le a.area.size left) (All-head Is a areas each) fit (fit_areas_of (left_after left a) areas (All-tail Is a areas each))
     where
       rest : List ImageFinding
-      rest = areas_findings image names (left_after left a) areas
+      rest = areas_findings image expects (left_after left a) areas
 
-      go : (checked : Bool) → region_of image (text_of a.area.name) ≡ Ok (range_of a) → list_any (is_bad needs) (cond checked (Region a (region_findings (bytes_of image a))) (NotChecked a (has_one_of names a)) ∷ rest) ≡ false
-          → (list_any (is_bad needs) rest ≡ false → All (IsFit image) (region_areas rest)) → All (IsFit image) (region_areas (cond checked (Region a (region_findings (bytes_of image a))) (NotChecked a (has_one_of names a)) ∷ rest))
-      go false is fit later = later (or_parts (has_one_of names a) _ fit).1
+      go : (checked : Bool) → region_of image (text_of a.area.name) ≡ Ok (range_of a) → list_any (is_bad needs) (cond checked (Region a (region_findings (bytes_of image a))) (NotChecked a (expects a)) ∷ rest) ≡ false
+          → (list_any (is_bad needs) rest ≡ false → All (IsFit image) (region_areas rest)) → All (IsFit image) (region_areas (cond checked (Region a (region_findings (bytes_of image a))) (NotChecked a (expects a)) ∷ rest))
+      go false is fit later = later (or_parts (expects a) _ fit).1
       go true is fit later =
           let x = bytes_of image a in
           let good = or_parts (list_any (is_bad_region needs) (region_findings x)) _ fit in
@@ -92,9 +92,9 @@ maps_bad needs (finding ∷ all) = ap (λ b. is_bad_map finding || b) (maps_bad 
 pub fit_image : InFitImages IsFit
 unfolding image_findings image_areas map_findings IsReached
 fit_image needs image names expected fit =
-    let all = expected_names names expected in
+    let all = has_one_of (expected_names names expected) in
     let areas = image_areas image in
-    let wanted = is_wanted image all areas in
+    let wanted = is_wanted image all (has_smaller areas) in
     let regions = areas_findings image all (2 * length image) (filter wanted areas) in
     let parts = none_of (is_bad needs) (map Map (map_findings image) ++ regions) _ fit in
     let both = none_of (is_bad needs) (map Map (map_findings image)) regions parts.0 in

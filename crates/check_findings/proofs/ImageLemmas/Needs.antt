@@ -101,16 +101,16 @@ module _ (image : List ℕ) (wish : Wish) where
       rw (named, has.1, has.2) (grind (arith, common_steps, none))
 
   -- the first area with the name meets the need
-  met_in : (names : List (List ℕ)) (last : List ImageFinding) → unmet last wish ≡ Some Missing → (left : ℕ) (areas : List NumberedArea)
-      → unmet (areas_findings image names left areas ++ last) wish ≡ None → IsMet image (region_areas (areas_findings image names left areas)) wish
-  met_in names last missing left [] none = absurd cc
-  met_in names last missing left (a ∷ areas) none = go (nat_le a.area.size left) (is_area wish.area a.area) refl none (met_in names last missing (left_after left a) areas)
+  met_in : (expects : NumberedArea → Bool) (last : List ImageFinding) → unmet last wish ≡ Some Missing → (left : ℕ) (areas : List NumberedArea)
+      → unmet (areas_findings image expects left areas ++ last) wish ≡ None → IsMet image (region_areas (areas_findings image expects left areas)) wish
+  met_in expects last missing left [] none = absurd cc
+  met_in expects last missing left (a ∷ areas) none = go (nat_le a.area.size left) (is_area wish.area a.area) refl none (met_in expects last missing (left_after left a) areas)
     where
       rest : List ImageFinding
-      rest = areas_findings image names (left_after left a) areas
+      rest = areas_findings image expects (left_after left a) areas
 
-      go : (checked named : Bool) → is_area wish.area a.area ≡ named → unmet (cond checked (Region a (region_findings (bytes_of image a))) (NotChecked a (has_one_of names a)) ∷ (rest ++ last)) wish ≡ None
-          → (unmet (rest ++ last) wish ≡ None → IsMet image (region_areas rest) wish) → IsMet image (region_areas (cond checked (Region a (region_findings (bytes_of image a))) (NotChecked a (has_one_of names a)) ∷ rest)) wish
+      go : (checked named : Bool) → is_area wish.area a.area ≡ named → unmet (cond checked (Region a (region_findings (bytes_of image a))) (NotChecked a (expects a)) ∷ (rest ++ last)) wish ≡ None
+          → (unmet (rest ++ last) wish ≡ None → IsMet image (region_areas rest) wish) → IsMet image (region_areas (cond checked (Region a (region_findings (bytes_of image a))) (NotChecked a (expects a)) ∷ rest)) wish
       go false named is e later = later e
       go true true is e later = met_here a (region_areas rest) (first_content wish.name (region_findings (bytes_of image a))) is refl (rw is at e)
       go true false is e later = rw is (later (rw is at e))
@@ -124,7 +124,7 @@ passed (other ∷ l) rest wish none = passed l rest wish none
 pub needs_met : (image : List ℕ) (names expected : List (List ℕ)) (wish : Wish) → let all = image_findings image names expected in unmet all wish ≡ None → IsMet image (region_areas all) wish
 unfolding image_findings
 needs_met image names expected wish none =
-    let all = expected_names names expected in
+    let all = has_one_of (expected_names names expected) in
     let areas = image_areas image in
     let last = flat_map (missing_name areas) (enumerate_from 0 names) in
     let regions = areas_findings image all (2 * length image) (wanted_areas image all areas) in

@@ -13,7 +13,7 @@ use Rattle.check_findings.specs.MapFindings.{map_findings}
 use Rattle.flash_map.specs.Areas.{area_end, image_areas}
 use Rattle.check_findings.specs.declared.image.finding.ImageFinding.{ImageFinding}
 use Rattle.check_findings.specs.declared.image.finding.ImageFinding.TheVariants.{Map}
-use Rattle.check_findings.specs.ImageFindings.{area_finding, areas_findings, expected_names, image_findings, left_after, missing_name, wanted_areas}
+use Rattle.check_findings.specs.ImageFindings.{area_finding, areas_findings, expected_names, has_one_of, image_findings, left_after, missing_name, wanted_areas}
 use Rattle.check_findings.specs.ImageFindings.{AreChecked, region_area, region_areas}
 
 pub filtered : (p : NumberedArea → Bool) (xs : List NumberedArea) (i : ℕ) (d : NumberedArea) (before after : List NumberedArea) → i < length xs → before ≡ filter p (take i xs) → after ≡ before ++ cond (p (get_or xs i d)) (get_or xs i d ∷ []) [] → after ≡ filter p (take (i + 1) xs)
@@ -40,9 +40,9 @@ checked_more n i left a f findings fits is had = rw (flat_map-append region_area
     }
     go false gt = rw (append-nil areas) (record { count = omega (arith, had.count); inside = had.inside; total = had.total })
 
-pub found_more : (image : List ℕ) (names : List (List ℕ)) (left i : ℕ) (areas : List NumberedArea) (d : NumberedArea) (f : ImageFinding) (before after all : List ImageFinding) → i < length areas → after ≡ before ++ f ∷ [] → f ≡ area_finding image names left (get_or areas i d)
-    → before ++ areas_findings image names left (drop i areas) ≡ all → after ++ areas_findings image names (left_after left (get_or areas i d)) (drop (i + 1) areas) ≡ all
-found_more image names left i areas d f before after all lt pushed is so_far = grind (arith, common_steps, append_assoc, drop-cons areas i d lt, add-one i, pushed, is, so_far)
+pub found_more : (image : List ℕ) (expects : NumberedArea → Bool) (left i : ℕ) (areas : List NumberedArea) (d : NumberedArea) (f : ImageFinding) (before after all : List ImageFinding) → i < length areas → after ≡ before ++ f ∷ [] → f ≡ area_finding image expects left (get_or areas i d)
+    → before ++ areas_findings image expects left (drop i areas) ≡ all → after ++ areas_findings image expects (left_after left (get_or areas i d)) (drop (i + 1) areas) ≡ all
+found_more image expects left i areas d f before after all lt pushed is so_far = grind (arith, common_steps, append_assoc, drop-cons areas i d lt, add-one i, pushed, is, so_far)
 
 -- ---- the whole
 
@@ -60,6 +60,6 @@ regions_of found areas names first regions second all is pushed last =
     rw (last, flat_map-append region_area second (flat_map (missing_name areas) (enumerate_from 0 names)), no_name_areas areas (enumerate_from 0 names), append-nil (region_areas second), pushed, flat_map-append region_area first regions, is, no_map_areas found) refl
 
 pub found_image : (image : List ℕ) (names expected : List (List ℕ)) (found : List MapFinding) (areas : List NumberedArea) (first regions second all : List ImageFinding) → first ≡ map Map found → second ≡ first ++ regions → all ≡ second ++ flat_map (missing_name areas) (enumerate_from 0 names)
-    → found ≡ map_findings image → areas ≡ image_areas image → regions ≡ areas_findings image (expected_names names expected) (2 * length image) (wanted_areas image (expected_names names expected) areas) → all ≡ image_findings image names expected
+    → found ≡ map_findings image → areas ≡ image_areas image → regions ≡ areas_findings image (has_one_of (expected_names names expected)) (2 * length image) (wanted_areas image (has_one_of (expected_names names expected)) areas) → all ≡ image_findings image names expected
 unfolding image_findings
 found_image image names expected found areas first regions second all is pushed last from_map from_areas from_wanted = rw (last, pushed, is, from_wanted, from_map, from_areas) refl

@@ -1,11 +1,10 @@
 //! The choice of areas to check.
-ghost use Rattle.std.specs.Prelude.{ℕ, ◌≤◌, List, All, IsTrue, length, IfOk};
+ghost use Rattle.std.specs.Prelude.{◌≤◌, All, IsTrue, length, IfOk};
 ghost use Rattle.flash_device.specs.Pages.{HasAnswered, OnHonest, Returns, Lists, HasReadBy};
-ghost use Rattle.flash_map.specs.declared.areas.NumberedArea.{NumberedArea};
 ghost use Rattle.flash_map.specs.Faults.{by_device};
 ghost use Rattle.flash_map.specs.Areas.{area_end};
 ghost use Rattle.check_findings.specs.ImageFindings.{cbfs_areas, is_wanted, wanted_areas};
-ghost use Rattle.check_findings.specs.ImageFindings.{HasNames, HasStarts};
+ghost use Rattle.check_findings.specs.ImageFindings.{is_named_in, knows_smaller};
 
 use crate::image::names::NameSet;
 use crate::image::starts::Starts;
@@ -40,8 +39,8 @@ pub fn wanted_areas<F: Flash>(
     ensures inside { IfOk result (λ wanted.
         All (λ a. area_end a.area ≤ length paged.old.device.content) wanted.items) }
     ensures count { IfOk result (λ wanted. length wanted.items ≤ length areas.now) }
-    ensures areas { OnHonest paged.old.device (λ image. (names : List (List ℕ))
-        → HasNames expected.now names → Lists result (wanted_areas image names areas.now)) }
+    ensures areas { OnHonest paged.old.device (λ image.
+        Lists result (wanted_areas image (is_named_in expected.now) areas.now)) }
 {
     let starts = Starts::of(alloc, areas)?;
     let mut wanted = Vec::new(alloc);
@@ -61,9 +60,8 @@ fn is_wanted<F: Flash>(
     ensures after { HasAnswered 1 paged.old paged.new result }
     ensures inside { IfOk result (λ wanted. IsTrue wanted →
         area_end area.now.area ≤ length paged.old.device.content) }
-    ensures wanted { OnHonest paged.old.device
-        (λ image. (names : List (List ℕ)) (areas : List NumberedArea) → HasNames expected.now names
-        → HasStarts starts.now areas → Returns result (is_wanted image names areas area.now)) }
+    ensures wanted { OnHonest paged.old.device (λ image. Returns result
+        (is_wanted image (is_named_in expected.now) (knows_smaller starts.now) area.now)) }
 {
     let start = u64::from(area.area.offset);
     let size = u64::from(area.area.size);

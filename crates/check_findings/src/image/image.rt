@@ -9,7 +9,7 @@ ghost use Rattle.check_findings.specs.declared.image.finding.ImageFinding.TheVar
 ghost use Rattle.flash_map.specs.Faults.{by_device};
 ghost use Rattle.check_findings.specs.ImageFindings as of;
 ghost use Rattle.check_findings.specs.ImageFindings.{image_findings};
-ghost use Rattle.check_findings.specs.ImageFindings.{HasNames, left_after, names_in};
+ghost use Rattle.check_findings.specs.ImageFindings.{is_named_in, left_after, names_in};
 ghost use Rattle.check_findings.specs.ImageFindings.{AreChecked, region_area, region_areas};
 ghost use Rattle.check_findings.specs.Lists.{GivesPart};
 ghost use Rattle.flash_device.specs.Device.{call_limit};
@@ -43,8 +43,8 @@ fn area_finding<F: Flash>(
     ensures left { left.new ≡ left_after left.old area }
     ensures area { IfOk result (λ finding. region_area finding
         ≡ (if nat_le area.area.size left.old then area ∷ [] else [])) }
-    ensures found { OnHonest paged.old.device (λ image. (names : List (List ℕ)) → HasNames
-        expected.now names → Returns result (of.area_finding image names left.old area)) }
+    ensures found { OnHonest paged.old.device (λ image.
+        Returns result (of.area_finding image (is_named_in expected.now) left.old area)) }
 {
     let start = u64::from(area.area.offset);
     let size = u64::from(area.area.size);
@@ -72,9 +72,8 @@ fn areas_findings<F: Flash>(
         (length paged.old.device.content / 2 + 2 * length areas.now) paged.old paged.new result }
     ensures checked { IfOk result (λ all. AreChecked (length paged.old.device.content)
         (length areas.now) 0 (region_areas all.items)) }
-    ensures found { OnHonest paged.old.device
-        (λ image. (names : List (List ℕ)) → HasNames expected.now names
-        → Lists result (of.areas_findings image names (2 * length image) areas.now)) }
+    ensures found { OnHonest paged.old.device (λ image. Lists result
+        (of.areas_findings image (is_named_in expected.now) (2 * length image) areas.now)) }
 {
     let mut left = MAX_IMAGES * paged.len();
     let mut findings = Vec::new(alloc);

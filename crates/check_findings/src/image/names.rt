@@ -2,7 +2,7 @@
 ghost use Rattle.std.specs.Prelude.{◌≡◌, [], ◌++◌, List, ℕ, IfOk, OnOk};
 ghost use Rattle.check_findings.specs.ImageFindings.{expected_names, has_one_of};
 ghost use Rattle.std.specs.List.{enumerate_from, flat_map};
-ghost use Rattle.check_findings.specs.ImageFindings.{HasNames, missing_name, names_in};
+ghost use Rattle.check_findings.specs.ImageFindings.{is_named_in, missing_name, names_in};
 ghost use Rattle.check_findings.specs.Lists.{Gains};
 
 use crate::image::finding::ImageFinding;
@@ -18,7 +18,7 @@ pub struct NameSet<'a> {
 
 impl<'a> NameSet<'a> {
     pub fn new(alloc: Global) -> NameSet<'a>
-        ensures { HasNames result [] }
+        ensures { is_named_in result ≡ has_one_of [] }
     {
         NameSet {
             names: BTreeMap::new(alloc),
@@ -31,8 +31,8 @@ impl<'a> NameSet<'a> {
         names: &[&'a [u8]],
         expected: &[&'a [u8]],
     ) -> Result<NameSet<'a>, AllocError>
-        ensures { IfOk result (λ set. HasNames set
-            (expected_names (names_in names.now) (names_in expected.now))) }
+        ensures { IfOk result (λ set. is_named_in set
+            ≡ has_one_of (expected_names (names_in names.now) (names_in expected.now))) }
     {
         let mut set = NameSet::new(alloc);
         set.add_all(names)?;
@@ -42,8 +42,8 @@ impl<'a> NameSet<'a> {
     }
 
     fn add_all(&mut self, names: &[&'a [u8]]) -> Result<(), AllocError>
-        ensures { (before : List (List ℕ)) → HasNames self.old before →
-            OnOk result (HasNames self.new (before ++ names_in names.now)) }
+        ensures { (before : List (List ℕ)) → is_named_in self.old ≡ has_one_of before →
+            OnOk result (is_named_in self.new ≡ has_one_of (before ++ names_in names.now)) }
     {
         for name in names {
             self.names.insert(*name, ())?;
@@ -52,8 +52,7 @@ impl<'a> NameSet<'a> {
     }
 
     pub fn contains(&self, area: &NumberedArea) -> bool
-        ensures { (names : List (List ℕ)) → HasNames self.now names →
-            result ≡ has_one_of names area.now }
+        ensures { result ≡ is_named_in self.now area.now }
     {
         self.names.contains_key(area.area.text())
     }

@@ -1,8 +1,7 @@
 //! Smallest sizes of areas by offset.
 ghost use Rattle.std.specs.Prelude.{◌≡◌, ◌∷◌, [], ◌++◌, List, IfOk, OnOk};
 ghost use Rattle.flash_map.specs.declared.areas.NumberedArea.{NumberedArea};
-ghost use Rattle.check_findings.specs.ImageFindings.{has_smaller};
-ghost use Rattle.check_findings.specs.ImageFindings.{HasStarts};
+ghost use Rattle.check_findings.specs.ImageFindings.{has_smaller, knows_smaller};
 
 use flash_map::NumberedArea;
 use std::alloc::{AllocError, Global};
@@ -19,7 +18,7 @@ pub struct Starts {
 
 impl Starts {
     pub fn of(alloc: Global, areas: &[NumberedArea]) -> Result<Starts, AllocError>
-        ensures { IfOk result (λ starts. HasStarts starts areas.now) }
+        ensures { IfOk result (λ starts. knows_smaller starts ≡ has_smaller areas.now) }
     {
         let mut starts = Starts {
             smallest: BTreeMap::new(alloc),
@@ -31,8 +30,8 @@ impl Starts {
     }
 
     fn add(&mut self, area: &NumberedArea) -> Result<(), AllocError>
-        ensures { (before : List NumberedArea) → HasStarts self.old before →
-            OnOk result (HasStarts self.new (before ++ area.now ∷ [])) }
+        ensures { (before : List NumberedArea) → knows_smaller self.old ≡ has_smaller before →
+            OnOk result (knows_smaller self.new ≡ has_smaller (before ++ area.now ∷ [])) }
     {
         let size = area.area.size;
         if size >= HEAD && !self.has_smaller(area) {
@@ -43,8 +42,7 @@ impl Starts {
 
     /// Returns whether the table has a smaller area at the same offset.
     pub fn has_smaller(&self, area: &NumberedArea) -> bool
-        ensures { (areas : List NumberedArea) → HasStarts self.now areas →
-            result ≡ has_smaller areas area.now }
+        ensures { result ≡ knows_smaller self.now area.now }
     {
         self.smallest
             .get(&area.area.offset)

@@ -7,8 +7,5 @@ pub returns-clause-blocks : goal.returns-clause-blocks
 returns-clause-blocks g c = λ h k.
     let old = ap (λ (l : Both ℕ). l.old) c.lengths-lens.ensures.lengths in
     let new = ap (λ (l : Both ℕ). l.new) c.lengths-lens.ensures.lengths in
-    let both = c.in-Some-Some in
-    let first = rw both.is-0 at c.within-old.ensures in
-    let second = rw both.is-1 at c.within-new.ensures in
-    different_blocks-all _ _ (record { old = both.old; new = both.new }) c.lengths-lens.result c.blocks_of-shorter.result c.blocks_of-longer.result c.in_ok-common.common.blocks _
-    (rw (first.0, second.0) refl) old new (omega arith) (omega arith) (c.in_ok-common.ensures.blocks h k) (omega arith)
+    different_blocks-all _ _ (record { old = c.in-Some-Some.old; new = c.in-Some-Some.new }) c.lengths-lens.result c.blocks_of-shorter.result c.blocks_of-longer.result c.in_ok-common.common.blocks _
+    (rw ((rw c.in-Some-Some.is-0 at c.within-old.ensures).0, (rw c.in-Some-Some.is-1 at c.within-new.ensures).0) refl) old new (omega arith) (omega arith) (c.in_ok-common.ensures.blocks h k) (omega arith)

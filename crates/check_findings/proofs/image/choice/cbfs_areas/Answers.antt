@@ -1,5 +1,4 @@
-use Rattle.std.proofs.Common.{[]}
 use Rattle.check_findings.proofs.image.choice.cbfs_areas.Goals as goal
 
 pub returns-clause-areas : goal.returns-clause-areas
-returns-clause-areas g c = λ h. c.wanted_areas.ensures.areas h [] c.new-none.ensures
+returns-clause-areas g c = λ h. rw c.new-none.ensures at (c.wanted_areas.ensures.areas h)

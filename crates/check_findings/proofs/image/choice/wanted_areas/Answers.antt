@@ -1,8 +1,9 @@
-use Rattle.std.proofs.Common.{◌≤◌, length, arith}
+use Rattle.std.proofs.Common.{◌≤◌, ◌∙◌, [], get_or, Bool, length, ap, arith}
+use Rattle.flash_map.specs.declared.areas.NumberedArea.{NumberedArea}
 use Rattle.flash_device.proofs.DeviceLemmas.{honest_still}
 use Rattle.flash_device.proofs.WindowLemmas.{HasRead-then}
 use Rattle.flash_map.specs.Areas.{area_end}
-use Rattle.check_findings.specs.ImageFindings.{is_wanted}
+use Rattle.check_findings.specs.ImageFindings.{has_smaller, is_named_in, is_wanted}
 use Rattle.check_findings.proofs.ImageLemmas.Regions.{filtered, wanted_more}
 use Rattle.check_findings.proofs.image.choice.wanted_areas.Goals as goal
 
@@ -17,8 +18,7 @@ loop-area-preserved g c =
       read = HasRead-then _ 1 0 _ _ _ had.read add.after.read;
       inside = more.0;
       count = omega (arith, had.count, more.1);
-      areas = λ h names has.
-          let p = is_wanted content names c.args.areas.now in
-          let is = rw (device.unchanged h) at (add.wanted (honest_still device.calls.same_honesty h) names c.args.areas.now has c.in_ok-starts.ensures) in
-          filtered p c.args.areas.now c.loop-area.area-index _ _ _ c.loop-area-test.true (had.areas h names has) (rw is at c.in_ok-push_if.ensures);
+      areas = λ h.
+          let is = (rw (device.unchanged h) at (add.wanted (honest_still device.calls.same_honesty h))) ∙ ap (λ (f : NumberedArea → Bool). is_wanted content (is_named_in c.args.expected.now) f (get_or c.args.areas.now c.loop-area.area-index (record { number = 0; area = record { offset = 0; size = 0; name = []; flags = 0 } }))) c.in_ok-starts.ensures in
+          filtered (is_wanted content (is_named_in c.args.expected.now) (has_smaller c.args.areas.now)) c.args.areas.now c.loop-area.area-index _ _ _ c.loop-area-test.true (had.areas h) (rw is at c.in_ok-push_if.ensures);
     }

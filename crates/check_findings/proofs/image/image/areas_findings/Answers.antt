@@ -1,12 +1,8 @@
 use Rattle.std.proofs.Common.{◌≤◌, arith}
-use Rattle.std.proofs.lemmas.List.{append-nil, drop_all}
 use Rattle.flash_device.proofs.DeviceLemmas.{honest_still}
 use Rattle.flash_device.proofs.WindowLemmas.{HasRead-then, HasRead-within}
 use Rattle.check_findings.proofs.ImageLemmas.Regions.{checked_more, found_more}
 use Rattle.check_findings.proofs.image.image.areas_findings.Goals as goal
-
-pub area_finding-requires : goal.area_finding-requires
-area_finding-requires g c = rw c.loop-area.invariant.read.device.calls.same_length (c.requires c.loop-area.area-index _ c.loop-area-test.true)
 
 pub loop-area-preserved : goal.loop-area-preserved
 loop-area-preserved g c =
@@ -17,10 +13,7 @@ loop-area-preserved g c =
     record {
       read = HasRead-within _ _ 0 _ _ (omega (arith, had.checked.total, add.left, fewer)) (HasRead-then _ _ 0 _ _ _ had.read add.after);
       checked = rw (c.in_ok-push.ensures.items, add.left) (checked_more _ c.loop-area.area-index c.loop-area.left _ c.in_ok-finding.finding c.loop-area.findings.items (c.requires c.loop-area.area-index _ c.loop-area-test.true) add.area had.checked);
-      found = λ h names has. rw add.left (found_more _ names c.loop-area.left c.loop-area.area-index c.args.areas.now _ c.in_ok-finding.finding _ _ _ c.loop-area-test.true c.in_ok-push.ensures.items
-          (rw (device.unchanged h) at (add.found (honest_still device.calls.same_honesty h) names has)) (had.found h names has));
+      found = λ h. rw add.left (found_more _ _ c.loop-area.left c.loop-area.area-index c.args.areas.now _ c.in_ok-finding.finding _ _ _ c.loop-area-test.true c.in_ok-push.ensures.items
+          (rw (device.unchanged h) at (add.found (honest_still device.calls.same_honesty h))) (had.found h));
     }
 
-pub returns-clause-found : goal.returns-clause-found
-returns-clause-found g c = λ h names has.
-    rw (drop_all c.loop-area.area-index c.args.areas.now c.loop-area-test.false, append-nil) at (c.loop-area.invariant.found h names has)

@@ -1,7 +1,7 @@
-use Rattle.std.proofs.Common.{◌≡◌, ◌+◌, ◌-◌, ◌*◌, ◌/◌, ◌++◌, ℕ, List, drop, length}
+use Rattle.std.proofs.Common.{◌≡◌, ◌+◌, ◌-◌, ◌*◌, ◌/◌, ◌++◌, drop, length}
 use Rattle.flash_device.specs.Pages.{HasRead, OnHonest}
 use Rattle.check_findings.specs.ImageFindings.{areas_findings}
-use Rattle.check_findings.specs.ImageFindings.{HasNames}
+use Rattle.check_findings.specs.ImageFindings.{is_named_in}
 use Rattle.check_findings.specs.ImageFindings.{AreChecked, region_areas}
 use Rattle.check_findings.proofs.image.image.areas_findings.Given as goal
 
@@ -11,6 +11,6 @@ invariant-loop-area g l =
     record {
       read : HasRead ((2 * n - l.left) / 16 + 2 * l.area-index) 0 l.initial.paged l.paged;
       checked : AreChecked n l.area-index l.left (region_areas l.findings.items);
-      found : OnHonest l.initial.paged.device (λ image. (names : List (List ℕ)) → HasNames l.expected names →
-          l.findings.items ++ areas_findings image names l.left (drop l.area-index l.areas) ≡ areas_findings image names (2 * length image) l.areas);
+      found : OnHonest l.initial.paged.device (λ image.
+          l.findings.items ++ areas_findings image (is_named_in l.expected) l.left (drop l.area-index l.areas) ≡ areas_findings image (is_named_in l.expected) (2 * length image) l.areas);
     }

@@ -19,7 +19,7 @@ returns-clause-findings g c = λ h.
     let map = c.check_map.ensures.after.device in
     let wanted = c.wanted_areas.ensures.after.device in
     let here = honest_still map.calls.same_honesty h in
-    let named = rw (map.unchanged h, c.deref-2.ensures.value) at (c.in_ok-wanted.ensures.areas here _ c.in_ok-set.ensures) in
-    let found = rw (wanted.unchanged here, map.unchanged h, c.deref-3.ensures.value, named) at (c.in_ok-regions.ensures.found (honest_still wanted.calls.same_honesty here) _ c.in_ok-set.ensures) in
+    let named = rw (map.unchanged h, c.deref-2.ensures.value, c.in_ok-set.ensures) at (c.in_ok-wanted.ensures.areas here) in
+    let found = rw (wanted.unchanged here, map.unchanged h, c.deref-3.ensures.value, named, c.in_ok-set.ensures) at (c.in_ok-regions.ensures.found (honest_still wanted.calls.same_honesty here)) in
     found_image _ _ _ c.deref.result.now c.deref-4.result.now _ c.in_ok-regions.regions.items _ _ c.in_ok-findings.ensures c.in_ok-append.ensures.items c.in_ok-push_missing.ensures
     (c.deref.ensures.value ∙ c.in_ok-map.ensures.answer h) (c.deref-4.ensures.value ∙ c.in_ok-map.ensures.areas h) (rw c.deref-4.ensures.value found)

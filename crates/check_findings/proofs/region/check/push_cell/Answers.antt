@@ -1,4 +1,4 @@
-use Rattle.std.proofs.Common.{◌≡◌, ◌∙◌, List, ℕ, rules, sym, subst}
+use Rattle.std.proofs.Common.{◌≡◌, ◌∙◌, List, ℕ, sym, subst}
 use Rattle.flash_format.specs.Components.{cell_attributes, cell_content, packing}
 use Rattle.flash_device.specs.Regions.{bytes_in}
 use Rattle.flash_device.proofs.DeviceLemmas.{honest_still}

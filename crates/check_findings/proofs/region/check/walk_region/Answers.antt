@@ -1,4 +1,4 @@
-use Rattle.std.proofs.Common.{◌+◌, ap, refl, rules, sym, ◌∙◌}
+use Rattle.std.proofs.Common.{◌+◌, ap, refl, sym, ◌∙◌}
 use Rattle.cbfs_walk.specs.Walks.{Walking}
 use Rattle.check_findings.proofs.RegionLemmas.WalkSteps.{checking_start, checking_more, checking_end, checking_tail, checking_damage, checking_size, checking_absent}
 use Rattle.check_findings.proofs.region.check.walk_region.Goals as goal

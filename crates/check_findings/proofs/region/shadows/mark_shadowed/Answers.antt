@@ -4,12 +4,9 @@ use Rattle.std.proofs.Math.Seq.{take-suc}
 use Rattle.std.proofs.lemmas.List.{take_all}
 use Rattle.std.specs.List.{fold}
 use Rattle.check_findings.specs.declared.region.finding.RegionFinding.{RegionFinding}
-use Rattle.check_findings.proofs.RegionLemmas.Marks.{marking_start, marking_end, marking_other, marking_component, mark_at, marked_here, marked_beyond, same_shadowed, shadowed}
+use Rattle.check_findings.proofs.RegionLemmas.Marks.{marking_end, marking_other, marking_component, mark_at, marked_here, marked_beyond, same_shadowed, shadowed}
 use Rattle.check_findings.proofs.region.shadows.mark_shadowed.Goals.{in-Component+in_ok-is_new+in_ok-push_if, in_default, then-i-len+in-Component-index_mut, then-i-len+in_default-index_mut, else-i-len}
 use Rattle.check_findings.proofs.region.shadows.mark_shadowed.Goals as goal
-
-pub loop-i-init : goal.loop-i-init
-loop-i-init c = rw (c.in_ok-names.ensures.empty, c.new-indices.ensures.items) (marking_start c.as_slice-all.result.now)
 
 pub loop-i-preserved : goal.loop-i-preserved
 loop-i-preserved c =
@@ -25,11 +22,9 @@ loop-i-preserved c =
 
 pub loop-i-2-preserved : goal.loop-i-2-preserved
 loop-i-2-preserved c =
-    let all = c.args.findings.now.items in
     let items = c.deref-i-items.result.now in
     let k = c.loop-i-2.i-index in
-    let more : fold mark_at all (take (k + 1) items) ≡ mark_at c.loop-i-2.findings.items (get_or items k 0) =
-        rw (add-one, take-suc items k 0 c.loop-i-2-test.true, fold-append mark_at all (take k items) (get_or items k 0 ∷ []), sym c.loop-i-2.invariant) refl in
+    let more : fold mark_at c.args.findings.now.items (take (k + 1) items) ≡ mark_at c.loop-i-2.findings.items (get_or items k 0) = rw (add-one, take-suc items k 0 c.loop-i-2-test.true, fold-append mark_at _ (take k items) (get_or items k 0 ∷ []), sym c.loop-i-2.invariant) refl in
     elim c.if-i-len.branch [
       | then-i-len+in-Component-index_mut w ↦ rw (more, w.findings-is, ← ap shadowed w.in-Component-index_mut.is) (marked_here _ _ _ (omega (arith, w.if-i-len.true, c.len-in-loop-i-2.ensures, c.loop-i-2.findings.ok)) w.index_mut.ensures.value)
       | then-i-len+in_default-index_mut w ↦ rw (more, w.findings-is) (rw (same_shadowed _ w.in_default-index_mut.not-Component) at (marked_here c.loop-i-2.findings.items (get_or items k 0) _ (omega (arith, w.if-i-len.true, c.len-in-loop-i-2.ensures, c.loop-i-2.findings.ok)) w.index_mut.ensures.value))
@@ -38,5 +33,4 @@ loop-i-2-preserved c =
 
 pub returns : goal.returns
 returns c =
-    let marked = marking_end c.loop-i.invariant c.loop-i-test.false in
-    c.loop-i-2.invariant ∙ ap (fold mark_at _) (take_all _ _ c.loop-i-2-test.false ∙ c.deref-i-items.ensures.value) ∙ (rw c.as_slice-all.ensures.value at marked)
+    c.loop-i-2.invariant ∙ ap (fold mark_at _) (take_all _ _ c.loop-i-2-test.false ∙ c.deref-i-items.ensures.value) ∙ (rw c.as_slice-all.ensures.value at (marking_end c.loop-i.invariant c.loop-i-test.false))

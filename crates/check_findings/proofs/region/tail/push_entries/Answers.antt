@@ -1,15 +1,12 @@
-use Rattle.std.proofs.Common.{◌≡◌, ◌+◌, ◌*◌, ◌++◌, sym, append-nil, drop, append_assoc, subst, arith}
+use Rattle.std.proofs.Common.{◌≡◌, ◌+◌, ◌*◌, ◌++◌, sym, drop, append_assoc, subst, arith}
 use Rattle.flash_device.specs.Regions.{bytes_in}
 use Rattle.flash_device.proofs.DeviceLemmas.{honest_still, length-bytes_in}
-use Rattle.flash_device.proofs.WindowLemmas.{HasRead-none, HasRead-then}
+use Rattle.flash_device.proofs.WindowLemmas.{HasRead-then}
 use Rattle.check_findings.specs.RegionFindings.{begins_with_entry, entries_findings}
 use Rattle.check_findings.specs.Lists.{only_if}
 use Rattle.check_findings.specs.declared.region.finding.RegionFinding.TheVariants.{TailEntry}
 use Rattle.check_findings.proofs.RegionLemmas.Tails.{entries_last}
 use Rattle.check_findings.proofs.region.tail.push_entries.Goals as goal
-
-pub loop-i-init : goal.loop-i-init
-loop-i-init g c = record { read = HasRead-none _; found = λ h. sym (append-nil c.args.findings.now.items) }
 
 pub loop-i-preserved : goal.loop-i-preserved
 loop-i-preserved g c =
