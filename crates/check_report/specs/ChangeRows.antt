@@ -1,6 +1,6 @@
 -- Rows of changes. This project defines their codes and texts.
-use Rattle.std.specs.Prelude.{ℕ, Bool, not, ◌&&◌, ◌%◌, nat_le, List, [], ◌∷◌, ◌++◌}
-use Rattle.std.specs.Prelude.{filter, map, nat_lt}
+use Rattle.std.specs.Prelude.{ℕ, Bool, not, List, [], ◌∷◌, ◌++◌}
+use Rattle.std.specs.Prelude.{map, nat_lt}
 use Rattle.std.specs.Prelude.{◌==◌, if◌then◌else◌}
 use Rattle.std.specs.List.{list_any}
 use Prim.Native.String.{String}
@@ -24,7 +24,6 @@ use Rattle.check_findings.specs.ImageFindings.{has_one_of}
 use Rattle.check_findings.specs.Lists.{only_if}
 use Rattle.check_report.specs.declared.rows.row.Verdict.TheVariants.{Bad, Change}
 use Rattle.check_report.specs.FindingRows.{missing_row}
-use Rattle.check_report.specs.Names.{Names}
 use Rattle.check_report.specs.Rows.Fields.{name_value}
 use Rattle.check_report.specs.Rows.Rows.{SeenRow, area_name, at_component, of_area, row}
 use Rattle.check_report.specs.Rows.Rows.{with_count, with_number}
@@ -48,7 +47,7 @@ module _ (kept vital : Bool) where
       only_if (nat_lt 0 n) (with_count n (change kept "area-changed" "erase blocks differ"))
   area_rows NotCompared = change kept "area-not-compared" "not compared" ∷ []
 
-unfoldable pub area_change_rows : Names → Names → AreaChange → List SeenRow
+unfoldable pub area_change_rows : List (List ℕ) → List (List ℕ) → AreaChange → List SeenRow
 area_change_rows kept vital c =
     map (of_area c.area) (area_rows (has_one_of kept c.area) (has_one_of vital c.area) c.what)
 
@@ -67,11 +66,11 @@ component_row kept (kind.MovedFrom at) =
 abbrev pub component_change_row : Bool → List ℕ → ComponentChange → SeenRow
 component_change_row kept area c = at_component area c.at c.name (component_row kept c.what)
 
-abbrev pub region_change_rows : Names → RegionChange → List SeenRow
-region_change_rows names (regions.Compared a changes) =
-    map (component_change_row (has_one_of names a) (area_name a)) changes
-region_change_rows names (regions.NotCompared a) = of_area a
-    (change (has_one_of names a) "components-not-compared" "components not compared") ∷ []
+abbrev pub region_change_rows : List (List ℕ) → RegionChange → List SeenRow
+region_change_rows kept (regions.Compared a changes) =
+    map (component_change_row (has_one_of kept a) (area_name a)) changes
+region_change_rows kept (regions.NotCompared a) = of_area a
+    (change (has_one_of kept a) "components-not-compared" "components not compared") ∷ []
 
 -- ---- whole images
 
@@ -88,16 +87,6 @@ map_change_row maps.NoOldMap = row Change "no-old-map" "the old image has no fla
 map_change_row (maps.MovedFrom at) = with_number at (row Change "map-moved" "flashmap moved from")
 map_change_row (maps.BaseFrom n) = with_number n (row Change "map-base" "base address changed from")
 map_change_row maps.NameChanged = row Change "map-name" "name of the flashmap changed"
-
--- ---- kept names
-
--- the flag PRESERVE, bit 3
-abbrev pub is_preserved : NumberedArea → Bool
-is_preserved a = nat_le 8 (a.area.flags % 16)
-
--- the given names and, on request, names of these areas with the flag
-abbrev pub kept_by : Names → Bool → List NumberedArea → Names
-kept_by kept keeps all = kept ++ map area_name (filter (λ a. keeps && is_preserved a) all)
 
 -- the row of a kept name without an area
 abbrev pub missing_if : List NumberedArea → List ℕ → List SeenRow

@@ -11,7 +11,7 @@ use Rattle.check_report.specs.declared.inspection.Changes.{Changes}
 use Rattle.check_report.specs.declared.inspection.Inspection.{Inspection}
 use Rattle.check_report.specs.Rows.Rows.{area_name}
 use Rattle.check_report.specs.declared.request.Request.{Request}
-use Rattle.check_report.specs.Names.{names_in}
+use Rattle.check_report.specs.Rows.Rows.{names_in}
 use Rattle.check_report.specs.Reports.{areas_or, need_areas}
 
 -- the check of one image

@@ -1,7 +1,6 @@
 pub mod Rows
 pub mod Reports
 pub mod Changes
-pub mod Names
 pub mod FindingRows
 pub mod ChangeRows
 pub mod Laws

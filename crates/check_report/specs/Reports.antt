@@ -15,9 +15,10 @@ use Rattle.check_report.specs.Rows.Fields.{Line, SeenField, name_value, seen_val
 use Rattle.check_report.specs.Rows.Fields.{line_text}
 use Rattle.check_report.specs.Rows.Rows.{SeenRow, area_name, counts_of, report_lines, summary}
 use Rattle.check_report.specs.FindingRows.{finding_rows, hash_words, need_rows}
-use Rattle.check_report.specs.ChangeRows.{area_change_rows, image_rows, kept_by, map_change_row}
+use Rattle.check_report.specs.ChangeRows.{area_change_rows, image_rows, map_change_row}
 use Rattle.check_report.specs.ChangeRows.{missing_if, region_change_rows}
-use Rattle.check_report.specs.Names.{Names, names_in}
+use Rattle.check_report.specs.Rows.Rows.{names_in}
+use Rattle.std.specs.Prelude.{◌&&◌, ◌%◌, filter, nat_le}
 use Rattle.check_report.specs.declared.request.Request.{Request}
 use Rattle.check_report.specs.declared.inspection.Changes.{Changes}
 use Rattle.check_report.specs.declared.inspection.Inspection.{Inspection}
@@ -49,23 +50,33 @@ listed request i = then_some request.asked.lists (flat_map components_in i.findi
 
 -- ---- rows
 
-abbrev pub need_areas : Request → Names
+abbrev pub need_areas : Request → List (List ℕ)
 need_areas request = map (λ n. n.area.now) request.needs.now
 
 -- the areas for a comparison: the new areas if the old image has no map
 abbrev pub areas_or : OldImage → List NumberedArea → List NumberedArea
 areas_or old news = if is_none old.map.found then news else old.map.areas.items
 
--- rows of the images, their maps, areas and components, and of kept names without an area
-abbrev pub change_rows : Request → Changes → List SeenRow
-change_rows request c = let new = c.comparison in
-    let areas = areas_or c.old c.new_areas.items ++ c.new_areas.items in
-    let kept = kept_by (names_in request.kept.now) request.keeps_preserved areas in
-    let vital = kept ++ map area_name c.old.regions.items in
-    (((image_rows new.old_len new.new_len new.blocks ++ map map_change_row new.map.items)
-    ++ flat_map (area_change_rows kept vital) new.areas.items)
-    ++ flat_map (region_change_rows kept) new.regions.items)
-    ++ flat_map (missing_if areas) (names_in request.kept.now)
+module _ (request : Request) (c : Changes) where
+  abbrev pub both_areas : List NumberedArea
+  both_areas = areas_or c.old c.new_areas.items ++ c.new_areas.items
+
+  -- the given names and, on request, names of areas with the flag PRESERVE, bit 3
+  abbrev pub kept_names : List (List ℕ)
+  kept_names = names_in request.kept.now ++ map area_name
+      (filter (λ a. request.keeps_preserved && nat_le 8 (a.area.flags % 16)) both_areas)
+
+  -- rows of the given names without an area
+  abbrev pub missing_rows : List SeenRow
+  missing_rows = flat_map (missing_if both_areas) (names_in request.kept.now)
+
+  -- rows of the images, their maps, areas and components, and of missing areas
+  abbrev pub change_rows : List SeenRow
+  change_rows = let new = c.comparison in
+      let vital = kept_names ++ map area_name c.old.regions.items in
+      (((image_rows new.old_len new.new_len new.blocks ++ map map_change_row new.map.items)
+      ++ flat_map (area_change_rows kept_names vital) new.areas.items)
+      ++ flat_map (region_change_rows kept_names) new.regions.items) ++ missing_rows
 
 -- rows of findings, unmet needs and changes
 abbrev pub inspection_rows : Request → Inspection → List SeenRow

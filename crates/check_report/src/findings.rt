@@ -108,7 +108,8 @@ fn need_row<'a>(finding: NeedFinding) -> Row<'a>
     match finding {
         NeedFinding::Missing => bad.row("need-missing", "needed component isn't there"),
         NeedFinding::Elsewhere(at) => {
-            bad.row("need-elsewhere", "needed component is elsewhere").at(at)
+            bad.row("need-elsewhere", "needed component is elsewhere")
+                .at(at)
         }
     }
 }

@@ -78,17 +78,14 @@ fn add_changes<W: Sink + Drop>(
 ) -> Result<(), WriteFault>
     ensures { Adds W.Sink result rows.old rows.new (change_rows request.entry changes.now) }
 {
-    let new_areas = changes.new_areas.as_slice();
-    let old_areas = changes.old.areas_or(new_areas);
-    let keeps = request.keeps_preserved;
-    let kept = kept_names(alloc, request.kept, keeps, old_areas, new_areas)?;
+    let kept = kept_names(alloc, request, changes)?;
     let vital = with_areas(alloc, &kept, &changes.old.regions)?;
     let found = &changes.comparison;
     add_image_changes(rows, found.old_len, found.new_len, found.blocks)?;
     add_map_changes(rows, &found.map)?;
     add_area_changes(rows, &kept, &vital, &found.areas)?;
     add_region_changes(rows, &kept, &found.regions)?;
-    add_missing(rows, request.kept, old_areas, new_areas)
+    add_missing(rows, request, changes)
 }
 
 /// A sink after a report, and the result.

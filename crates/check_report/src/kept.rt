@@ -1,15 +1,17 @@
 //! Areas that must not change.
 ghost use Rattle.std.specs.Prelude.{◌≡◌, ◌++◌, if◌then◌else◌};
-ghost use Rattle.std.specs.List.{flat_map, list_any};
+ghost use Rattle.std.specs.List.{list_any};
 ghost use Rattle.flash_map.specs.Areas.{has_name};
 ghost use Rattle.check_findings.specs.ImageFindings.{has_one_of};
-ghost use Rattle.check_report.specs.Names.{names_in};
+ghost use Rattle.check_report.specs.Rows.Rows.{names_in};
 ghost use Rattle.check_report.specs.Rows.Effects.{Adds};
-ghost use Rattle.check_report.specs.ChangeRows as of;
+ghost use Rattle.check_report.specs.Reports.{missing_rows};
 ghost use Rattle.check_report.specs.declared.rows.row.Verdict.TheVariants.{Bad, Change};
 
 use crate::fault::WriteFault;
 use crate::findings::missing_row;
+use crate::inspection::Changes;
+use crate::request::Request;
 use crate::rows::{RowWriter, Value, Verdict};
 use flash_device::Sink;
 use flash_map::NumberedArea;
@@ -41,14 +43,14 @@ fn is_there(old_areas: &[NumberedArea], new_areas: &[NumberedArea], name: &[u8])
 /// Adds a row for each kept name that neither image has.
 pub fn add_missing<W: Sink + Drop>(
     rows: &mut RowWriter<W>,
-    kept: &[&[u8]],
-    old_areas: &[NumberedArea],
-    new_areas: &[NumberedArea],
+    request: Request<'_>,
+    changes: &Changes,
 ) -> Result<(), WriteFault>
-    ensures { Adds W.Sink result rows.old rows.new
-        (flat_map (of.missing_if (old_areas.now ++ new_areas.now)) (names_in kept.now)) }
+    ensures { Adds W.Sink result rows.old rows.new (missing_rows request.entry changes.now) }
 {
-    for name in kept {
+    let new_areas = changes.new_areas.as_slice();
+    let old_areas = changes.old.areas_or(new_areas);
+    for name in request.kept {
         let missing = missing_row(Value::Name(name));
         rows.add_if(!is_there(old_areas, new_areas, name), missing)?;
     }

@@ -1,9 +1,10 @@
 //! Lists of area names.
-ghost use Rattle.std.specs.Prelude.{◌≡◌, ◌++◌, ◌&&◌, map, IfOk};
-ghost use Rattle.check_report.specs.ChangeRows as of;
-ghost use Rattle.check_report.specs.Rows.Rows.{area_name};
-ghost use Rattle.check_report.specs.Names.{names_in};
+ghost use Rattle.std.specs.Prelude.{◌≡◌, ◌++◌, ◌&&◌, ◌%◌, map, nat_le, IfOk};
+ghost use Rattle.check_report.specs.Reports.{kept_names};
+ghost use Rattle.check_report.specs.Rows.Rows.{area_name, names_in};
 
+use crate::inspection::Changes;
+use crate::request::Request;
 use check_findings::Need;
 use flash_map::NumberedArea;
 use std::alloc::{AllocError, Global};
@@ -30,7 +31,7 @@ pub fn with_areas<'a>(
 const PRESERVE: u16 = 8;
 
 fn is_preserved_if(keeps_preserved: bool, area: &NumberedArea) -> bool
-    ensures { result ≡ (keeps_preserved && of.is_preserved area.now) }
+    ensures { result ≡ (keeps_preserved && nat_le 8 (area.now.area.flags % 16)) }
 {
     keeps_preserved && area.area.flags % (2 * PRESERVE) >= PRESERVE
 }
@@ -39,16 +40,15 @@ fn is_preserved_if(keeps_preserved: bool, area: &NumberedArea) -> bool
 /// the flag PRESERVE in either map.
 pub fn kept_names<'a>(
     alloc: Global,
-    kept: &[&'a [u8]],
-    keeps_preserved: bool,
-    old_areas: &'a [NumberedArea],
-    new_areas: &'a [NumberedArea],
+    request: Request<'a>,
+    changes: &'a Changes,
 ) -> Result<Vec<&'a [u8]>, AllocError>
-    ensures { IfOk result (λ names. names_in names.items
-        ≡ of.kept_by (names_in kept.now) keeps_preserved (old_areas.now ++ new_areas.now)) }
+    ensures { IfOk result (λ names. names_in names.items ≡ kept_names request.entry changes.now) }
 {
-    let areas = old_areas.iter().chain(new_areas);
-    let areas = areas.filter(|area| is_preserved_if(keeps_preserved, area));
+    let new_areas = changes.new_areas.as_slice();
+    let areas = changes.old.areas_or(new_areas).iter().chain(new_areas);
+    let areas = areas.filter(|area| is_preserved_if(request.keeps_preserved, area));
     let names = areas.map(|area| area.area.text());
-    kept.iter().map(|name| *name).chain(names).collect(alloc)
+    let given = request.kept.iter().map(|name| *name);
+    given.chain(names).collect(alloc)
 }

@@ -4,6 +4,7 @@ use Rattle.std.specs.Prelude.{count_by, map, if◌then◌else◌}
 use Rattle.flash_format.specs.Flashmap.{text_of}
 use Rattle.flash_map.specs.declared.areas.NumberedArea.{NumberedArea}
 use Rattle.std.specs.List.{flat_map, list_any}
+use Rattle.std.specs.Borrow.{Bor}
 use Rattle.std.specs.Fmt.{decimal}
 use Rattle.std.specs.Str.{bytes_eq}
 use Rattle.json.specs.Json.{string}
@@ -18,36 +19,52 @@ use Rattle.check_report.specs.declared.rows.row.Row.{Row}
 use Rattle.check_report.specs.declared.rows.kinds.Counts.{Counts}
 use Rattle.check_report.specs.Rows.Fields.{Line, SeenValue, json_value, name_value}
 use Rattle.check_report.specs.Rows.Fields.{seen_value, text_value}
+use Rattle.check_report.specs.Rows.Fields.{SeenField}
 
 abbrev pub verdict_word : Verdict → List ℕ
 verdict_word verdicts.Bad = codes "bad"
 verdict_word verdicts.Remark = codes "remark"
 verdict_word verdicts.Change = codes "change"
 
--- a row: its verdict, its code, its text, and the values of its other fields
-abbrev pub SeenRow : Type 0
-SeenRow = record { verdict : Verdict; code : List ℕ; what : List ℕ; area : SeenValue;
-    component : SeenValue; position : SeenValue; value : SeenValue; other : SeenValue }
+-- a row: its verdict, its code and the fields after them
+pub record SeenRow : Type 0 where
+  pub verdict : Verdict
+  pub code : List ℕ
+  pub fields : List SeenField
 
-abbrev pub seen_row : Row → SeenRow
-seen_row row = record { verdict = row.verdict; code = row.code.now; what = row.what.now;
-    area = seen_value row.area; component = seen_value row.component;
-    position = seen_value row.position; value = seen_value row.detail; other = seen_value row.other }
+-- the fields of a row of the whole image
+abbrev pub plain_fields : List ℕ → List SeenField
+plain_fields what = (codes "area", seen_value Dash) ∷ (codes "component", seen_value Dash)
+    ∷ (codes "position", seen_value Dash) ∷ (codes "what", text_value what)
+    ∷ (codes "value", seen_value Absent) ∷ (codes "other", seen_value Absent) ∷ []
 
 -- a row of the whole image
 abbrev pub row_of : Verdict → List ℕ → List ℕ → SeenRow
-row_of verdict code what = let dash = seen_value Dash in record { verdict = verdict; code = code;
-    what = what; area = dash; component = dash; position = dash; value = seen_value Absent;
-    other = seen_value Absent }
+row_of verdict code what = record { verdict = verdict; code = code; fields = plain_fields what }
 
 abbrev pub row : Verdict → String → String → SeenRow
 row verdict code what = row_of verdict (codes code) (codes what)
 
+-- the row with another value of a field
+abbrev pub with_field : String → SeenValue → SeenRow → SeenRow
+with_field key value r =
+    record r { fields = map (λ f. (f.0, if bytes_eq f.0 (codes key) then value else f.1)) r.fields }
+
+abbrev pub seen_row : Row → SeenRow
+seen_row row = with_field "area" (seen_value row.area)
+    (with_field "component" (seen_value row.component)
+    (with_field "position" (seen_value row.position)
+    (with_field "value" (seen_value row.detail) (with_field "other" (seen_value row.other)
+    (row_of row.verdict row.code.now row.what.now)))))
+
 abbrev pub row_at : ℕ → SeenRow → SeenRow
-row_at position row = record row { position = seen_value (Offset position) }
+row_at position row = with_field "position" (seen_value (Offset position)) row
 
 abbrev pub in_area : List ℕ → SeenRow → SeenRow
-in_area name row = record row { area = name_value name }
+in_area name row = with_field "area" (name_value name) row
+
+abbrev pub names_in : List (Bor (List ℕ)) → List (List ℕ)
+names_in names = map (λ n. n.now) names
 
 abbrev pub area_name : NumberedArea → List ℕ
 area_name a = text_of a.area.name
@@ -57,27 +74,26 @@ abbrev pub of_area : NumberedArea → SeenRow → SeenRow
 of_area a row = row_at a.area.offset (in_area (area_name a) row)
 
 abbrev pub of_component : List ℕ → List ℕ → SeenRow → SeenRow
-of_component area name row = record row { area = name_value area; component = name_value name }
+of_component area name row = in_area area (with_field "component" (name_value name) row)
 
 abbrev pub at_component : List ℕ → ℕ → List ℕ → SeenRow → SeenRow
 at_component area at name row = row_at at (of_component area name row)
 
 abbrev pub with_count : ℕ → SeenRow → SeenRow
-with_count n row = record row { value = seen_value (Count n) }
+with_count n row = with_field "value" (seen_value (Count n)) row
 
 abbrev pub with_number : ℕ → SeenRow → SeenRow
-with_number n row = record row { value = seen_value (Offset n) }
+with_number n row = with_field "value" (seen_value (Offset n)) row
 
 abbrev pub with_other : NumberedArea → SeenRow → SeenRow
-with_other a row = record row { other = name_value (area_name a) }
+with_other a row = with_field "other" (name_value (area_name a)) row
+
+abbrev pub row_fields : SeenRow → List SeenField
+row_fields row = (codes "verdict", json_value (string (verdict_word row.verdict)))
+    ∷ (codes "code", json_value (string row.code)) ∷ row.fields
 
 abbrev pub row_line : SeenRow → Line
-row_line row = record { head = verdict_word row.verdict; fields =
-    (codes "verdict", json_value (string (verdict_word row.verdict)))
-    ∷ (codes "code", json_value (string row.code)) ∷ (codes "area", row.area)
-    ∷ (codes "component", row.component) ∷ (codes "position", row.position)
-    ∷ (codes "what", text_value row.what) ∷ (codes "value", row.value)
-    ∷ (codes "other", row.other) ∷ [] }
+row_line row = record { head = verdict_word row.verdict; fields = row_fields row }
 
 abbrev pub has_verdict : Verdict → SeenRow → Bool
 has_verdict verdict row = bytes_eq (verdict_word verdict) (verdict_word row.verdict)

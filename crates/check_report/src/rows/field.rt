@@ -1,8 +1,7 @@
 //! The fields of a line.
-ghost use Rattle.std.specs.Prelude.{◌≡◌, unwrap_or};
-ghost use Rattle.std.specs.Option.{option_copied};
-ghost use Rattle.flash_format.specs.Texts.{hexadecimal};
-ghost use Rattle.check_report.specs.Rows.Fields.{seen_value, text_value};
+ghost use Rattle.std.specs.Prelude.{◌≡◌};
+ghost use Rattle.std.specs.Option.{option_map_or};
+ghost use Rattle.check_report.specs.declared.rows.field.Value.TheVariants as values;
 
 #[derive(Clone, Copy)]
 pub enum Value<'a> {
@@ -30,8 +29,7 @@ pub type Field<'a> = (&'static str, Value<'a>);
 impl<'a> Value<'a> {
     /// Returns a name, or else a number.
     pub fn name_or(name: Option<&'a str>, number: u32) -> Value<'a>
-        ensures { seen_value result
-            ≡ text_value (unwrap_or (option_copied name.entry) (hexadecimal number)) }
+        ensures { result ≡ option_map_or values.Text name.entry (values.Hexadecimal number) }
     {
         match name {
             Some(name) => Value::Text(name),

@@ -2,7 +2,7 @@
 
 ghost use Rattle.std.specs.Prelude.{◌≡◌, if◌then◌else◌, map};
 ghost use Rattle.check_report.specs.Rows.Rows as rows;
-ghost use Rattle.check_report.specs.Rows.Rows.{row_line, seen_row, verdict_word};
+ghost use Rattle.check_report.specs.Rows.Rows.{row_fields, seen_row, verdict_word};
 ghost use Rattle.check_report.specs.Rows.Fields.{seen_field};
 ghost use Rattle.check_report.specs.declared.rows.row.Verdict.TheVariants.{Bad, Remark};
 
@@ -71,7 +71,7 @@ pub struct Row<'a> {
 impl<'a> Row<'a> {
     /// Returns the fields after the verdict.
     pub fn fields(&self) -> [Field<'a>; 8]
-        ensures { map seen_field result ≡ (row_line (seen_row self.now)).fields }
+        ensures { map seen_field result ≡ row_fields (seen_row self.now) }
     {
         [
             ("verdict", Value::Code(self.verdict.word())),

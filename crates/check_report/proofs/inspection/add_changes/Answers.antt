@@ -3,12 +3,10 @@ use Rattle.check_report.proofs.inspection.add_changes.Goals as goal
 
 pub returns : goal.returns
 returns g c =
-    let news = c.as_slice-new_areas.ensures.value in
-    let olds = rw news at c.areas_or-old_areas.ensures in
-    let kept = rw (olds, news) at c.in_ok-kept.ensures in
+    let kept = c.in_ok-kept.ensures in
     let vital = rw (c.deref.ensures.value, c.deref-2.ensures.value, kept) at c.in_ok-vital.ensures in
     let map = rw c.deref-3.ensures.value at c.in_ok-add_map_changes.ensures in
     let areas = rw (c.deref-4.ensures.value, c.deref-5.ensures.value, c.deref-6.ensures.value, kept, vital) at c.in_ok-add_area_changes.ensures in
     let regions = rw (c.deref-7.ensures.value, c.deref-8.ensures.value, kept) at c.in_ok-add_region_changes.ensures in
     adds_after (adds_after (adds_after (adds_after c.in_ok-add_image_changes.ensures map) areas) regions)
-    (rw (olds, news) at c.add_missing.ensures)
+    c.add_missing.ensures
