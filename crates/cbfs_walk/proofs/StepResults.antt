@@ -92,3 +92,6 @@ ends_moved r w a e is = grind (arith, common_steps)
 
 abbrev pub IsLast : Step → Type 0
 IsLast step = ((at : ℕ) × (step ≡ steps.Tail at)) ⊎ (step ≡ steps.End)
+
+pub last_reads : (step : Step) (size at : ℕ) → IsLast step → reads_at size at (Ok step) ≡ reads_over (size - at)
+last_reads step size at it = grind (arith, common_steps)
