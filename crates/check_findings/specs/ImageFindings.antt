@@ -70,7 +70,8 @@ abbrev pub left_after : ℕ → NumberedArea → ℕ
 left_after left a = if nat_le a.area.size left then left - a.area.size else left
 
 -- of the areas to check, with `left` bytes for checks
-abbrev pub areas_findings : List ℕ → (NumberedArea → Bool) → ℕ → List NumberedArea → List ImageFinding
+abbrev pub areas_findings : List ℕ → (NumberedArea → Bool) → ℕ → List NumberedArea
+    → List ImageFinding
 areas_findings image expects left areas = scan left_after (area_finding image expects) left areas
 
 -- of a name without an area, by its index
