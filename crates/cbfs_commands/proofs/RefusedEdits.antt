@@ -13,7 +13,7 @@ use Rattle.cbfs_edit.specs.declared.fault.EditFault.{EditFault}
 use Rattle.cbfs_edit.specs.declared.fault.EditFault.TheVariants as edit
 use Rattle.cbfs_edit.specs.declared.place.Spot.{Spot}
 use Rattle.cbfs_edit.specs.Additions.{new_component}
-use Rattle.cbfs_edit.specs.Changes.{Adds, AddLeavesBefore, AddLeavesWhole, LeavesWhole, Removes, by_fault}
+use Rattle.cbfs_edit.specs.Changes.{IsAddition, AddLeavesBefore, AddLeavesWhole, LeavesWhole, IsRemoval, by_fault}
 use Rattle.cbfs_commands.specs.declared.refusal.Refusal.{Refusal}
 use Rattle.cbfs_commands.specs.declared.refusal.Refusal.TheVariants as refusals
 use Rattle.cbfs_commands.specs.Effects.{add, changes, effect, on_region, remove}
@@ -33,14 +33,14 @@ refused_by _ o = inr (inr (λ is. cc, λ is. cc, o))
 
 -- a found region: the answer is the edit's error, and only a fault leaves a change
 module _ (image between now name : List ℕ) (source : Device) (region : Range) (fault : EditFault) (answer : CommandResult) (sought : (let r : Result Range StoreFault = Ok region in IsErrOf r store.Device ⊎ (r ≡ region_of image name))) (unread : between ≡ image) (printout : IsErrAnd answer (λ refusal. refusal ≡ edit_refusal fault)) where
-  pub addition_refused : (component : List ℕ) (kind : ℕ) (hash : HashChoice) (spot : Spot) → IsTrue source.honest → Adds region (new_component component kind hash) spot source (Err fault) between now
+  pub addition_refused : (component : List ℕ) (kind : ℕ) (hash : HashChoice) (spot : Spot) → IsTrue source.honest → IsAddition region (new_component component kind hash) spot source (Err fault) between now
       → LeavesOr now answer ((effect (on_region name (add component kind hash spot))).outcome image source.content)
       × ((found : Range) → region_of image name ≡ Ok found → (IsErrOf answer refusals.Device → AddLeavesWhole (bytes_in found image) (new_component component kind hash source.content) spot (bytes_in found now))
       × (IsErrOf answer refusals.Source → AddLeavesBefore (bytes_in found image) (new_component component kind hash source.content) spot (bytes_in found now)))
   addition_refused component kind hash spot honest adds =
       let by = refused_by fault adds in grind (arith, common_steps)
 
-  pub removal_refused : (component : List ℕ) → Removes region component (Err fault) between now
+  pub removal_refused : (component : List ℕ) → IsRemoval region component (Err fault) between now
       → LeavesOr now answer ((effect (on_region name (remove component))).outcome image source.content)
       × ((found : Range) → region_of image name ≡ Ok found → IsErrOf answer refusals.Device → LeavesWhole (bytes_in found image) component (bytes_in found now))
   removal_refused component removes =

@@ -64,8 +64,8 @@ pub record Effect : Type 1 where
   pub Stopped : List ℕ → List ℕ → CommandResult → List ℕ → Type 0
 
 -- a report on the image changes nothing
-abbrev pub reports : (List ℕ → Printout) → Effect
-reports tell = record {
+abbrev pub report_effect : (List ℕ → Printout) → Effect
+report_effect tell = record {
   outcome = λ image source. record { printout = tell image; image = image };
   target = λ image. None;
   source_calls = λ source. 0;
@@ -95,12 +95,12 @@ edits name reads make Stops = record {
 }
 
 abbrev pub effect : Request → Effect
-effect layout = reports rows.layout
+effect layout = report_effect rows.layout
 effect (on_region region (print verbose)) =
-    reports (λ image. printed_in image region (λ x. print_region x verbose))
+    report_effect (λ image. printed_in image region (λ x. print_region x verbose))
 effect (on_region region (extract name)) =
-    reports (λ image. printed_in image region (λ x. extract_region x name))
-effect (on_region region read) = reports (λ image. printed_in image region shows)
+    report_effect (λ image. printed_in image region (λ x. extract_region x name))
+effect (on_region region read) = report_effect (λ image. printed_in image region shows)
 -- A source of the region's size; another source changes nothing. An interruption leaves a prefix of
 -- the source, after a device fault an arbitrary piece, then the old bytes.
 effect (on_region name write) = edits name true

@@ -17,7 +17,7 @@ use Rattle.cbfs_edit.specs.Removals.{IsCellRange, kept_at, removed, space_end}
 use Rattle.cbfs_edit.specs.Runs.{runs}
 use Rattle.cbfs_edit.specs.Places.{is_bad_align, IsWanted, IsFirstPlace, placing_in}
 use Rattle.cbfs_edit.specs.Places.{Fits}
-use Rattle.cbfs_edit.specs.Changes.{Adds, AddLeavesWhole, AddLeavesBefore, IsEmptied, copy_edit_fault}
+use Rattle.cbfs_edit.specs.Changes.{IsAddition, AddLeavesWhole, AddLeavesBefore, IsEmptied, copy_edit_fault}
 use Rattle.cbfs_edit.specs.Additions.{NewComponent, added, added_component, addition_in, empty_between, cell_end, metadata_len_of, made_at, argument_fault, wanted_for, algorithm_of, digest_of, HasRoom, with_component, IsUnfinished}
 use Rattle.cbfs_edit.specs.Laws.{IsAdded}
 use Rattle.cbfs_edit.specs.declared.fault.EditFault.{EditFault}
@@ -279,7 +279,7 @@ searched x new spot wanted own is found answer = ⊎_elim inl (λ e. inr (e ∙ 
 
 -- an unchanged image
 pub addition_refused : (r : Range) (with_content : List ℕ → NewComponent) (spot : Spot) (source : Device) (fault : EditFault) (old now : List ℕ)
-    → (let a : Result Place EditFault = Err fault in IsErrOf a faults.Device ⊎ (a ≡ addition_in (bytes_in r old) (with_content source.content) spot)) → now ≡ old → Adds r with_content spot source (Err fault) old now
+    → (let a : Result Place EditFault = Err fault in IsErrOf a faults.Device ⊎ (a ≡ addition_in (bytes_in r old) (with_content source.content) spot)) → now ≡ old → IsAddition r with_content spot source (Err fault) old now
 addition_refused r with_content spot source faults.Device old now answer same = λ honest. inl (ap (λ (l : List ℕ). bytes_in r l) same)
 addition_refused r with_content spot source faults.Source old now answer same = (inl (ap (λ (l : List ℕ). bytes_in r l) same), ap (λ (l : List ℕ). components (bytes_in r l)) same)
 addition_refused r with_content spot source fault old now (inl failed) same = absurd cc
@@ -301,7 +301,7 @@ module _ (r : Range) (device : Device) (with_content : List ℕ → NewComponent
   added_there = record { region = omega (arith, length-bytes_in r device.content lies.inside, lies.inside, lies.below); kind = kind; content = content; digest = digest; placed = placed }
 
   module _ (mid empty : List ℕ) (same : mid ≡ device.content) (empty_long : length empty ≡ length mid) where
-    pub empty_left : IsOldOrEmptied place.run (space_end r.size place.run.end) (bytes_in r mid) (bytes_in r empty) → Adds r with_content spot source (Err faults.Device) device.content empty
+    pub empty_left : IsOldOrEmptied place.run (space_end r.size place.run.end) (bytes_in r mid) (bytes_in r empty) → IsAddition r with_content spot source (Err faults.Device) device.content empty
     empty_left stop = λ honest. (empty_before old new spot place added_there (bytes_in r empty) (subst (λ n. IsOldOrEmptied place.run (space_end n place.run.end) old (bytes_in r empty)) (sym (length-bytes_in r device.content lies.inside)) (rw same at stop))).0
 
     module _ (copied : List ℕ) (copied_long : length copied ≡ length empty) (emptied : bytes_in r empty ≡ removed (bytes_in r mid) place.run) (torn : SameOutside place.content (length new.content) (bytes_in r empty) (bytes_in r copied)) where
@@ -311,7 +311,7 @@ module _ (r : Range) (device : Device) (with_content : List ℕ → NewComponent
       as_long : length (bytes_in r copied) ≡ length (bytes_in r empty)
       as_long = same_region_length r device.content empty copied lies.inside (empty_long ∙ ap length same) copied_long
 
-      pub copied_left : (fault : CopyInFault) → Adds r with_content spot source (Err (copy_edit_fault fault)) device.content copied
+      pub copied_left : (fault : CopyInFault) → IsAddition r with_content spot source (Err (copy_edit_fault fault)) device.content copied
       copied_left copies.Device = λ honest. (copied_before old new spot place added_there (bytes_in r empty) (bytes_in r copied) as_long emptied_old torn).0
       copied_left copies.Source = copied_before old new spot place added_there (bytes_in r empty) (bytes_in r copied) as_long emptied_old torn
 
@@ -333,12 +333,12 @@ module _ (r : Range) (device : Device) (with_content : List ℕ → NewComponent
         as_long_shown : length (bytes_in r shown) ≡ length (bytes_in r copied)
         as_long_shown = same_region_length r device.content copied shown lies.inside (copied_long ∙ empty_long ∙ ap length same) shown_long
 
-        pub shown_left : (bytes_in r shown ≡ with_component (bytes_in r copied) place (round64 (place.content + wanted.len)) (metadata_of m)) ⊎ IsUnfinished place (bytes_in r copied) (bytes_in r shown) → Adds r with_content spot source (Err faults.Device) device.content shown
+        pub shown_left : (bytes_in r shown ≡ with_component (bytes_in r copied) place (round64 (place.content + wanted.len)) (metadata_of m)) ⊎ IsUnfinished place (bytes_in r copied) (bytes_in r shown) → IsAddition r with_content spot source (Err faults.Device) device.content shown
         shown_left stop =
             shown_whole old new spot place added_there (bytes_in r empty) (bytes_in r copied) as_long emptied_old torn (metadata_of m) (bytes_in r shown) written_long as_long_shown (IsTrue source.honest) is_written copied_is (rw len at stop)
 
         pub shown_done : SameOutside r.start r.size device.content shown → bytes_in r shown ≡ with_component (bytes_in r copied) place (round64 (place.content + wanted.len)) (metadata_of m)
-            → Adds r with_content spot source (Ok (record { header = place.header; content = place.content })) device.content shown
+            → IsAddition r with_content spot source (Ok (record { header = place.header; content = place.content })) device.content shown
         shown_done outside is = (
           place,
           placed,

@@ -7,7 +7,7 @@ use Rattle.flash_format.specs.Cut.{cut}
 use Rattle.cbfs_edit.specs.Removals.{IsCellRange, IsGroupOf, group_of, IsComponent, IsNot, removal_in, removed, space_end}
 use Rattle.flash_device.specs.Device.{overwritten, SameOutside}
 use Rattle.flash_device.proofs.RegionLemmas.{image_is}
-use Rattle.cbfs_edit.specs.Changes.{LeavesWhole, Removes}
+use Rattle.cbfs_edit.specs.Changes.{LeavesWhole, IsRemoval}
 use Rattle.cbfs_edit.specs.Laws.{LosesOne}
 use Rattle.cbfs_edit.specs.declared.fault.EditFault.{EditFault}
 use Rattle.cbfs_edit.specs.declared.group.CellRange.{CellRange}
@@ -43,7 +43,7 @@ accepted x name group is =
 
 -- an unchanged image
 pub removal_refused : (r : Range) (name : List ℕ) (fault : EditFault) (old new : List ℕ) → (let a : Result CellRange EditFault = Err fault in (IsErrOf a faults.Source → ⊥) × (IsErrOf a faults.Device ⊎ (a ≡ removal_in (bytes_in r old) name)))
-    → new ≡ old → Removes r name (Err fault) old new
+    → new ≡ old → IsRemoval r name (Err fault) old new
 removal_refused r name faults.Device old new answer same = inl (ap (λ (l : List ℕ). bytes_in r l) same)
 removal_refused r name faults.Source old new answer same = absurd (answer.0 refl)
 removal_refused r name fault old new (own, inl failed) same = absurd cc

@@ -1,5 +1,4 @@
 -- Searches over the cells of a region.
-use Rattle.std.proofs.lemmas.Grind.{common_steps}
 use Rattle.std.proofs.Common.{◌≡◌, ℕ, ◌+◌, ◌-◌, ◌/◌, ◌%◌, ◌≤◌, ◌⊎◌, ⊎_elim, inl, inr, IsTrue, List, [], ◌∷◌, length, Option, Some, None, Result, Ok, Err, refl, sym, ap, subst, ◌∙◌, arith, Bool, true, false, cond}
 use Rattle.std.specs.Prelude.{IfErr, IfOk, ⊤, IsErrOf, ◌||◌, is_some, nat_lt, ok_or}
 use mathlib.Core.Path.{fun_ext}
@@ -17,7 +16,7 @@ use Rattle.cbfs_walk.specs.declared.cell.Cell.{Cell}
 use Rattle.cbfs_walk.specs.declared.walk.Step.{Step}
 use Rattle.cbfs_walk.specs.declared.walk.WalkFault.{WalkFault}
 use Rattle.cbfs_walk.proofs.Shapes.{shaped_step}
-use Rattle.cbfs_walk.proofs.StepResults.{IsLast}
+use Rattle.cbfs_walk.proofs.StepResults.{IsLast, last_reads}
 use Rattle.cbfs_edit.specs.Changes.{by_device, by_fault}
 use Rattle.cbfs_edit.specs.Removals.{edit_fault_of, unless_damaged, unless_unsound, removal_in, by_rows}
 use Rattle.cbfs_edit.specs.declared.fault.EditFault.{EditFault}
@@ -161,14 +160,11 @@ module _ {F S A : Type 0} (r : Range) (sense : S → ℕ → Reading A) (by : Li
     last_found : found_by x (sense s w.at) (Ok step) ≡ sense s w.at []
     last_found = ⊎_elim (λ tail. ap (λ (t : Step). found_by x (sense s w.at) (Ok t)) tail.1) (λ end. ap (λ (t : Step). found_by x (sense s w.at) (Ok t)) end) last
 
-    last_reads : reads_at w.region.size w.at (Ok step) ≡ reads_over (w.region.size - w.at)
-    last_reads = grind (arith, common_steps)
-
     pub searched : (Is : A → Type 0) (mid : Pages F) (result : Result A EditFault) → IfErr result (λ fault. by_fault fault ⊥ ⊥ ⊤) → IfOk result Is → result ≡ sense s w.at [] → HasRead (reads_at w.region.size w.at (Ok step)) 0 now mid
         → (IsTrue now.device.honest → w.ended ≡ None → (let a : StepResult = Ok step in IsErrOf a walk.Device ⊎ (a ≡ answer_at (bytes_in w.region now.device.content) w.at))) → HasSearched by r Is old mid result
     searched Is mid result own found is reading answer = record {
       after = rw (faultless result own).0 (HasRead-within (w.at / 16 + reads_over (w.region.size - w.at)) (r.size / 16 + 1) 0 old mid (omega (arith, i.inside, i.aligned, ap (λ (k : Range). k.size) i.region))
-          (HasRead-then (w.at / 16) (reads_over (w.region.size - w.at)) 0 old now mid i.read (rw last_reads at reading)));
+          (HasRead-then (w.at / 16) (reads_over (w.region.size - w.at)) 0 old now mid i.read (rw (last_reads step w.region.size w.at last) at reading)));
       no_source = (faultless result own).1;
       found = found;
       answer = λ h. inr (is ∙ sym ((answered (Ok step) h (told_step _ _ (answer (honest_still i.read.device.calls.same_honesty h) i.going))).1 ∙ last_found));

@@ -75,10 +75,10 @@ LeavesWhole x name y = (y ≡ x) ⊎ ((group : CellRange) × (removal_in x name 
     × IsStopped group (length x - 4) x (removed x group) y)
 
 -- The effect of a removal on a region of an honest device's image, by the result.
-abbrev pub Removes : Range → List ℕ → Result CellRange EditFault → List ℕ → List ℕ → Type 0
-Removes region name (Ok group) old now = let x = bytes_in region old in
+abbrev pub IsRemoval : Range → List ℕ → Result CellRange EditFault → List ℕ → List ℕ → Type 0
+IsRemoval region name (Ok group) old now = let x = bytes_in region old in
     (removal_in x name ≡ Ok group) × (now ≡ overwritten old region.start (removed x group))
-Removes region name (Err fault) old now = let x = bytes_in region old in
+IsRemoval region name (Err fault) old now = let x = bytes_in region old in
     by_fault fault (LeavesWhole x name (bytes_in region now)) ⊥
     ((removal_in x name ≡ Err fault) × (now ≡ old))
 
@@ -94,14 +94,14 @@ AddLeavesBefore x new spot y = AddLeavesWhole x new spot y × (components y ≡ 
 
 -- The effect of an addition on a region of an honest device's image, by the result. `with_content`
 -- is the component by its content, the source's.
-abbrev pub Adds : Range → (List ℕ → NewComponent) → Spot → Device → Result Placed EditFault → List ℕ
-    → List ℕ → Type 0
-Adds region with_content spot source (Ok placed) old now =
+abbrev pub IsAddition : Range → (List ℕ → NewComponent) → Spot → Device → Result Placed EditFault
+    → List ℕ → List ℕ → Type 0
+IsAddition region with_content spot source (Ok placed) old now =
     let x = bytes_in region old in let new = with_content source.content in
     (place : Place) × (addition_in x new spot ≡ Ok place)
     × (placed ≡ record { header = place.header; content = place.content })
     × (IsTrue source.honest → now ≡ overwritten old region.start (added x new place))
-Adds region with_content spot source (Err fault) old now =
+IsAddition region with_content spot source (Err fault) old now =
     let x = bytes_in region old in let new = with_content source.content in
     by_fault fault (IsTrue source.honest → AddLeavesWhole x new spot (bytes_in region now))
     (AddLeavesBefore x new spot (bytes_in region now))

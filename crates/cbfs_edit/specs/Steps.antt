@@ -3,7 +3,7 @@ use Rattle.std.specs.Prelude.{◌≡◌, ℕ, ◌+◌, ◌/◌, List, [], ◌∷
 use Rattle.flash_device.specs.Device.{Calls, Device, Reads}
 use Rattle.flash_device.specs.Pages.{OnHonest}
 use Rattle.flash_device.specs.Regions.{Range}
-use Rattle.cbfs_edit.specs.Changes.{Adds, Removes, by_device, by_source}
+use Rattle.cbfs_edit.specs.Changes.{IsAddition, IsRemoval, by_device, by_source}
 use Rattle.cbfs_edit.specs.Additions.{new_component}
 use Rattle.cbfs_edit.specs.declared.edit.Edit.{Edit}
 use Rattle.cbfs_edit.specs.declared.edit.Edit.TheVariants.{Add, Remove}
@@ -25,11 +25,11 @@ module _ {S : Type 0} (facts : S → Device) where
   -- the effect of an edit on a region of an honest device's image, by the reply
   abbrev pub IsReply : Range → Edit S → Reply → List ℕ → List ℕ → Type 0
   IsReply region (Add name kind hash spot source) (replies.Placed placed) =
-      Adds region (new_component name.now kind hash) spot (facts source) (Ok placed)
+      IsAddition region (new_component name.now kind hash) spot (facts source) (Ok placed)
   IsReply region (Add name kind hash spot source) (replies.Refused fault) =
-      Adds region (new_component name.now kind hash) spot (facts source) (Err fault)
-  IsReply region (Remove name) (replies.Freed group) = Removes region name.now (Ok group)
-  IsReply region (Remove name) (replies.Refused fault) = Removes region name.now (Err fault)
+      IsAddition region (new_component name.now kind hash) spot (facts source) (Err fault)
+  IsReply region (Remove name) (replies.Freed group) = IsRemoval region name.now (Ok group)
+  IsReply region (Remove name) (replies.Refused fault) = IsRemoval region name.now (Err fault)
   IsReply region edit reply = λ old now. ⊥
 
   -- An edit keeps its arguments, and an honest source its content. A removal has no source.

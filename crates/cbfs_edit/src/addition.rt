@@ -7,7 +7,7 @@ ghost use Rattle.flash_format.specs.Made.{hash_len};
 ghost use Rattle.flash_device.specs.Device.{Reads, fault_count};
 ghost use Rattle.flash_device.specs.Pages.{HasChanged, HasCopiedIn, OnHonest, Returns, as_copy};
 ghost use Rattle.flash_device.specs.Regions.{LiesOn};
-ghost use Rattle.cbfs_edit.specs.Changes.{Adds, by_device, by_source};
+ghost use Rattle.cbfs_edit.specs.Changes.{IsAddition, by_device, by_source};
 ghost use Rattle.cbfs_edit.specs.Additions.{algorithm_of, argument_fault, choice_of, digest_of};
 ghost use Rattle.cbfs_edit.specs.Additions.{new_component, wanted_for};
 
@@ -219,7 +219,7 @@ pub fn add<F: Flash, S: Source>(
 
     ensures words { IfSome (argument_fault name.now kind spot) (λ fault.
         (result ≡ Err fault) × (paged.new ≡ paged.old) × (source.new ≡ source.old)) }
-    ensures effect { OnHonest paged.old.device (λ image. Adds region
+    ensures effect { OnHonest paged.old.device (λ image. IsAddition region
         (new_component name.now kind hash) spot (S.facts source.old) result image
         paged.new.device.content) }
 {

@@ -3,7 +3,7 @@ ghost use Rattle.std.specs.Prelude.{◌+◌, ◌/◌, IsErrOf};
 ghost use Rattle.flash_device.specs.Device.{fault_count};
 ghost use Rattle.flash_device.specs.Pages.{HasChanged, OnHonest};
 ghost use Rattle.flash_device.specs.Regions.{LiesOn};
-ghost use Rattle.cbfs_edit.specs.Changes.{Removes, by_device};
+ghost use Rattle.cbfs_edit.specs.Changes.{IsRemoval, by_device};
 
 use crate::fault::EditFault;
 use crate::group::{Freed, find_group};
@@ -29,7 +29,7 @@ pub fn remove<F: Flash>(
         (fault_count by_device result) paged.old paged.new }
     ensures no_source { IsErrOf result EditFault.Source → ⊥ }
     ensures effect { OnHonest paged.old.device (λ image.
-        Removes region name.now result image paged.new.device.content) }
+        IsRemoval region name.now result image paged.new.device.content) }
 {
     let group = find_group(paged, region, name)?;
     write_empty_entry(paged, region, group)?;

@@ -177,7 +177,7 @@ IsRefusal words result = ⊥
 
 -- for the arguments after the program's name: by clap's definitions, or the requested text
 abbrev pub Answers : Words → Result Invocation LineFault → Type 0
-Answers words result = let rows = matches_of check_words (texts words) in MatchOption (request_in words)
-    ((IsAccepted words × Gives (complaint_in rows) (IsInvocation rows) result)
-    ⊎ IsRefusal words result)
+Answers words result = let rows = matches_of check_words (texts words) in
+    MatchOption (request_in words) ((IsAccepted words
+    × Gives (complaint_in rows) (IsInvocation rows) result) ⊎ IsRefusal words result)
     (λ word. result ≡ Ok (if bytes_eq word.now (codes "--version") then Version else Help))

@@ -76,7 +76,8 @@ fn names_given<'a>(alloc: Global, list: Option<&'a str>) -> Result<Vec<&'a [u8]>
 }
 
 fn first_part<'a>(list: &'a str) -> (&'a str, Option<&'a str>)
-    ensures parts { parts_of (Some list.entry.now) ≡ result.0.now ∷ parts_of (option_copied result.1) }
+    ensures parts { parts_of (Some list.entry.now)
+        ≡ result.0.now ∷ parts_of (option_copied result.1) }
     ensures shorter { IfSome result.1 (λ rest. length rest.now < length list.entry.now) }
 {
     match list.split_once(',') {

@@ -20,7 +20,8 @@ fn place_of(offset: &str) -> Option<NeededPlace>
 }
 
 fn split_at_last<'a>(text: &'a str) -> Option<(&'a str, &'a str)>
-    ensures { option_map (λ parts. (parts.0.now, parts.1.now)) result ≡ rsplit_once 64 text.entry.now }
+    ensures { option_map (λ parts. (parts.0.now, parts.1.now)) result
+        ≡ rsplit_once 64 text.entry.now }
 {
     text.rsplit_once('@')
 }

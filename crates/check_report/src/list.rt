@@ -62,7 +62,8 @@ pub fn list_components<W: Sink + Drop>(
     printer: &mut Printer<W>,
     findings: &[ImageFinding],
 ) -> Result<(), WriteFault>
-    ensures { PrintsLines W.Sink result printer.old printer.new (flat_map components_in findings.now) }
+    ensures { PrintsLines W.Sink result printer.old printer.new
+        (flat_map components_in findings.now) }
 {
     for finding in findings {
         if let ImageFinding::Region { area, findings } = finding {

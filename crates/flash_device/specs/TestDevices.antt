@@ -15,8 +15,12 @@ refused_once f = record f { calls = f.calls + 1; faults = f.faults + 1 }
 -- device. Later writes have no effect.
 pub record RefusedWrite {F : Type 0} (facts : F → Device) (at : ℕ) (bytes : List ℕ)
     (old new : FailAt F) : Type 0 where
-  pub first : IsTrue old.tears → new ≡ record old { device = new.device; tears = false;
-      calls = old.calls + 1; faults = new.faults }
+  pub first : IsTrue old.tears → new ≡ record old {
+    device = new.device;
+    tears = false;
+    calls = old.calls + 1;
+    faults = new.faults;
+  }
   pub written : IsTrue old.tears → IsTrue (facts old.device).honest
       → (facts new.device).faults ≡ (facts old.device).faults
       → (facts new.device).content ≡ overwritten (facts old.device).content at (take old.part bytes)

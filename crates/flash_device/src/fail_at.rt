@@ -26,8 +26,8 @@ pub struct FailAt<F> {
 impl<F> FailAt<F> {
     /// Makes a device with `k` successful calls and a torn write of up to `part` bytes.
     pub fn new(device: F, k: u64, part: usize) -> FailAt<F>
-        ensures { result ≡ record { device = device; left = k; part = part; tears = true; calls = 0;
-            faults = 0 } }
+        ensures { result ≡
+            record { device = device; left = k; part = part; tears = true; calls = 0; faults = 0 } }
     {
         FailAt {
             device,

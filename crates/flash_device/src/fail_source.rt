@@ -15,8 +15,8 @@ pub struct FailSource<S> {
 impl<S> FailSource<S> {
     /// Makes a source with `k` successful reads.
     pub fn new(source: S, k: u64) -> FailSource<S>
-        ensures { result.reads ≡ record { device = source; left = k; part = 0; tears = true;
-            calls = 0; faults = 0 } }
+        ensures { result.reads
+            ≡ record { device = source; left = k; part = 0; tears = true; calls = 0; faults = 0 } }
     {
         FailSource {
             reads: FailAt::new(source, k, 0),

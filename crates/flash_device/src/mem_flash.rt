@@ -27,8 +27,9 @@ impl Model for MemFlash {
 impl MemFlash {
     /// Makes a device, or returns 2^32 bytes or more.
     pub fn new(bytes: Vec<u8>) -> Result<MemFlash, Vec<u8>>
-        ensures { MatchResult result (λ device. device ≡ record { content = bytes.items;
-            calls = 0 }) (λ back. (back ≡ bytes) × (2 ^ 32 ≤ vec_len bytes)) }
+        ensures { MatchResult result
+            (λ device. device ≡ record { content = bytes.items; calls = 0 })
+            (λ back. (back ≡ bytes) × (2 ^ 32 ≤ vec_len bytes)) }
     {
         if bytes.len() >= 1 << 32 {
             return Err(bytes);
@@ -48,8 +49,8 @@ impl MemFlash {
 
     fn replace(&mut self, at: u64, bytes: &[u8])
         requires { at + length bytes.now ≤ length self.old.content }
-        ensures { self.new ≡ record { content = overwritten self.old.content at bytes.now;
-            calls = self.old.calls + 1 } }
+        ensures { let content = overwritten self.old.content at bytes.now in
+            self.new ≡ record { content = content; calls = self.old.calls + 1 } }
     {
         self.calls.tick();
         let start = at as usize;

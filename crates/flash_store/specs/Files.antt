@@ -66,8 +66,12 @@ pub record Flaky : Type 0 where
 
 -- as a faithful file
 abbrev pub stored : Flaky → Stored
-stored file = record { content = file.content; faithful = true; written_at = file.written_at;
-    written_len = file.written_len }
+stored file = record {
+  content = file.content;
+  faithful = true;
+  written_at = file.written_at;
+  written_len = file.written_len;
+}
 
 -- each byte of the range is 0xff
 abbrev pub IsErased : ℕ → ℕ → List ℕ → Type 0

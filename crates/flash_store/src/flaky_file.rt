@@ -28,9 +28,15 @@ impl Model for FlakyFile {
 
     ghost Value = { Flaky };
 
-    ghost view = { λ f. record { content = f.bytes.items; most = f.most; between = f.between;
-        before = f.before; left = f.left; written_at = f.written_at;
-        written_len = f.written_len } };
+    ghost view = { λ f. record {
+      content = f.bytes.items;
+      most = f.most;
+      between = f.between;
+      before = f.before;
+      left = f.left;
+      written_at = f.written_at;
+      written_len = f.written_len;
+    } };
 
     ghost invariant = { λ f. length f.bytes.items < 2 ^ 32 };
 }
@@ -39,8 +45,15 @@ impl FlakyFile {
     /// Makes a file of fewer than 2^32 bytes. 0 for `between` interrupts every call.
     pub fn new(bytes: Vec<u8>, most: usize, between: u64, left: u64) -> FlakyFile
         requires { length bytes.items < 2 ^ 32 }
-        ensures { result ≡ record { content = bytes.items; most = most; between = between;
-            before = between; left = left; written_at = 0; written_len = 0 } }
+        ensures { result ≡ record {
+          content = bytes.items;
+          most = most;
+          between = between;
+          before = between;
+          left = left;
+          written_at = 0;
+          written_len = 0;
+        } }
     {
         FlakyFile {
             bytes,
@@ -86,8 +99,8 @@ impl FlakyFile {
 
     fn replace(&mut self, at: u64, bytes: &[u8])
         requires { at + length bytes.now ≤ length self.old.content }
-        ensures { self.new ≡ record self.old { content = overwritten self.old.content at bytes.now;
-            written_at = at; written_len = length bytes.now } }
+        ensures { let content = overwritten self.old.content at bytes.now in self.new ≡
+            record self.old { content = content; written_at = at; written_len = length bytes.now } }
     {
         let _below = self.len();
         let start = at as usize;
@@ -117,8 +130,12 @@ fn is_in_one_block(at: u64, n: usize) -> bool {
 }
 
 impl Storage for FlakyFile {
-    ghost facts = { λ f. record { content = f.content; faithful = true; written_at = f.written_at;
-        written_len = f.written_len } };
+    ghost facts = { λ f. record {
+      content = f.content;
+      faithful = true;
+      written_at = f.written_at;
+      written_len = f.written_len;
+    } };
 
     fn len(&self) -> u64 {
         self.bytes.len() as u64

@@ -29,8 +29,12 @@ impl Model for OsFile {
     // No clause of the kit relates a system file to bytes. So the content is zeros here, and the
     // file is unfaithful, which no contract states: clauses about faithful files hold for it by the
     // assumption that a call does what it returns.
-    ghost view = { λ f. record { content = replicate f.len 0; faithful = f.faithful.value;
-        written_at = 0; written_len = 0 } };
+    ghost view = { λ f. record {
+      content = replicate f.len 0;
+      faithful = f.faithful.value;
+      written_at = 0;
+      written_len = 0;
+    } };
 
     ghost invariant = { λ f. f.faithful.value ≡ false };
 }

@@ -50,7 +50,7 @@ abbrev pub IsPrefixOf : Option (List ℕ) → List ℕ → Type 0
 IsPrefixOf text read = IfSome text (λ t. read ≡ take reading_limit t)
 
 -- the reader advances by at most the reading limit
-pub record HasRead {R : Type 0} (source : ReaderOf R) (old new : R) : Type 0 where
+pub record HasReadText {R : Type 0} (source : ReaderOf R) (old new : R) : Type 0 where
   pub given : source.given new ≤ source.given old + reading_limit
   pub read : (read : List ℕ) × Consumes (source.remaining old) (source.remaining new) read
       × (length read ≤ reading_limit)

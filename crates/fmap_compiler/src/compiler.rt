@@ -1,7 +1,7 @@
 //! Compiles a descriptor into the table.
 
 ghost use Rattle.std.specs.Prelude.{◌≡◌, ◌<◌, ◌≤◌, ◌⊎◌, IfOk, IfErr, IsErrOf};
-ghost use Rattle.fmap_compiler.specs.Outcome.{Compiles, Delivers, HasRead, IsPrefixOf, Refuses};
+ghost use Rattle.fmap_compiler.specs.Outcome.{Compiles, Delivers, HasReadText, IsPrefixOf, Refuses};
 
 use crate::reader::TextReader;
 use crate::refusal::Refusal;
@@ -18,7 +18,7 @@ fn read_text<R: TextReader>(alloc: Global, reader: &mut R) -> Result<Vec<u8>, Re
     ensures cause { IsErrOf result Refusal.Read → R.faults reader.old < R.faults reader.new }
     ensures refused { IfErr result (λ refusal.
         (refusal ≡ Refusal.Read) ⊎ (refusal ≡ Refusal.Descriptor FmdFault.Memory)) }
-    ensures reader { HasRead R.TextReader reader.old reader.new }
+    ensures reader { HasReadText R.TextReader reader.old reader.new }
 {
     let mut text = Vec::new(alloc);
     let mut buffer = [0; 4096];
@@ -55,7 +55,7 @@ pub fn run<R: TextReader, W: Sink>(
     ensures read_cause { IsErrOf result Refusal.Read → R.faults reader.old < R.faults reader.new }
     ensures output_cause { IsErrOf result Refusal.Output
         → W.faults writer.old < W.faults writer.new }
-    ensures reader { HasRead R.TextReader reader.old reader.new }
+    ensures reader { HasReadText R.TextReader reader.old reader.new }
     ensures writer_faults { W.faults writer.old ≤ W.faults writer.new }
 {
     let text = read_text(alloc, reader)?;

@@ -5,7 +5,7 @@ use Rattle.fmd_lang.specs.Words.{Word, words_after, kind_of}
 use Rattle.fmd_lang.specs.Grammar.{One, Then, IsA, HasValue, annotation_flag}
 use Rattle.fmd_lang.specs.Faults.{Stage, Standing, in_annotations, next_standing}
 use Rattle.fmd_lang.proofs.FormLemmas.{IsAnnotation, annotation-name}
-use Rattle.fmd_lang.specs.ParserResults.{Reads, Parses, IsNext, word_of, piece_end}
+use Rattle.fmd_lang.specs.ParserResults.{ReadsTokens, Parses, IsNext, word_of, piece_end}
 use Rattle.fmd_lang.specs.declared.parser.Token.{Token}
 use Rattle.fmd_lang.specs.declared.word.Kind.{Kind}
 use Rattle.fmd_lang.specs.declared.word.Kind.TheVariants.{End, Name, Number}
@@ -14,7 +14,7 @@ use Rattle.fmd_lang.specs.declared.fault.FmdFault.{FmdFault}
 -- ---- forms
 
 pub reads-then : {P Q : List Word → Type 0} {before middle after : Standing} {text : List ℕ} {from mid to : ℕ} →
-    Reads P before middle text from mid → Reads Q middle after text mid to → Reads (Then P Q) before after text from to
+    ReadsTokens P before middle text from mid → ReadsTokens Q middle after text mid to → ReadsTokens (Then P Q) before after text from to
 reads-then {text = text} {to = to} p q = record {
   ahead = omega (arith, p.ahead, q.ahead);
   front = p.front ++ q.front;
@@ -24,7 +24,7 @@ reads-then {text = text} {to = to} p q = record {
 }
 
 pub reads-as : {P Q : List Word → Type 0} {before after : Standing} {text : List ℕ} {from to : ℕ} →
-    ((v : List Word) → P v → Q v) → Reads P before after text from to → Reads Q before after text from to
+    ((v : List Word) → P v → Q v) → ReadsTokens P before after text from to → ReadsTokens Q before after text from to
 reads-as wider p = record { ahead = p.ahead; front = p.front; split = p.split; form = wider p.front p.form; same = p.same }
 
 -- ---- tokens
@@ -33,7 +33,7 @@ reads-as wider p = record { ahead = p.ahead; front = p.front; split = p.split; f
 pub record Takes (F : Word → Type 0) (before after : Standing) (text : List ℕ) (from to : ℕ) : Type 0 where
   pub ahead : from < to
   pub inside : to ≤ length text
-  pub reads : Reads (One F) before after text from to
+  pub reads : ReadsTokens (One F) before after text from to
 
 pub token-takes : {text : List ℕ} {from depth to : ℕ} {token : Token} (F : Word → Type 0) (s : Stage) (after : Standing)
     (k : Kind) → IsNext text from depth token → to ≡ piece_end token.word → token.kind ≡ k → k ≢ End →

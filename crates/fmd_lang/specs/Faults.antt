@@ -94,6 +94,6 @@ FailsWith refusal (Ok x) = refusal ≡ None
 FailsWith refusal (Err fault) = (fault ≡ faults.Memory) ⊎ (refusal ≡ Some fault)
 
 -- the exact value or error, or an allocation failure
-abbrev pub Gives : {X Y : Type 0} → Result Y FmdFault → (X → Y) → Result X FmdFault → Type 0
-Gives exact value (Ok x) = exact ≡ Ok (value x)
-Gives exact value (Err fault) = (fault ≡ faults.Memory) ⊎ (exact ≡ Err fault)
+abbrev pub IsExact : {X Y : Type 0} → Result Y FmdFault → (X → Y) → Result X FmdFault → Type 0
+IsExact exact value (Ok x) = exact ≡ Ok (value x)
+IsExact exact value (Err fault) = (fault ≡ faults.Memory) ⊎ (exact ≡ Err fault)

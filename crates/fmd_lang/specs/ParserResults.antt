@@ -25,7 +25,7 @@ IsFirst text from w = ((words_after text from ≡ []) × (word_of w ≡ word (le
 
 -- The tokens between two offsets have the form P and no fault, and take the parser from `before`
 -- to `after`.
-pub record Reads (P : List Word → Type 0) (before after : Standing) (text : List ℕ)
+pub record ReadsTokens (P : List Word → Type 0) (before after : Standing) (text : List ℕ)
     (from to : ℕ) : Type 0 where
   pub ahead : from ≤ to
   pub front : List Word
@@ -37,7 +37,7 @@ pub record Reads (P : List Word → Type 0) (before after : Standing) (text : Li
 -- allocation failure.
 abbrev pub Parses : {X : Type 0} → (X → List Word → Type 0) → Standing → Standing → List ℕ → ℕ
     → Result (X × ℕ) FmdFault → Type 0
-Parses P before after text from (Ok (x, to)) = Reads (P x) before after text from to
+Parses P before after text from (Ok (x, to)) = ReadsTokens (P x) before after text from to
 Parses P before after text from (Err fault) =
     (fault ≡ faults.Memory) ⊎ (fault_at text from before ≡ Some fault)
 

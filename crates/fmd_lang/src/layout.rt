@@ -2,7 +2,7 @@
 
 ghost use Rattle.std.specs.Prelude.{◌≡◌, ◌≤◌, ◌<◌, ◌+◌, ◌*◌, ◌^◌, length};
 ghost use Rattle.std.specs.Prelude.{Some, None, Ok, IfOk};
-ghost use Rattle.fmd_lang.specs.Faults.{FailsWith, Gives};
+ghost use Rattle.fmd_lang.specs.Faults.{FailsWith, IsExact};
 ghost use Rattle.fmd_lang.specs.Tree.{section_count, names, names_of, view, views};
 ghost use Rattle.fmd_lang.specs.Layout as spec;
 ghost use Rattle.fmd_lang.specs.Table.{area_limit, areas_below, IsTable};
@@ -53,8 +53,8 @@ fn push_areas(
 ) -> Result<(), FmdFault>
     requires count { length areas.old.items + section_count (view section.now) ≤ area_limit + 1 }
     requires inside { at + size < 2 ^ 32 }
-    ensures { Gives (areas_below at size (view section.now) areas.old.items) (λ _. areas.new.items)
-        result }
+    ensures { IsExact (areas_below at size (view section.now) areas.old.items)
+        (λ _. areas.new.items) result }
 {
     let row = siblings(alloc, areas.len() + 1, &section.parts)?;
     let places = lay_row(alloc, size, &row)?;
@@ -76,7 +76,7 @@ fn push_areas(
 /// Returns siblings, numbered from `first` in preorder.
 fn siblings(alloc: Global, first: usize, parts: &[Section]) -> Result<Vec<Sibling>, FmdFault>
     requires { first + length (names_of (views parts.now)) < 2 ^ 64 }
-    ensures { Gives (Ok (spec.siblings first (views parts.now))) (λ row. row.items) result }
+    ensures { IsExact (Ok (spec.siblings first (views parts.now))) (λ row. row.items) result }
 {
     let mut row = Vec::new(alloc);
     let mut number = first;

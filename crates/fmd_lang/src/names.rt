@@ -5,7 +5,7 @@ ghost use Rattle.std.specs.Str.{bytes_eq};
 ghost use Rattle.fmd_lang.specs.Tree.{names, view};
 ghost use Rattle.fmd_lang.specs.LayoutFaults.{names_fault, duplicate};
 ghost use Rattle.fmd_lang.specs.Table.{field_of};
-ghost use Rattle.fmd_lang.specs.Faults.{FailsWith, Gives};
+ghost use Rattle.fmd_lang.specs.Faults.{FailsWith, IsExact};
 
 use crate::fault::FmdFault;
 use crate::section::Section;
@@ -23,7 +23,7 @@ pub fn check_names_of(alloc: Global, root: &Section) -> Result<(), FmdFault>
 }
 
 fn push_names<'s>(section: &'s Section, all: &mut Vec<&'s [u8]>) -> Result<(), FmdFault>
-    ensures { Gives (Ok (map (λ r. r.now) all.old.items ++ names (view section.now)))
+    ensures { IsExact (Ok (map (λ r. r.now) all.old.items ++ names (view section.now)))
         (λ _. map (λ r. r.now) all.new.items) result }
 {
     all.push(section.name.as_slice())?;
@@ -52,7 +52,7 @@ fn check_names(alloc: Global, names: &[&[u8]]) -> Result<(), FmdFault>
 }
 
 fn first_duplicate(alloc: Global, names: &[&[u8]]) -> Result<Option<usize>, FmdFault>
-    ensures { Gives (Ok (duplicate 0 [] (map (λ r. r.now) names.now))) (λ found. found) result }
+    ensures { IsExact (Ok (duplicate 0 [] (map (λ r. r.now) names.now))) (λ found. found) result }
 {
     let mut seen = BTreeSet::new(alloc);
     for (number, name) in names.iter().enumerate() {

@@ -28,8 +28,9 @@ lines_field name lines = (name, json_value (array (items (map line_json lines)))
 
 -- the fields before the rows
 abbrev pub first_fields : Files → Option (List Line) → List SeenField
-first_fields f list = (codes "format", seen_value (Count 1)) ∷ (codes "image", text_value f.image.now)
-    ∷ (codes "old", option_map_or text_value (option_copied f.old) (seen_value Absent))
+first_fields files list = (codes "format", seen_value (Count 1))
+    ∷ (codes "image", text_value files.image.now)
+    ∷ (codes "old", option_map_or text_value (option_copied files.old) (seen_value Absent))
     ∷ option_map_or (λ lines. lines_field (codes "components") lines ∷ []) list []
 
 abbrev pub document : Files → Option (List Line) → List Line → Counts → Json

@@ -40,8 +40,8 @@ impl<W: Sink + Drop> Printer<W> {
 
     /// Prints the report up to this array's first item.
     pub fn start(&mut self, files: Files<'_>, array: &str) -> Result<(), WriteFault>
-        ensures { Prints W.Sink result self.old self.new
-            (part self.old.form false [] (start_tokens (first_fields files.entry None) array.now)) false }
+        ensures { Prints W.Sink result self.old self.new (part self.old.form false []
+            (start_tokens (first_fields files.entry None) array.now)) false }
     {
         self.follows = false;
         match self.form {
@@ -64,8 +64,8 @@ impl<W: Sink + Drop> Printer<W> {
     /// Prints the part between the components and the rows.
     #[tactic(auto, unfolding(json::specs::Print::print_from, json::specs::Print::escape_byte))]
     pub fn between(&mut self) -> Result<(), WriteFault>
-        ensures { Prints W.Sink result self.old self.new
-            (part self.old.form false [] (end_array ∷ key (codes "rows") ∷ begin_array ∷ [])) false }
+        ensures { Prints W.Sink result self.old self.new (part self.old.form false []
+            (end_array ∷ key (codes "rows") ∷ begin_array ∷ [])) false }
     {
         self.follows = false;
         match self.form {

@@ -16,4 +16,3 @@ loop-area-preserved g c =
       found = λ h. rw add.left (found_more _ _ c.loop-area.left c.loop-area.area-index c.args.areas.now _ c.in_ok-finding.finding _ _ _ c.loop-area-test.true c.in_ok-push.ensures.items
           (rw (device.unchanged h) at (add.found (honest_still device.calls.same_honesty h))) (had.found h));
     }
-
