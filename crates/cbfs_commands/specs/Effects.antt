@@ -143,8 +143,8 @@ abbrev pub OnAllHonest : Effect → Device → Device → (List ℕ → List ℕ
 OnAllHonest d device source P = IsTrue device.honest
     → (0 < d.source_calls source → IsTrue source.honest) → P device.content source.content
 
--- A fault implies a failed call of the device or the source, or an output. All later fields require
--- an honest device.
+-- A fault of the device or the source is a failed call. The fields from `spares` on require an
+-- honest device, the last two also an honest source if the command reads it.
 pub record HasEffect (d : Effect) (old new source source_now : Device)
     (answer : CommandResult) : Type 0 where
   pub calls : Calls (call_limit old) (fault_count by_device answer) old new
