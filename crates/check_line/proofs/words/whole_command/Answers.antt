@@ -25,8 +25,7 @@ also = ap₂ (λ x xs. x ∷ xs)
 
 pub returns : goal.returns
 returns c =
-    let begun : app_of c.no_binary_name-command.result ≡ nameless (new_app (codes "cbfscheck")) =
-    ap app_of_fields c.no_binary_name-command.ensures ∙ ap nameless c.new-3.ensures.app in
+    let begun : app_of c.no_binary_name-command.result ≡ nameless (new_app (codes "cbfscheck")) = ap app_of_fields c.no_binary_name-command.ensures ∙ ap nameless c.new-3.ensures.app in
     let args = c.in_ok-arguments.arguments.items in
     let are = c.in_ok-arguments.ensures.items in
     let local : map (λ (arg : Arg). arg.global) args ≡ map (λ _. false) args = rw are
@@ -36,13 +35,9 @@ returns c =
     (rw (c.long.ensures.local, c.long-2.ensures.local, c.long-3.ensures.local)
     (rw (c.long-4.ensures.local, c.long-5.ensures.local, c.long-6.ensures.local) refl))))) in
     let rules : map rule_of args ≡ check_words.top.rules = ap (map rule_of) are
-    ∙ also c.new.ensures.rule (also c.new-2.ensures.rule (also c.short.ensures.rule
-    (also (c.flag.ensures.rule ∙ ap flag c.short-2.ensures.rule)
-    (also (c.flag-2.ensures.rule ∙ ap flag c.long.ensures.rule)
-    (also (c.flag-3.ensures.rule ∙ ap flag c.long-2.ensures.rule) (also c.long-3.ensures.rule
+    ∙ also c.new.ensures.rule (also c.new-2.ensures.rule (also c.short.ensures.rule (also (c.flag.ensures.rule ∙ ap flag c.short-2.ensures.rule)
+    (also (c.flag-2.ensures.rule ∙ ap flag c.long.ensures.rule) (also (c.flag-3.ensures.rule ∙ ap flag c.long-2.ensures.rule) (also c.long-3.ensures.rule
     (also (c.flag-4.ensures.rule ∙ ap flag c.long-4.ensures.rule)
     (also (c.flag-5.ensures.rule ∙ ap flag c.long-5.ensures.rule)
     (also c.long-6.ensures.rule refl))))))))) in
-    IfOk-weaker c.args-2.result _ _
-    (λ command added. all_added _ _ command local added ∙ ap₂ (fold with_rule) begun rules)
-    c.args-2.ensures
+    IfOk-weaker c.args-2.result _ _ (λ command added. all_added _ _ command local added ∙ ap₂ (fold with_rule) begun rules) c.args-2.ensures

@@ -13,5 +13,4 @@ returns g c =
       | then-self w ↦ search (rules, tests)
       | else-self w ↦ search (rules, tests)
     ] in
-    adds_row g.W.Sink _ old _ _ _ refl before c.in_ok-self.ensures
-    (rw shown at c.row_if.ensures)
+    adds_row g.W.Sink _ old _ _ _ refl before c.in_ok-self.ensures (rw shown at c.row_if.ensures)
