@@ -11,6 +11,7 @@ use Rattle.json.specs.Json.{string}
 use Prim.Native.String.{String}
 use lib.Chars.{codes}
 use Rattle.check_report.specs.declared.rows.field.Value.TheVariants.{Absent, Dash, Count, Offset}
+pub use Rattle.check_findings.specs.ImageFindings.{names_in}
 use Rattle.check_findings.specs.Lists.{only_if}
 use Rattle.check_report.specs.declared.rows.kinds.Kind.{Kind}
 use Rattle.check_report.specs.declared.rows.row.Verdict.{Verdict}
@@ -62,9 +63,6 @@ row_at position row = with_field "position" (seen_value (Offset position)) row
 
 abbrev pub in_area : List ℕ → SeenRow → SeenRow
 in_area name row = with_field "area" (name_value name) row
-
-abbrev pub names_in : List (Bor (List ℕ)) → List (List ℕ)
-names_in names = map (λ n. n.now) names
 
 abbrev pub area_name : NumberedArea → List ℕ
 area_name a = text_of a.area.name
