@@ -4,7 +4,6 @@ use Rattle.std.specs.Prelude.{count_by, map, if◌then◌else◌}
 use Rattle.flash_format.specs.Flashmap.{text_of}
 use Rattle.flash_map.specs.declared.areas.NumberedArea.{NumberedArea}
 use Rattle.std.specs.List.{flat_map, list_any}
-use Rattle.std.specs.Borrow.{Bor}
 use Rattle.std.specs.Fmt.{decimal}
 use Rattle.std.specs.Str.{bytes_eq}
 use Rattle.json.specs.Json.{string}
