@@ -13,7 +13,7 @@ returns-clause-checked g c = λ honest_old honest_new.
     let read : c.in_ok-regions.regions.items ≡ cbfs_areas c.image_map.new.paged.device.content c.deref.result.now = search (rules, c.cbfs_areas.ensures.areas still) in
     let same : c.image_map.new.paged.device.content ≡ x = search rules in
     let regions : c.in_ok-regions.regions.items ≡ cbfs_areas x (image_areas x) =
-        subst (λ y. c.in_ok-regions.regions.items ≡ cbfs_areas y c.deref.result.now) same read ∙ ap (λ a. cbfs_areas x a) slice in
+    subst (λ y. c.in_ok-regions.regions.items ≡ cbfs_areas y c.deref.result.now) same read ∙ ap (λ a. cbfs_areas x a) slice in
     record {
       findings = search (rules, regions);
       changes = record {
