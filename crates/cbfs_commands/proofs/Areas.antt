@@ -7,9 +7,10 @@ use Rattle.flash_format.specs.declared.flashmap.Area.{Area}
 use Rattle.flash_format.specs.Flashmap.{area_of, areas_from}
 use Rattle.flash_map.specs.Fmap.{found_in}
 use Rattle.flash_map.specs.declared.search.FoundMap.{FoundMap}
-use Rattle.cbfs_commands.specs.Rows.{area_line, map_line, layout}
+use Rattle.cbfs_commands.specs.Rows.{area_line, map_line}
+use Rattle.cbfs_commands.specs.Outcomes.{layout}
 use Rattle.cbfs_commands.proofs.OutputParts.{text_then}
-use Rattle.cbfs_commands.specs.Printouts.{Printout, shows}
+use Rattle.cbfs_commands.specs.Outcomes.{Printout, shows}
 
 abbrev pub rows_of : List ℕ → ℕ → ℕ → List ℕ
 rows_of image n at = flat_map area_line (areas_from n (drop at image))

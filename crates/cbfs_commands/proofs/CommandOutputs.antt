@@ -5,7 +5,7 @@ use Rattle.std.proofs.KnownBytes.{Appends-nil}
 use Rattle.cbfs_commands.proofs.RefusedEdits.{LeavesOr}
 use Rattle.cbfs_commands.specs.declared.refusal.Refusal.TheVariants as refusals
 use Rattle.cbfs_commands.specs.Outcomes.{Outcome}
-use Rattle.cbfs_commands.specs.Printouts.{CommandResult, PrintsOut}
+use Rattle.cbfs_commands.specs.Outcomes.{CommandResult, PrintsOut}
 
 pub silent : (known : Option (List ℕ)) (now : List ℕ) (answer : CommandResult) (o : Outcome) → LeavesOr now answer o → o.printout.written ≡ [] → (answer ≡ Err refusals.Output → ⊥) → PrintsOut known known answer o.printout
 silent known now answer o left none no_output = grind (arith, common_steps, Appends-nil)

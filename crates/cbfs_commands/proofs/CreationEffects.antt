@@ -5,7 +5,7 @@ use Rattle.std.specs.Prelude.{fold}
 use Rattle.flash_device.specs.Device.{Calls, Device, SameOutside, call_limit, fault_count, overwritten}
 use Rattle.flash_device.specs.Laws.{with_edit}
 use Rattle.flash_device.specs.Regions.{Range}
-use Rattle.cbfs_edit.specs.Formats.{formatted}
+use Rattle.cbfs_edit.specs.Changes.{formatted}
 use Rattle.flash_device.specs.Pages.{OnHonest}
 use Rattle.cbfs_commands.specs.declared.create.plan.Plan.{Plan}
 use Rattle.cbfs_commands.specs.declared.refusal.Refusal.{Refusal}
@@ -14,7 +14,7 @@ use Rattle.cbfs_commands.specs.Creations.{created_image, plan_for}
 use Rattle.cbfs_commands.specs.Effects.{HasEffect, OnAllHonest, create, effect}
 use Rattle.cbfs_commands.proofs.RefusedEdits.{LeavesOr}
 use Rattle.cbfs_commands.specs.Refusals.{by_device, by_source}
-use Rattle.cbfs_commands.specs.Printouts.{CommandResult}
+use Rattle.cbfs_commands.specs.Outcomes.{CommandResult}
 
 whole-image : (image now : List ℕ) → length now ≡ length image → SameOutside 0 (length image) image now
 whole-image image now same = grind (arith, common_steps)

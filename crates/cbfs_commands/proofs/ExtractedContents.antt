@@ -1,9 +1,9 @@
 -- Added content is extracted.
 use Rattle.std.proofs.Common.{arith}
 use Rattle.std.proofs.lemmas.Grind.{common_steps}
-use Rattle.std.proofs.Common.{◌≡◌, ℕ, false, List, length, Option, Result, ◌∙◌, ap, sym}
-use Rattle.flash_format.specs.Components.{is_packed}
-use Rattle.flash_format.specs.Made.{made_attributes}
+use Rattle.std.proofs.Common.{◌≡◌, ℕ, List, length, Option, Result, ◌∙◌, ap, sym}
+use Rattle.flash_format.specs.Components.{packing}
+use Rattle.flash_format.proofs.MadeLaws.{made_attributes}
 use Rattle.flash_format.specs.declared.digest.Digest.{Digest}
 use Rattle.flash_device.specs.Device.{overwritten}
 use Rattle.flash_device.specs.Regions.{Range, bytes_in}
@@ -17,12 +17,12 @@ use Rattle.cbfs_edit.proofs.AdditionLemmas.{added_length}
 use Rattle.cbfs_edit.proofs.SearchLaws.{additions_found}
 use Rattle.cbfs_commands.specs.Refusals.{fault_or, store_refusal}
 use Rattle.cbfs_commands.specs.Outcomes.{extract_region}
-use Rattle.cbfs_commands.specs.Printouts.{refuses, shows}
+use Rattle.cbfs_commands.specs.Outcomes.{refuses, shows}
 use Rattle.cbfs_commands.specs.Laws.{AdditionsAreExtracted}
 use Rattle.cbfs_commands.proofs.RegionPlaces.{region_lies, whole_over}
 
 -- no compression attribute
-plain : (digest : Option Digest) → is_packed (made_attributes digest) ≡ false
+plain : (digest : Option Digest) → packing (made_attributes digest) ≡ 0
 plain digest = grind (arith, common_steps)
 
 pub additions_extracted : (x : List ℕ) (new : NewComponent) (spot : Spot) (place : Place) → IsAdded x new spot place → AdditionsAreExtracted x new place

@@ -6,7 +6,7 @@ use Rattle.std.specs.Io.KnownBytes.{Appends}
 use Rattle.std.specs.Result.{IsErrAnd}
 use Rattle.std.proofs.KnownBytes.{Appends-nil, Appends-trans}
 use Rattle.flash_device.specs.declared.sink.Sink.{Ghosts as SinkOf}
-use Rattle.flash_device.specs.Output.{AppendsPart}
+use Rattle.flash_device.specs.Device.{AppendsPart}
 use Rattle.flash_device.specs.Pages.{Pages, HasRead, OnHonest}
 use Rattle.flash_device.specs.Regions.{Range, bytes_in}
 use Rattle.flash_device.proofs.DeviceLemmas.{honest_still, LiesOn-calls}
@@ -15,8 +15,14 @@ use Rattle.cbfs_walk.specs.Walks.{StandsIn}
 use Rattle.cbfs_walk.specs.declared.cell.Cell.{Cell}
 use Rattle.cbfs_commands.specs.declared.refusal.Refusal.{Refusal}
 use Rattle.cbfs_commands.specs.declared.refusal.Refusal.TheVariants as refusals
-use Rattle.cbfs_commands.specs.Refusals.{by_device}
-use Rattle.cbfs_commands.specs.Printouts.{CommandResult, HasOutput, IsCellOf, Printout, refuses, shows, PrintsOut}
+use Rattle.cbfs_commands.specs.Refusals.{by_device, edit_refusal}
+use Rattle.cbfs_edit.specs.Removals.{edit_fault_of}
+use Rattle.cbfs_walk.specs.declared.walk.WalkFault.{WalkFault}
+use Rattle.cbfs_commands.specs.Outcomes.{CommandResult, HasOutput, IsCellOf, Printout, refuses, shows, PrintsOut}
+
+-- the error of a walk
+abbrev pub walk_refusal : WalkFault → Refusal
+walk_refusal fault = edit_refusal (edit_fault_of fault)
 
 -- a text, then the output
 abbrev pub text_then : List ℕ → Printout → Printout

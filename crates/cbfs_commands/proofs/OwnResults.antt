@@ -1,36 +1,36 @@
 -- No outcome's own answer is a fault of the device, the output or the source.
 use Rattle.std.proofs.Common.{arith}
 use Rattle.std.proofs.lemmas.Grind.{common_steps}
-use Rattle.std.proofs.Common.{◌≡◌, inl, inr, ℕ, Bool, false, cond, List, [], ◌∷◌, ◌==◌, Option, Result, Ok, Err, sym, subst}
+use Rattle.std.proofs.Common.{◌≡◌, inl, inr, ℕ, Bool, false, cond, List, [], ◌∷◌, Option, Some, Result, Ok, Err, sym, subst}
 use Rattle.std.specs.Option.{ok_or, option_map_or}
 use Rattle.std.specs.Prelude.{⊤}
+use Rattle.std.specs.Result.{result_map_both}
 use Rattle.flash_format.specs.declared.flashmap.Area.{Area}
 use Rattle.flash_format.specs.Components.{Component, components}
 use Rattle.flash_format.specs.Cut.{End, complete, tail, damage, cut}
-use Rattle.flash_format.specs.Flashmap.{map_len}
-use Rattle.flash_map.specs.Fmap.{map_head}
 use Rattle.flash_device.specs.Regions.{Range, bytes_in}
 use Rattle.flash_map.specs.Regions.{region_by_area, region_of}
-use Rattle.cbfs_walk.specs.Search.{Found, component_in, first_named, found_or, not_found}
+use Rattle.cbfs_walk.specs.Search.{component_in, first_named, not_found}
 use Rattle.cbfs_walk.specs.CellReadings.{place_after}
-use Rattle.cbfs_walk.specs.Shapes.{has_bad_size, refused_or, shape_fault}
+use Rattle.cbfs_walk.specs.Shapes.{has_bad_size, shape_fault}
 use Rattle.cbfs_walk.specs.declared.walk.WalkFault.{WalkFault}
 use Rattle.cbfs_walk.specs.declared.walk.WalkFault.TheVariants as walk
 use Rattle.cbfs_edit.specs.Additions.{NewComponent, addition_in}
-use Rattle.cbfs_edit.specs.Removals.{group_of, removal_in, unless_damaged, unless_unsound}
+use Rattle.cbfs_edit.specs.Removals.{group_from, removal_in, unless_unsound}
+use Rattle.cbfs_edit.proofs.Sound.{unless_damaged}
 use Rattle.cbfs_edit.specs.Places.{placing_in}
 use Rattle.cbfs_edit.specs.declared.fault.EditFault.{EditFault}
 use Rattle.cbfs_edit.specs.declared.fault.EditFault.TheVariants as edit
 use Rattle.cbfs_edit.specs.declared.place.Spot.{Spot}
-use Rattle.cbfs_commands.specs.declared.create.plan.Plan.{Plan}
 use Rattle.cbfs_commands.specs.declared.refusal.Refusal.{Refusal}
 use Rattle.cbfs_commands.specs.declared.refusal.Refusal.TheVariants as refusals
-use Rattle.cbfs_commands.specs.Creations.{head_for, map_place, plan_for, plan_of, region_place, region_places}
+use Rattle.cbfs_commands.specs.Creations.{plan_for, region_places}
 use Rattle.cbfs_commands.specs.Effects.{effect, edits, Request}
-use Rattle.cbfs_commands.specs.Rows.{layout}
+use Rattle.cbfs_commands.specs.Outcomes.{layout}
 use Rattle.cbfs_commands.specs.Outcomes.{print_region, printed_component, printed_in}
-use Rattle.cbfs_commands.specs.Refusals.{IsFault, edit_refusal, fault_or, store_refusal, walk_refusal}
-use Rattle.cbfs_commands.specs.Printouts.{Printout, refuses}
+use Rattle.cbfs_commands.specs.Refusals.{IsFault, edit_refusal, fault_or, store_refusal}
+use Rattle.cbfs_commands.proofs.OutputParts.{walk_refusal}
+use Rattle.cbfs_commands.specs.Outcomes.{Printout, refuses}
 
 -- an error that is no such fault
 abbrev BlamesNone : Refusal → Type 0
@@ -76,15 +76,15 @@ unfolding region_of
 region_of-blameless image name = grind (arith, common_steps)
 
 -- either error of a region's shape, or the later answer
-unless-misshapen : {A : Type 0} (P : A → Type 0) (refuse : WalkFault → A) (x : List ℕ) (otherwise : A) → P (refuse walk.RegionShape) → P (refuse walk.NotCbfs) → P otherwise → P (refused_or refuse (shape_fault x) otherwise)
+unless-misshapen : {A : Type 0} (P : A → Type 0) (refuse : WalkFault → A) (x : List ℕ) (otherwise : A) → P (refuse walk.RegionShape) → P (refuse walk.NotCbfs) → P otherwise → P (option_map_or refuse (shape_fault x) otherwise)
 unless-misshapen P refuse x otherwise misshapen empty other = grind (arith, common_steps)
 
-found-blameless : (c : Option Component) (at : ℕ) (end : End) → Blameless walk_refusal (found_or c (not_found at end))
+found-blameless : (c : Option Component) (at : ℕ) (end : End) → Blameless walk_refusal (option_map_or (λ d. Ok (Some d)) c (not_found at end))
 found-blameless c at end = grind (arith, common_steps)
 
 component_in-blameless : (x name : List ℕ) → Blameless walk_refusal (component_in x name)
 unfolding component_in
-component_in-blameless x name = unless-misshapen (λ (r : Found). Blameless walk_refusal r) _ x _ tt tt (found-blameless (first_named name (components x)) (place_after 0 (cut x).cells) (cut x).end)
+component_in-blameless x name = unless-misshapen (λ (r : Result (Option Component) WalkFault). Blameless walk_refusal r) _ x _ tt tt (found-blameless (first_named name (components x)) (place_after 0 (cut x).cells) (cut x).end)
 
 -- ---- edits
 
@@ -98,7 +98,7 @@ unsound-blameless {T} x otherwise other = unless-misshapen (λ (r : Result T Edi
 
 removal_in-blameless : (x name : List ℕ) → Blameless edit_refusal (removal_in x name)
 unfolding removal_in
-removal_in-blameless x name = unsound-blameless x _ (given edit_refusal (group_of x name) edit.NotFound tt)
+removal_in-blameless x name = unsound-blameless x _ (given edit_refusal (group_from name 0 0 (cut x).cells) edit.NotFound tt)
 
 addition_in-blameless : (x : List ℕ) (new : NewComponent) (spot : Spot) → Blameless edit_refusal (addition_in x new spot)
 unfolding addition_in placing_in
@@ -106,29 +106,21 @@ addition_in-blameless x new spot = grind (arith, common_steps)
 
 -- ---- plans
 
-head_for-blameless : (n : ℕ) (source : List ℕ) → Blameless itself (head_for n source)
-head_for-blameless n source = next-blameless itself _ _ (given itself (map_head source) refusals.TableBad tt) (λ head. when itself (head.size == n) _ _ tt tt)
-
-map_place-blameless : (n len : ℕ) (area : Option Area) → Blameless itself (map_place n len area)
-map_place-blameless n len area = grind (arith, common_steps)
-
-region_place-blameless : (n : ℕ) (area : Option Area) → Blameless itself (region_place n area)
-region_place-blameless n area = next-blameless store_refusal _ _ (inside-blameless n area) (λ place. when itself (has_bad_size place.size) _ _ tt tt)
-
 region_places-blameless : (n : ℕ) (areas : List (Option Area)) → Blameless itself (region_places n areas)
 region_places-blameless n [] = tt
-region_places-blameless n (area ∷ areas) = next-blameless itself _ _ (region_place-blameless n area) (λ place. next-blameless itself _ _ (region_places-blameless n areas) (λ places. tt))
+region_places-blameless n (area ∷ areas) = next-blameless store_refusal _ _ (inside-blameless n area) (λ place. when itself (has_bad_size place.size) _ _ tt (next-blameless itself _ _ (region_places-blameless n areas) (λ places. tt)))
 
-plan_of-blameless : (n len : ℕ) (area : Option Area) (areas : List (Option Area)) → Blameless itself (plan_of n len area areas)
-unfolding plan_of
-plan_of-blameless n len area areas = grind (arith, common_steps, map_place-blameless, next-blameless, region_places-blameless, when)
+pub faultless_places : {T : Type 0} (n : ℕ) (areas : List (Option Area)) (items : T → List Range) (result : Result T Refusal) → result_map_both items (λ refusal. refusal) result ≡ region_places n areas → ¬ IsFault result
+faultless_places {T} n areas items (Ok places) is = no_fault (let r : Result T Refusal = Ok places in r) tt
+faultless_places {T} n areas items (Err refusal) is = no_fault (let r : Result T Refusal = Err refusal in r) (subst (λ (r : Result (List Range) Refusal). Blameless itself r) (sym is) (region_places-blameless n areas))
 
-pub faultless_plan : (n len : ℕ) (area : Option Area) (areas : List (Option Area)) (result : Result Plan Refusal) → result ≡ plan_of n len area areas → ¬ IsFault result
-faultless_plan n len area areas result is = no_fault result (subst (λ (r : Result Plan Refusal). Blameless itself r) (sym is) (plan_of-blameless n len area areas))
+no_area : {T E : Type 0} (r : Result T E) → Blameless (λ (fault : E). refusals.FmapArea) r
+no_area (Ok value) = tt
+no_area (Err fault) = tt
 
 plan_for-blameless : (n : ℕ) (names : List (List ℕ)) (source : List ℕ) → Blameless itself (plan_for n names source)
 unfolding plan_for
-plan_for-blameless n names source = next-blameless itself _ _ (head_for-blameless n source) (λ head. plan_of-blameless n (map_len head) _ _)
+plan_for-blameless n names source = grind (arith, common_steps, given, next-blameless, no_area, region_places-blameless, when)
 
 -- ---- commands
 

@@ -2,13 +2,15 @@
 use Rattle.std.proofs.lemmas.Grind.{common_steps}
 use Rattle.std.proofs.Common.{◌≡◌, ℕ, ◌+◌, ◌/◌, ◌%◌, ◌-◌, ◌≤◌, ◌⊎◌, inl, inr, Bool, List, [], None, Ok, Err, refl, sym, ap, ◌∙◌, arith, subst}
 use Rattle.std.specs.Prelude.{IsErrOf, if◌then◌else◌}
-use Rattle.std.specs.Result.{IsErrAnd}
+use Rattle.std.specs.Result.{IsErrAnd, result_map_both}
+use Rattle.flash_format.specs.Cut.{Cut}
+use Rattle.cbfs_walk.specs.Search.{not_found}
 use Rattle.flash_device.specs.declared.sink.Sink.{Ghosts as SinkOf}
 use Rattle.flash_device.specs.Device.{fault_count}
 use Rattle.flash_device.specs.Pages.{Pages, HasRead, OnHonest, OnHonestIn}
 use Rattle.flash_device.specs.Regions.{Range, LiesIn, LiesOn, bytes_in}
-use Rattle.cbfs_walk.specs.Cells.{IsCellIn}
-use Rattle.cbfs_walk.specs.CellReadings.{reading_of, ReadsCells, by_answer}
+use Rattle.cbfs_walk.specs.Cells.{IsCellIn, cell_in}
+use Rattle.cbfs_walk.specs.CellReadings.{reading_of, ReadsCells, by_answer, place_after}
 use Rattle.cbfs_walk.specs.Walks.{Walking, GivesCell, answer_at, walk_after, reads_at}
 use Rattle.cbfs_walk.specs.Walks as walks
 use Rattle.cbfs_walk.specs.declared.cell.Cell.{Cell}
@@ -19,12 +21,16 @@ use Rattle.cbfs_walk.specs.declared.walk.WalkFault.TheVariants as faults
 use Rattle.cbfs_walk.proofs.Shapes.{shaped_step}
 use Rattle.cbfs_commands.specs.declared.refusal.Refusal.{Refusal}
 use Rattle.cbfs_commands.specs.declared.refusal.Refusal.TheVariants as refusals
-use Rattle.cbfs_commands.specs.Outcomes.{print_cut, print_region}
-use Rattle.cbfs_commands.specs.Refusals.{by_device, walk_refusal}
+use Rattle.cbfs_commands.specs.Outcomes.{print_region}
+use Rattle.cbfs_commands.specs.Refusals.{by_device}
 use Rattle.cbfs_commands.specs.Rows.{rows_from, shown_cell}
-use Rattle.cbfs_commands.specs.Printouts.{CommandResult, HasOutput, Printout, cell_bytes, shows, refuses}
-use Rattle.cbfs_commands.proofs.OutputParts.{ToldSoFar, so_far-ends, so_far-more, text_then, printout-after, printout-none, printout-refusal, printout-stopped}
+use Rattle.cbfs_commands.specs.Outcomes.{CommandResult, HasOutput, Printout, shows, refuses}
+use Rattle.cbfs_commands.proofs.OutputParts.{walk_refusal, ToldSoFar, so_far-ends, so_far-more, text_then, printout-after, printout-none, printout-refusal, printout-stopped}
 use Rattle.flash_device.proofs.DeviceLemmas.{length-bytes_in}
+
+-- a row per cell, then the damage after the cells, or success
+abbrev print_cut : Bool → ℕ → Cut → Printout
+print_cut verbose at c = record { written = rows_from verbose at c.cells; answer = result_map_both (λ none. tt) walk_refusal (not_found (place_after at c.cells) c.end) }
 
 abbrev pub print_from : Bool → List ℕ → ℕ → Printout
 print_from verbose x at = reading_of (λ fault. refuses (walk_refusal fault)) (print_cut verbose) x at
@@ -108,13 +114,13 @@ module _ {F W : Type 0} {sink : SinkOf W} {verbose : Bool} {r : Range} {old now 
     few = 2 + c.span / 3840 + (if verbose then 1 + c.span / 8 + c.span / 3840 else 0)
 
     abbrev Shown : ℕ → Pages F → Pages F → W → CommandResult → Type 0
-    Shown n from new out result = HasOutput sink n from new after out result (λ image. shows (shown_cell verbose c.at (cell_bytes r c image)))
+    Shown n from new out result = HasOutput sink n from new after out result (λ image. shows (shown_cell verbose c.at (cell_in (bytes_in r image) c)))
 
     given : IsCellIn w.region.size c × (c.at ≡ w.at)
     given = rw is at cell
 
-    others : OnHonest now.device (λ image. print_from verbose (bytes_in r image) w.at ≡ text_then (shown_cell verbose c.at (cell_bytes r c image)) (print_from verbose (bytes_in r image) (w.at + c.span)))
-    others h = let image : List ℕ = now.device.content in rest-step (steps.Cell c) is h ∙ ap (λ q. text_then (shown_cell verbose c.at (cell_bytes r c image)) (print_from verbose (bytes_in r image) (q + c.span))) given.1
+    others : OnHonest now.device (λ image. print_from verbose (bytes_in r image) w.at ≡ text_then (shown_cell verbose c.at (cell_in (bytes_in r image) c)) (print_from verbose (bytes_in r image) (w.at + c.span)))
+    others h = let image : List ℕ = now.device.content in rest-step (steps.Cell c) is h ∙ ap (λ q. text_then (shown_cell verbose c.at (cell_in (bytes_in r image) c)) (print_from verbose (bytes_in r image) (q + c.span))) given.1
 
     lines : {new : Pages F} {out : W} {result : CommandResult} → Shown few next new out result → Shown (1 + c.span / 3840 + few) now new out result
     lines printout = printout-after printout _ (rw is at read) (omega arith)

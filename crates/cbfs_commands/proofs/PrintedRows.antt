@@ -10,12 +10,12 @@ use lib.Chars.{codes}
 use Rattle.flash_format.specs.Head.{head_of, is_free}
 use Rattle.flash_format.specs.Components.{cell_attributes, cell_name, packing}
 use Rattle.flash_format.specs.Flashmap.{text_of}
-use Rattle.flash_format.specs.Texts.{hexadecimal, is_field, printed_compression, printed_name, printed_type}
-use Rattle.flash_format.specs.TypeNames.{compression_table, name_of_compression, name_of_type, number_for, type_of_text}
+use Rattle.flash_format.specs.Texts.{hexadecimal, printed_compression, printed_name, printed_type}
+use Rattle.flash_format.specs.TypeNames.{name_of_compression, name_of_type, number_for, type_of_text}
 use Rattle.flash_format.specs.declared.flashmap.Area.{Area}
 use Rattle.flash_map.specs.declared.search.FoundMap.{FoundMap}
 use Rattle.flash_format.proofs.PrintedLaws.{decimal_field, hexadecimal_field, name_field, same_decimals, same_hexadecimals, same_names, split}
-use Rattle.flash_format.proofs.TypeLaws.{compression_back, compression_is_word, is_word, read_back, type_is_word, word_is_field}
+use Rattle.flash_format.proofs.TypeLaws.{compression_back, compression_table, compression_is_word, is_field, is_word, read_back, type_is_word, word_is_field}
 use Rattle.cbfs_commands.specs.Laws.{AreReadBack, HasNumbers, LinesAreReadBack}
 use Rattle.cbfs_commands.specs.Rows.{area_line, map_line, row_text}
 

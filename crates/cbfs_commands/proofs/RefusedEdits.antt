@@ -13,13 +13,13 @@ use Rattle.cbfs_edit.specs.declared.fault.EditFault.{EditFault}
 use Rattle.cbfs_edit.specs.declared.fault.EditFault.TheVariants as edit
 use Rattle.cbfs_edit.specs.declared.place.Spot.{Spot}
 use Rattle.cbfs_edit.specs.Additions.{new_component}
-use Rattle.cbfs_edit.specs.Changes.{IsAddition, AddLeavesBefore, AddLeavesWhole, LeavesWhole, IsRemoval, by_fault}
-use Rattle.cbfs_commands.specs.declared.refusal.Refusal.{Refusal}
+use Rattle.cbfs_edit.specs.Changes.{IsAddition, AddLeavesWhole, LeavesWhole, IsRemoval, by_fault}
+use Rattle.cbfs_edit.proofs.AdditionLemmas.{AddLeavesBefore}
 use Rattle.cbfs_commands.specs.declared.refusal.Refusal.TheVariants as refusals
-use Rattle.cbfs_commands.specs.Effects.{add, changes, effect, on_region, remove}
+use Rattle.cbfs_commands.specs.Effects.{add, effect, on_region, remove}
 use Rattle.cbfs_commands.specs.Outcomes.{Outcome}
-use Rattle.cbfs_commands.specs.Refusals.{IsFault, edit_refusal, fault_or, store_refusal}
-use Rattle.cbfs_commands.specs.Printouts.{CommandResult}
+use Rattle.cbfs_commands.specs.Refusals.{IsFault, edit_refusal}
+use Rattle.cbfs_commands.specs.Outcomes.{CommandResult}
 
 -- the answer and the image of an outcome, or a fault
 abbrev pub LeavesOr : List ℕ → CommandResult → Outcome → Type 0

@@ -1,11 +1,10 @@
 -- The effect of `create`. This project defines the conditions and the order of the checks.
-use Rattle.std.specs.Prelude.{◌≡◌, ℕ, ◌+◌, ◌≤◌, Bool, false, ◌&&◌, ◌||◌, All, List, [], ◌∷◌, take}
-use Rattle.std.specs.Prelude.{map, drop, fold, replicate, nat_lt, Option, Result, Ok, Err, ◌==◌}
+use Rattle.std.specs.Prelude.{◌≡◌, ℕ, ◌+◌, ◌≤◌, Bool, false, not, ◌&&◌, ◌||◌, List, [], ◌∷◌}
+use Rattle.std.specs.Prelude.{take, map, drop, fold, replicate, nat_lt, Option, Result, Ok, Err, ◌==◌}
 use Rattle.std.specs.Prelude.{IsErrOf, ◌⊎◌, if◌then◌else◌}
 use Rattle.std.specs.List.{find, list_any}
 use Rattle.std.specs.Option.{ok_or}
 use lib.Chars.{codes}
-use Rattle.flash_format.specs.declared.flashmap.FmapHead.{FmapHead}
 use Rattle.flash_format.specs.declared.flashmap.Area.{Area}
 use Rattle.flash_format.specs.Flashmap.{fmap_head_len, map_len, areas_from, is_area}
 use Rattle.flash_device.specs.Device.{Device, Reads, fault_count, overwritten}
@@ -15,7 +14,7 @@ use Rattle.flash_device.specs.Laws.{with_edit}
 use Rattle.flash_device.specs.Regions.{Range}
 use Rattle.flash_map.specs.Regions.{region_by_area}
 use Rattle.cbfs_walk.specs.Shapes.{has_bad_size}
-use Rattle.cbfs_edit.specs.Formats.{formatted}
+use Rattle.cbfs_edit.specs.Changes.{formatted}
 use Rattle.cbfs_commands.specs.declared.create.plan.Plan.{Plan}
 use Rattle.cbfs_commands.specs.declared.refusal.Refusal.{Refusal}
 use Rattle.cbfs_commands.specs.declared.refusal.Refusal.TheVariants as refusals
@@ -31,32 +30,18 @@ pub record AnswersBySource {S T : Type 0} (facts : S → Device) (n : ℕ) (sour
 
 -- ---- the flashmap
 
--- the header, for an image of n bytes
-abbrev pub head_for : ℕ → List ℕ → Result FmapHead Refusal
-head_for n source = fault_or Err (ok_or (map_head source) refusals.TableBad) (λ head.
-    if head.size == n then Ok head else Err refusals.TableBad)
-
 abbrev pub first_area : List Area → List ℕ → Option Area
 first_area areas name = find (is_area name) areas
 
 -- ---- the places
 
--- with room for the flashmap, in an image of n bytes
-abbrev pub map_place : ℕ → ℕ → Option Area → Result Range Refusal
-map_place n len area = fault_or (λ fault. Err refusals.FmapArea) (region_by_area n area) (λ place.
-    if nat_lt place.size len then Err refusals.FmapArea else Ok place)
-
--- a valid size for a CBFS, in an image of n bytes
-abbrev pub region_place : ℕ → Option Area → Result Range Refusal
-region_place n area =
-    fault_or (λ fault. Err (store_refusal fault)) (region_by_area n area) (λ place.
-    if has_bad_size place.size then Err refusals.RegionShape else Ok place)
-
--- all areas, or the first error
+-- all areas with valid sizes for a CBFS in an image of n bytes, or the first error
 abbrev pub region_places : ℕ → List (Option Area) → Result (List Range) Refusal
 region_places n [] = Ok []
-region_places n (area ∷ areas) = fault_or Err (region_place n area) (λ place.
-    fault_or Err (region_places n areas) (λ places. Ok (place ∷ places)))
+region_places n (area ∷ areas) =
+    fault_or (λ fault. Err (store_refusal fault)) (region_by_area n area) (λ place.
+    if has_bad_size place.size then Err refusals.RegionShape
+    else fault_or Err (region_places n areas) (λ places. Ok (place ∷ places)))
 
 abbrev pub share_bytes : Range → Range → Bool
 share_bytes a b = nat_lt a.start (b.start + b.size) && nat_lt b.start (a.start + a.size)
@@ -65,35 +50,24 @@ abbrev pub some_overlap : List Range → Bool
 some_overlap [] = false
 some_overlap (place ∷ places) = list_any (share_bytes place) places || some_overlap places
 
--- ---- the plan: first the map's area, then each region, then overlaps
-
--- by the image's size, the flashmap's length, its own area and the regions' areas
-unfoldable pub plan_of : ℕ → ℕ → Option Area → List (Option Area) → Result Plan Refusal
-plan_of n len area areas =
-    fault_or Err (map_place n len area) (λ map.
-    fault_or Err (region_places n areas) (λ regions.
-    if some_overlap (map ∷ regions) then Err refusals.FmapArea
-    else Ok (record { map = map; map_len = len; regions = record { items = regions } })))
+-- ---- the plan: first the header, then the map's area, then each region, then overlaps
 
 -- by the image's size, the names of the regions and the source
 unfoldable pub plan_for : ℕ → List (List ℕ) → List ℕ → Result Plan Refusal
-plan_for n names source =
-    fault_or Err (head_for n source) (λ head.
+plan_for n names source = fault_or Err (ok_or (map_head source) refusals.TableBad) (λ head.
+    if not (head.size == n) then Err refusals.TableBad else
     let areas = areas_from head.nareas (drop fmap_head_len source) in
-    plan_of n (map_len head) (first_area areas (codes "FMAP")) (map (first_area areas) names))
+    let own = region_by_area n (first_area areas (codes "FMAP")) in
+    fault_or (λ fault. Err refusals.FmapArea) own (λ place.
+    if nat_lt place.size (map_len head) then Err refusals.FmapArea else
+    fault_or Err (region_places n (map (first_area areas) names)) (λ places.
+    if some_overlap (place ∷ places) then Err refusals.FmapArea
+    else Ok (record { map = place; map_len = map_len head; regions = record { items = places } }))))
 
 -- in an image of n bytes, with a valid size for a CBFS
 pub record IsPlace (n : ℕ) (place : Range) : Type 0 where
   pub inside : place.start + place.size ≤ n
   pub size : has_bad_size place.size ≡ false
-
--- A plan for an image of n bytes and a source of m bytes: the flashmap lies in the source and fits
--- its area, and each region is valid.
-pub record FitsImage (n m : ℕ) (plan : Plan) : Type 0 where
-  pub in_source : plan.map_len ≤ m
-  pub room : plan.map_len ≤ plan.map.size
-  pub map : plan.map.start + plan.map.size ≤ n
-  pub regions : All (IsPlace n) plan.regions.items
 
 -- ---- the image
 

@@ -15,18 +15,19 @@ use Rattle.flash_device.specs.Device.{fault_count}
 use Rattle.flash_device.specs.Pages.{OnHonest}
 use Rattle.flash_device.specs.Regions.{Range, bytes_in}
 use Rattle.flash_map.specs.Regions.{region_of}
+use Rattle.flash_format.specs.Components.{components}
 use Rattle.cbfs_edit.specs.Additions.{added, addition_in, new_component}
 use Rattle.cbfs_edit.specs.Removals.{removal_in, removed}
-use Rattle.cbfs_edit.specs.Changes.{AddLeavesBefore, AddLeavesWhole, LeavesWhole}
+use Rattle.cbfs_edit.specs.Changes.{AddLeavesWhole, LeavesWhole}
 use Rattle.cbfs_commands.specs.declared.refusal.Refusal.{Refusal}
 use Rattle.cbfs_commands.specs.declared.refusal.Refusal.TheVariants as refusals
 use Rattle.cbfs_commands.specs.Creations.{created_image, plan_for}
-use Rattle.cbfs_commands.specs.Rows as rows
+use Rattle.cbfs_commands.specs.Outcomes as outcomes
 use Rattle.cbfs_commands.specs.Refusals.{IsFault, by_device, by_source, edit_refusal}
 use Rattle.cbfs_commands.specs.Refusals.{fault_or, store_refusal}
 use Rattle.cbfs_commands.specs.Outcomes.{Outcome, print_region}
 use Rattle.cbfs_commands.specs.Outcomes.{extract_region, printed_in}
-use Rattle.cbfs_commands.specs.Printouts.{CommandResult, Printout, shows}
+use Rattle.cbfs_commands.specs.Outcomes.{CommandResult, Printout, shows}
 
 -- a request on a region
 pub data Task : Type 0 where
@@ -75,14 +76,13 @@ report_effect tell = record {
 
 -- the new image, or an error without a change
 abbrev pub changes : List ℕ → Result (List ℕ) Refusal → Outcome
-changes image made =
-    let printout : Printout = record { written = []; answer = fault_or Err made (λ now. Ok tt) } in
-    record { printout = printout; image = result_unwrap_or made image }
+changes old made = let told : CommandResult = fault_or Err made (λ now. Ok tt) in
+    record { printout = record { written = []; answer = told }; image = result_unwrap_or made old }
 
 -- The change of a named region: whether the command reads the source (once), the new bytes by
 -- region, bytes and source, and the effect of an interruption.
 abbrev pub edits : List ℕ → Bool → (Range → List ℕ → List ℕ → Result (List ℕ) Refusal)
-    → (Range → List ℕ → List ℕ → CommandResult → List ℕ → Type 0) → Effect
+    → (List ℕ → List ℕ → CommandResult → List ℕ → Range → Type 0) → Effect
 edits name reads make Stops = record {
   outcome = λ image source. changes image (fault_or (λ fault. Err (store_refusal fault))
       (region_of image name) (λ region. fault_or Err (make region (bytes_in region image) source)
@@ -90,12 +90,11 @@ edits name reads make Stops = record {
   target = λ image. result_ok (region_of image name);
   source_calls = λ source. if reads then length source.content / 4096 + 1 else 0;
   prints = false;
-  Stopped = λ image source answer now.
-      ForOk (region_of image name) (λ region. Stops region image source answer now);
+  Stopped = λ image source answer now. ForOk (region_of image name) (Stops image source answer now);
 }
 
 abbrev pub effect : Request → Effect
-effect layout = report_effect rows.layout
+effect layout = report_effect outcomes.layout
 effect (on_region region (print verbose)) =
     report_effect (λ image. printed_in image region (λ x. print_region x verbose))
 effect (on_region region (extract name)) =
@@ -105,7 +104,7 @@ effect (on_region region read) = report_effect (λ image. printed_in image regio
 -- the source, after a device fault an arbitrary piece, then the old bytes.
 effect (on_region name write) = edits name true
     (λ region x source. if length source == region.size then Ok source else Err refusals.SourceSize)
-    (λ region image source answer now. (length source ≢ region.size → now ≡ image)
+    (λ image source answer now region. (length source ≢ region.size → now ≡ image)
     × (IsErrOf answer refusals.Source → FirstWritten region.start source image now)
     × (IsErrOf answer refusals.Device → PartWritten region.start source image now))
 -- At the least allowed place in the first free space with room. A source fault leaves the same
@@ -115,13 +114,14 @@ effect (on_region region (add name kind hash spot)) =
     edits region true
     (λ found x source. result_map_both (added x (new source)) edit_refusal
     (addition_in x (new source) spot))
-    (λ found image source answer now. let x = bytes_in found image in let y = bytes_in found now in
+    (λ image source answer now found. let x = bytes_in found image in let y = bytes_in found now in
     (IsErrOf answer refusals.Device → AddLeavesWhole x (new source) spot y)
-    × (IsErrOf answer refusals.Source → AddLeavesBefore x (new source) spot y))
+    × (IsErrOf answer refusals.Source → AddLeavesWhole x (new source) spot y
+    × (components y ≡ components x)))
 -- an empty entry replaces a component and its adjacent free space
 effect (on_region region (remove name)) = edits region false
     (λ found x source. result_map_both (removed x) edit_refusal (removal_in x name))
-    (λ found image source answer now. IsErrOf answer refusals.Device
+    (λ image source answer now found. IsErrOf answer refusals.Device
     → LeavesWhole (bytes_in found image) name (bytes_in found now))
 -- an interruption only preserves the size
 effect (create names) = record {
@@ -132,9 +132,6 @@ effect (create names) = record {
   prints = false;
   Stopped = λ image source answer now. length now ≡ length image;
 }
-
-abbrev pub effect_of : Command → Effect
-effect_of command = effect (request_of command)
 
 -- ---- the meaning
 

@@ -1,5 +1,5 @@
 -- Laws of outcomes.
-use Rattle.std.specs.Prelude.{◌≡◌, ℕ, ◌^◌, ◌<◌, false, All, List, [], ◌∷◌, ◌++◌, length, Ok}
+use Rattle.std.specs.Prelude.{◌≡◌, ℕ, ◌+◌, ◌^◌, ◌<◌, ◌≤◌, false, All, List, [], ◌∷◌, ◌++◌, length, Ok}
 use Rattle.std.specs.Prelude.{Option, Some, None, map, if◌then◌else◌}
 use Rattle.std.specs.List.{AllPairs, flat_map}
 use Rattle.flash_format.specs.Head.{head_of, is_free}
@@ -10,15 +10,15 @@ use Rattle.flash_device.specs.Regions.{Range, bytes_in}
 use Rattle.flash_map.specs.Regions.{region_of}
 use Rattle.flash_device.specs.Laws.{LieApart}
 use Rattle.cbfs_edit.specs.Additions.{NewComponent, added}
-use Rattle.cbfs_edit.specs.Formats.{IsOneFreeCell}
+use Rattle.cbfs_edit.specs.Changes.{IsOneFreeCell}
 use Rattle.cbfs_edit.specs.declared.place.Place.{Place}
 use Rattle.cbfs_commands.specs.declared.create.plan.Plan.{Plan}
-use Rattle.cbfs_commands.specs.Creations.{FitsImage, created_image}
+use Rattle.cbfs_commands.specs.Creations.{IsPlace, created_image}
 use Rattle.cbfs_commands.specs.Effects.{effect, on_region, write, Request, Task}
 use Rattle.cbfs_commands.specs.Outcomes.{extract_region, printed_in}
 use Rattle.cbfs_commands.specs.Refusals.{IsFault}
 use Rattle.cbfs_commands.specs.Rows.{area_line, map_line, shown_cell}
-use Rattle.cbfs_commands.specs.Printouts.{shows}
+use Rattle.cbfs_commands.specs.Outcomes.{shows}
 
 pub record OutcomesAreOfTheImage : Type 0 where
   -- no outcome's own answer is a fault of the device, the output or the source
@@ -37,9 +37,12 @@ pub record OutcomesAreOfTheImage : Type 0 where
       (outcome other source).image ≡ bytes_in region (outcome image source).image)
 
 -- A plan of an image of n bytes by a source. Other areas of the flashmap are not covered.
-pub record PlansAreLaid (n : ℕ) (source : List ℕ) (plan : Plan) : Type 0 where
-  -- the flashmap fits its area, and all regions lie in the image with valid sizes
-  pub fits : FitsImage n (length source) plan
+pub record IsLaid (n : ℕ) (source : List ℕ) (plan : Plan) : Type 0 where
+  -- the flashmap lies in the source and fits its area, and each region is valid
+  pub in_source : plan.map_len ≤ length source
+  pub room : plan.map_len ≤ plan.map.size
+  pub map : plan.map.start + plan.map.size ≤ n
+  pub regions : All (IsPlace n) plan.regions.items
   -- the map's area and the regions don't overlap
   pub apart : AllPairs LieApart (plan.map ∷ plan.regions.items)
   -- each region of the created image is an empty entry
@@ -71,8 +74,7 @@ module _ {A N : Type 0} (line : A → List ℕ) (values : A → N × List ℕ) w
 
 -- offset, type and content length, and a component's name and compression
 abbrev pub row_values : ℕ × List ℕ → Option (List ℕ) × List ℕ
-row_values cell = let h = head_of cell.1 in
-    if is_free h then (None, cell.0 ∷ h.kind ∷ h.len ∷ [])
+row_values cell = let h = head_of cell.1 in if is_free h then (None, cell.0 ∷ h.kind ∷ h.len ∷ [])
     else (Some (cell_name cell.1), cell.0 ∷ h.kind ∷ h.len ∷ packing (cell_attributes cell.1) ∷ [])
 
 pub record LinesAreReadBack : Type 0 where

@@ -1,18 +1,73 @@
--- The outcomes of commands on a region, and the effect of an interruption.
-use Rattle.std.specs.Prelude.{ℕ, Bool, List, if◌then◌else◌}
+-- The outcomes of commands: output, answer and image.
+use Rattle.std.specs.Prelude.{◌≡◌, ◌==◌, ℕ, ◌<◌, ◌≤◌, ◌⊎◌, ◌++◌, Bool, IsErrOf, List, [], Option, Result, Ok}
+use Rattle.std.specs.Prelude.{Err, length, take, if◌then◌else◌}
+use Rattle.std.specs.List.{flat_map}
+use Rattle.std.specs.Io.KnownBytes.{Appends}
+use Rattle.flash_device.specs.Device.{Device}
+use Rattle.flash_device.specs.Pages.{Pages, HasReadBy, OnHonest, OnHonestIn}
+use Rattle.flash_device.specs.declared.sink.Sink.{Ghosts as SinkOf}
+use Rattle.flash_device.specs.Device.{AppendsPart}
+use Rattle.flash_device.specs.Regions.{Range, LiesOn}
+use Rattle.cbfs_walk.specs.Cells.{IsCellIn}
+use Rattle.cbfs_walk.specs.Walks.{StandsIn}
+use Rattle.cbfs_walk.specs.declared.cell.Cell.{Cell}
+use Rattle.cbfs_commands.specs.declared.refusal.Refusal.{Refusal}
+use Rattle.cbfs_commands.specs.declared.refusal.Refusal.TheVariants as refusals
 use Rattle.std.specs.Option.{option_map_or}
 use Rattle.std.specs.Result.{result_map_both}
-use Rattle.flash_format.specs.Components.{Component, is_packed}
-use Rattle.flash_format.specs.Cut.{Cut, cut}
+use Rattle.flash_format.specs.Components.{Component, packing}
+use Rattle.flash_format.specs.Cut.{cut}
 use Rattle.flash_device.specs.Regions.{bytes_in}
 use Rattle.flash_map.specs.Regions.{region_of}
 use Rattle.cbfs_walk.specs.Search.{component_in, not_found}
 use Rattle.cbfs_walk.specs.CellReadings.{place_after}
-use Rattle.cbfs_walk.specs.Shapes.{shape_fault, refused_or}
-use Rattle.cbfs_commands.specs.declared.refusal.Refusal.TheVariants as refusals
-use Rattle.cbfs_commands.specs.Refusals.{fault_or, store_refusal, walk_refusal}
-use Rattle.cbfs_commands.specs.Rows.{rows_from}
-use Rattle.cbfs_commands.specs.Printouts.{Printout, shows, refuses}
+use Rattle.cbfs_walk.specs.Shapes.{shape_fault}
+use Rattle.cbfs_edit.specs.Removals.{edit_fault_of}
+use Rattle.flash_map.specs.Fmap.{areas_of, found_in}
+use Rattle.cbfs_commands.specs.Refusals.{by_device, edit_refusal, fault_or, store_refusal}
+use Rattle.cbfs_commands.specs.Rows.{area_line, map_line, rows_from}
+
+abbrev pub CommandResult : Type 0
+CommandResult = Result (Unit {0}) Refusal
+
+pub record Printout : Type 0 where
+  pub written : List ℕ
+  pub answer : CommandResult
+
+-- text and success
+abbrev pub shows : List ℕ → Printout
+shows text = record { written = text; answer = Ok tt }
+
+-- an error without output
+abbrev pub refuses : Refusal → Printout
+refuses refusal = record { written = []; answer = Err refusal }
+
+-- The output and answer, or an interruption: the writer failed after a proper prefix of the text,
+-- or the device or the source after a prefix.
+abbrev pub PrintsOut : Option (List ℕ) → Option (List ℕ) → CommandResult → Printout → Type 0
+PrintsOut old new answer t = ((answer ≡ t.answer) × Appends old new t.written)
+    ⊎ (IsErrOf answer refusals.Output × AppendsPart old new t.written)
+    ⊎ ((IsErrOf answer refusals.Device ⊎ IsErrOf answer refusals.Source)
+    × ((n : ℕ) × (n ≤ length t.written) × Appends old new (take n t.written)))
+
+-- A cell of a region within bounds. An honest device has the cell at its offset.
+pub record IsCellOf (r : Range) (c : Cell) (device : Device) : Type 0 where
+  pub region : LiesOn r device
+  pub cell : IsCellIn r.size c
+  pub stands : OnHonestIn device r (λ x. StandsIn x c)
+
+-- A call that reads the device at most n times and writes to a sink. A fault implies a failure of
+-- its device. `printout` requires an honest device.
+pub record HasOutput {F W : Type 0} (sink : SinkOf W) (n : ℕ) (old new : Pages F)
+    (out_old out_new : W) (answer : CommandResult) (t : List ℕ → Printout) : Type 0 where
+  pub read : HasReadBy by_device n old new answer
+  pub faults : sink.faults out_old ≤ sink.faults out_new
+  pub output : IsErrOf answer refusals.Output → sink.faults out_old < sink.faults out_new
+  pub no_source : IsErrOf answer refusals.Source → ⊥
+  pub printout : OnHonest old.device (λ image.
+      PrintsOut (sink.contents out_old) (sink.contents out_new) answer (t image))
+
+-- ---- outcomes
 
 pub record Outcome : Type 0 where
   pub printout : Printout
@@ -22,26 +77,29 @@ abbrev pub printed_in : List ℕ → List ℕ → (List ℕ → Printout) → Pr
 printed_in image name tell = fault_or (λ fault. refuses (store_refusal fault))
     (region_of image name) (λ region. tell (bytes_in region image))
 
+-- ---- layout
+
+unfoldable pub layout : List ℕ → Printout
+layout image = option_map_or (λ m. shows (map_line m ++ flat_map area_line (areas_of image m)))
+    (found_in image) (refuses refusals.NoFmap)
+
 -- ---- print
 
--- a row per cell, then the damage after the cells, or success
-abbrev pub print_cut : Bool → ℕ → Cut → Printout
-print_cut verbose at c = let found = not_found (place_after at c.cells) c.end in
-    let answer = result_map_both (λ none. tt) walk_refusal found in
-    record { written = rows_from verbose at c.cells; answer = answer }
-
--- if verbose, also the lines of the components
+-- a row per cell, if verbose also the lines of the components; then the damage after the cells, or
+-- success
 unfoldable pub print_region : List ℕ → Bool → Printout
-print_region x verbose =
-    refused_or (λ fault. refuses (walk_refusal fault)) (shape_fault x) (print_cut verbose 0 (cut x))
+print_region x verbose = let c = cut x in let found = not_found (place_after 0 c.cells) c.end in
+    let answer = result_map_both (λ none. tt) (λ fault. edit_refusal (edit_fault_of fault)) found in
+    option_map_or (λ fault. refuses (edit_refusal (edit_fault_of fault))) (shape_fault x)
+    (record { written = rows_from verbose 0 c.cells; answer = answer })
 
 -- ---- extract
 
 -- the content, unless compressed
 abbrev pub printed_component : Component → Printout
 printed_component c =
-    if is_packed c.attributes then refuses refusals.Compressed else shows c.content
+    if packing c.attributes == 0 then shows c.content else refuses refusals.Compressed
 
 abbrev pub extract_region : List ℕ → List ℕ → Printout
-extract_region x name = fault_or (λ fault. refuses (walk_refusal fault)) (component_in x name)
-    (λ found. option_map_or printed_component found (refuses refusals.NotFound))
+extract_region x name = fault_or (λ fault. refuses (edit_refusal (edit_fault_of fault)))
+    (component_in x name) (λ c. option_map_or printed_component c (refuses refusals.NotFound))

@@ -4,8 +4,6 @@ use Rattle.flash_map.specs.declared.search.StoreFault.{StoreFault}
 use Rattle.flash_map.specs.declared.search.StoreFault.TheVariants as store
 use Rattle.flash_device.specs.declared.paged.CopyFault.{CopyFault}
 use Rattle.flash_device.specs.declared.paged.CopyFault.TheVariants as copy
-use Rattle.cbfs_walk.specs.declared.walk.WalkFault.{WalkFault}
-use Rattle.cbfs_edit.specs.Removals.{edit_fault_of}
 use Rattle.cbfs_edit.specs.declared.fault.EditFault.{EditFault}
 use Rattle.cbfs_edit.specs.declared.fault.EditFault.TheVariants as edit
 use Rattle.cbfs_commands.specs.declared.refusal.Refusal.{Refusal}
@@ -35,10 +33,6 @@ edit_refusal edit.NoSpace = refusals.NoSpace
 edit_refusal edit.BadName = refusals.BadName
 edit_refusal edit.BadType = refusals.BadType
 edit_refusal edit.BadAlign = refusals.BadAlign
-
--- the error of a walk
-abbrev pub walk_refusal : WalkFault → Refusal
-walk_refusal fault = edit_refusal (edit_fault_of fault)
 
 -- the answer for the fault, or for the value
 abbrev pub fault_or : {T E A : Type 0} → (E → A) → Result T E → (T → A) → A

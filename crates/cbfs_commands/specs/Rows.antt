@@ -1,21 +1,18 @@
 -- The output of `print` and `layout`, in this project's own formats.
-use Rattle.std.specs.Prelude.{ℕ, List, ◌++◌, drop, if◌then◌else◌, Option, Some, None}
+use Rattle.std.specs.Prelude.{ℕ, List, ◌++◌, if◌then◌else◌, Option, Some, None}
 use Rattle.std.specs.Prelude.{◌+◌, Bool, not, ◌&&◌, [], length, map}
-use Rattle.std.specs.List.{flat_map, scan}
+use Rattle.std.specs.List.{concat, flat_map, scan}
 use Rattle.std.specs.Option.{option_map_or}
 use Rattle.std.specs.Fmt.{decimal}
 use lib.Chars.{codes}
 use Rattle.flash_format.specs.Head.{head_of, is_free}
 use Rattle.flash_format.specs.Components.{cell_name, cell_attributes, packing, cell_content}
-use Rattle.flash_format.specs.Flashmap.{areas_from, fmap_head_len, text_of}
+use Rattle.flash_format.specs.Flashmap.{text_of}
 use Rattle.flash_format.specs.declared.flashmap.Area.{Area}
 use Rattle.flash_format.specs.declared.head.Head.{Head}
 use Rattle.flash_format.specs.Texts.{hexadecimal, line_feed, printed_compression, printed_name}
 use Rattle.flash_format.specs.Texts.{printed_type, tab}
-use Rattle.flash_map.specs.Fmap.{found_in}
 use Rattle.flash_map.specs.declared.search.FoundMap.{FoundMap}
-use Rattle.cbfs_commands.specs.Printouts.{Printout, shows, refuses}
-use Rattle.cbfs_commands.specs.declared.refusal.Refusal.TheVariants as refusals
 use Rattle.byteorder.specs.Endian.{big_bytes}
 use Rattle.hex.specs.Hex.{encode_lower}
 use Rattle.flash_format.specs.declared.attribute.AttrHead.{AttrHead}
@@ -38,23 +35,17 @@ abbrev pub cell_row : ℕ → List ℕ → List ℕ
 cell_row at x = if is_free (head_of x) then row_text at (head_of x) None 0
     else row_text at (head_of x) (Some (cell_name x)) (packing (cell_attributes x))
 
--- ---- layout
+-- ---- lines of the layout
 
 -- offset, name, size and number of areas
 unfoldable pub map_line : FoundMap → List ℕ
-map_line map = codes "fmap" ++ tab ++ hexadecimal map.at ++ tab
-    ++ printed_name (text_of map.head.name) ++ tab ++ decimal map.head.size
-    ++ tab ++ decimal map.head.nareas ++ line_feed
+map_line m = codes "fmap" ++ tab ++ hexadecimal m.at ++ tab ++ printed_name (text_of m.head.name)
+    ++ tab ++ decimal m.head.size ++ tab ++ decimal m.head.nareas ++ line_feed
 
 -- name, offset, size and flags
 unfoldable pub area_line : Area → List ℕ
 area_line a = printed_name (text_of a.name) ++ tab ++ hexadecimal a.offset ++ tab ++ decimal a.size
     ++ tab ++ hexadecimal a.flags ++ line_feed
-
-unfoldable pub layout : List ℕ → Printout
-layout image = option_map_or (λ map. shows (map_line map ++ flat_map area_line
-    (areas_from map.head.nareas (drop (map.at + fmap_head_len) image))))
-    (found_in image) (refuses refusals.NoFmap)
 
 -- the tag in eight digits, and the length including the header
 unfoldable pub attribute_line : AttrHead → List ℕ
@@ -83,9 +74,6 @@ abbrev pub shown_cell : Bool → ℕ → List ℕ → List ℕ
 shown_cell verbose at x =
     cell_row at x ++ (if verbose && not (is_free (head_of x)) then details x else [])
 
--- consecutive cells, with their offsets
-abbrev pub placed : ℕ → List (List ℕ) → List (ℕ × List ℕ)
-placed at cells = scan (λ place x. place + length x) (λ place x. (place, x)) at cells
-
+-- consecutive cells, the first one at the offset
 unfoldable pub rows_from : Bool → ℕ → List (List ℕ) → List ℕ
-rows_from verbose at cells = flat_map (λ cell. shown_cell verbose cell.0 cell.1) (placed at cells)
+rows_from verbose at cells = concat (scan (λ n x. n + length x) (shown_cell verbose) at cells)

@@ -1,8 +1,8 @@
 //! Runs a command.
 
 ghost use Rattle.std.specs.Prelude.{◌≡◌, ◌<◌, ◌≤◌, false, IsErrOf};
-ghost use Rattle.cbfs_commands.specs.Effects.{HasEffect, OnAllHonest, effect_of};
-ghost use Rattle.cbfs_commands.specs.Printouts.{PrintsOut};
+ghost use Rattle.cbfs_commands.specs.Effects.{HasEffect, OnAllHonest, effect, request_of};
+ghost use Rattle.cbfs_commands.specs.Outcomes.{PrintsOut};
 
 use crate::add::add;
 use crate::command::Command;
@@ -23,20 +23,20 @@ pub fn run<F: Flash, S: Source, W: Sink>(
     source: &mut S,
     out: &mut W,
 ) -> Result<(), Refusal>
-    ensures effect { HasEffect (effect_of command.now) paged.old.device paged.new.device
+    ensures effect { HasEffect (effect (request_of command.now)) paged.old.device paged.new.device
         (S.facts source.old) (S.facts source.new) result }
-    ensures unread { (effect_of command.now).source_calls (S.facts source.old) ≡ 0
+    ensures unread { (effect (request_of command.now)).source_calls (S.facts source.old) ≡ 0
         → source.new ≡ source.old }
 
     // For any sink.
     ensures faults { W.faults out.old ≤ W.faults out.new }
     ensures output { IsErrOf result Refusal.Output → W.faults out.old < W.faults out.new }
-    ensures unwritten { (effect_of command.now).prints ≡ false → out.new ≡ out.old }
+    ensures unwritten { (effect (request_of command.now)).prints ≡ false → out.new ≡ out.old }
 
     // The answer and output of the outcome, or a part after a fault.
-    ensures outcome { OnAllHonest (effect_of command.now) paged.old.device (S.facts source.old)
-        (λ image content. PrintsOut (W.contents out.old) (W.contents out.new) result
-        ((effect_of command.now).outcome image content).printout) }
+    ensures outcome { OnAllHonest (effect (request_of command.now)) paged.old.device
+        (S.facts source.old) (λ image content. PrintsOut (W.contents out.old) (W.contents out.new)
+        result ((effect (request_of command.now)).outcome image content).printout) }
 {
     match command {
         Command::Print { region, verbose } => print(paged, region, *verbose, out),

@@ -1,9 +1,12 @@
 //! The command `extract`.
 
-ghost use Rattle.std.specs.Prelude.{◌+◌, ◌/◌};
+ghost use Rattle.std.specs.Prelude.{◌≡◌, ◌+◌, ◌/◌, false};
+ghost use Rattle.flash_format.specs.Head.{is_free};
+ghost use Rattle.flash_device.specs.Regions.{bytes_in};
+ghost use Rattle.cbfs_walk.specs.Cells.{cell_in};
 ghost use Rattle.flash_format.specs.Components.{component_at};
 ghost use Rattle.cbfs_commands.specs.Outcomes.{extract_region, printed_component, printed_in};
-ghost use Rattle.cbfs_commands.specs.Printouts.{HasOutput, IsComponentOf, cell_bytes};
+ghost use Rattle.cbfs_commands.specs.Outcomes.{HasOutput, IsCellOf};
 ghost use Rattle.flash_device.specs.Device.{call_limit};
 
 use crate::read::copy_out;
@@ -18,10 +21,12 @@ fn extract_component<F: Flash, W: Sink>(
     cell: &Cell,
     out: &mut W,
 ) -> Result<(), Refusal>
-    requires { IsComponentOf region cell.now paged.old.device }
+    requires cell { IsCellOf region cell.now paged.old.device }
+    requires used { is_free cell.now.head ≡ false }
 
     ensures { HasOutput W.Sink (cell.now.span / 3840 + 2) paged.old paged.new out.old out.new result
-        (λ image. printed_component (component_at cell.now.at (cell_bytes region cell.now image))) }
+        (λ image. printed_component (component_at cell.now.at
+        (cell_in (bytes_in region image) cell.now))) }
 {
     cells_stand_in_their_image();
     if packing(paged, region, cell)? != 0 {

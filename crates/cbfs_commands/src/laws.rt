@@ -6,8 +6,8 @@ ghost use Rattle.cbfs_edit.specs.Laws.{IsAdded};
 ghost use Rattle.cbfs_edit.specs.declared.place.Place.{Place};
 ghost use Rattle.cbfs_edit.specs.declared.place.Spot.{Spot};
 ghost use Rattle.cbfs_commands.specs.Creations.{plan_for};
-ghost use Rattle.cbfs_commands.specs.Laws.{AdditionsAreExtracted, LinesAreReadBack};
-ghost use Rattle.cbfs_commands.specs.Laws.{OutcomesAreOfTheImage, PlansAreLaid};
+ghost use Rattle.cbfs_commands.specs.Laws.{AdditionsAreExtracted, IsLaid, LinesAreReadBack};
+ghost use Rattle.cbfs_commands.specs.Laws.{OutcomesAreOfTheImage};
 ghost use Rattle.cbfs_commands.specs.declared.create.plan.Plan.{Plan};
 
 /// Proves that an outcome's own answer is never a fault of the device, the output or the source,
@@ -22,7 +22,7 @@ pub fn outcomes_are_of_the_image()
 /// named region as an empty entry. Other areas are not covered.
 pub fn plans_are_laid()
     ensures { (n : ℕ) (names : List (List ℕ)) (source : List ℕ) (plan : Plan)
-        → plan_for n names source ≡ Ok plan → PlansAreLaid n source plan }
+        → plan_for n names source ≡ Ok plan → IsLaid n source plan }
 {}
 
 /// Proves that `extract` returns the content of an addition, if the image's map keeps the region.

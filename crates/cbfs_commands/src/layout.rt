@@ -1,11 +1,12 @@
 //! The command `layout`.
 
-ghost use Rattle.std.specs.Prelude.{◌≡◌, ◌+◌, ◌/◌, ◌≤◌, length, drop};
+ghost use Rattle.std.specs.Prelude.{◌≡◌, ◌+◌, ◌/◌, ◌≤◌, length};
 ghost use Rattle.std.specs.List.{flat_map};
-ghost use Rattle.flash_format.specs.Flashmap.{fmap_head_len, area_len, map_len};
-ghost use Rattle.flash_format.specs.Flashmap.{areas_from};
-ghost use Rattle.cbfs_commands.specs.Rows.{layout, map_line, area_line};
-ghost use Rattle.cbfs_commands.specs.Printouts.{HasOutput, shows};
+ghost use Rattle.flash_format.specs.Flashmap.{area_len, map_len};
+ghost use Rattle.flash_map.specs.Fmap.{areas_of};
+ghost use Rattle.cbfs_commands.specs.Rows.{map_line, area_line};
+ghost use Rattle.cbfs_commands.specs.Outcomes.{layout};
+ghost use Rattle.cbfs_commands.specs.Outcomes.{HasOutput, shows};
 
 use crate::refusal::Refusal;
 use crate::row::{Row, push_decimal};
@@ -55,8 +56,7 @@ fn list_areas<F: Flash, W: Sink>(
     requires { map.now.at + map_len map.now.head ≤ length paged.old.device.content }
 
     ensures { HasOutput W.Sink map.now.head.nareas paged.old paged.new out.old out.new result
-        (λ image. shows (flat_map area_line
-        (areas_from map.now.head.nareas (drop (map.now.at + fmap_head_len) image)))) }
+        (λ image. shows (flat_map area_line (areas_of image map.now))) }
 {
     for i in 0..map.head.nareas {
         let listed = area(paged, map, i)?;
@@ -67,7 +67,7 @@ fn list_areas<F: Flash, W: Sink>(
 }
 
 /// Prints the offset and the areas of the image's map.
-#[tactic(auto, unfolding(crate::specs::Rows::layout))]
+#[tactic(auto, unfolding(crate::specs::Outcomes::layout))]
 pub fn layout<F: Flash, W: Sink>(paged: &mut Paged<F>, out: &mut W) -> Result<(), Refusal>
     ensures { HasOutput W.Sink (length paged.old.device.content / 2 + length
         paged.old.device.content / area_len + 8) paged.old paged.new out.old out.new result layout }

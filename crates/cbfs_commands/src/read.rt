@@ -2,7 +2,7 @@
 
 ghost use Rattle.std.specs.Prelude.{◌+◌, ◌/◌, ◌≤◌, length, slice_range};
 ghost use Rattle.cbfs_commands.specs.Outcomes.{printed_in};
-ghost use Rattle.cbfs_commands.specs.Printouts.{HasOutput, shows};
+ghost use Rattle.cbfs_commands.specs.Outcomes.{HasOutput, shows};
 ghost use Rattle.flash_device.specs.Device.{call_limit};
 
 use crate::refusal::Refusal;

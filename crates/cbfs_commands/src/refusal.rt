@@ -2,7 +2,7 @@
 
 ghost use Rattle.std.specs.Prelude.{◌≡◌};
 ghost use Rattle.cbfs_commands.specs.Refusals.{copy_refusal, edit_refusal, store_refusal};
-ghost use Rattle.cbfs_commands.specs.Refusals.{walk_refusal};
+ghost use Rattle.cbfs_edit.specs.Removals.{edit_fault_of};
 ghost use Rattle.cbfs_commands.specs.declared.refusal.Refusal.TheVariants as refusals;
 
 use cbfs_edit::EditFault;
@@ -144,7 +144,7 @@ impl From<StoreFault> for Refusal {
 }
 
 impl From<WalkFault> for Refusal {
-    ghost from_gives = { λ fault refusal. refusal ≡ walk_refusal fault };
+    ghost from_gives = { λ fault refusal. refusal ≡ edit_refusal (edit_fault_of fault) };
 
     fn from(fault: WalkFault) -> Refusal {
         match fault {

@@ -1,24 +1,24 @@
 -- An accepted addition: its place, its effect and its calls.
-use Rattle.std.proofs.Common.{◌≡◌, inl, inr, ℕ, ◌+◌, ◌-◌, ◌%◌, ◌^◌, ◌<◌, ◌≤◌, Bool, true, false, cond, eqb, ltb, ◌||◌, List, [], ◌∷◌, ◌++◌, length, drop, Contains, Option, Some, None, Ok, sym, ◌∙◌, ap, subst, refl, arith, rules, length-append, append_assoc, IsTrue, ◌⊎◌, ⊎_elim, Result, Err}
-use Rattle.std.specs.Prelude.{◌==◌, IsErrOf, slice_range, max, min, option_copied}
+use Rattle.std.proofs.Common.{◌≡◌, inl, inr, ℕ, ◌+◌, ◌-◌, ◌%◌, ◌^◌, ◌<◌, ◌≤◌, Bool, true, false, cond, eqb, ltb, ◌||◌, List, [], ◌∷◌, ◌++◌, length, drop, Contains, Option, Some, None, Ok, sym, ◌∙◌, ap, subst, refl, arith, length-append, IsTrue, ◌⊎◌, ⊎_elim, Result, Err}
+use Rattle.std.specs.Prelude.{◌==◌, IsErrOf, OnOk, slice_range, max, min}
 use Rattle.std.specs.List.{list_any}
 use Rattle.std.proofs.lemmas.Bool.{cond_both, eqb-false, eqb-true, ltb-false, or_parts}
 use Rattle.std.proofs.lemmas.List.Elements.{Contains-append_right}
 use Rattle.flash_format.specs.Entry.{is_nul}
-use Rattle.flash_format.specs.Made.{empty_entry, IsDigest, IsMade, meta_length, made_metadata, header_length, padding, described_len, hash_len, metadata_of}
+use Rattle.flash_format.specs.Made.{empty_entry, IsDigest, IsMade, made_metadata}
 use Rattle.flash_format.specs.Cut.{cut}
 use Rattle.flash_format.specs.Components.{components}
 use Rattle.flash_format.specs.Placings.{HasOneMore, IsSpace, space_cells}
-use Rattle.flash_format.proofs.MadeLaws.{length-metadata, hash_as_long, made_as_long, made_alone}
-use Rattle.flash_format.proofs.Placings.{IsPlacing, empty_is_space, components_placed}
+use Rattle.flash_format.proofs.MadeLaws.{made_as_long, made_alone}
+use Rattle.flash_format.proofs.Placings.{IsPlacing, one_more-end, empty_is_space, components_placed}
 use Rattle.flash_device.specs.Device.{Device, SameOutside, overwritten}
 use Rattle.flash_device.proofs.BytesLemmas.{SameOutside-overwritten, further, length-overwritten}
 use Rattle.cbfs_edit.specs.Removals.{IsCellRange, kept_at, removed, space_end}
-use Rattle.cbfs_edit.specs.Runs.{runs}
-use Rattle.cbfs_edit.specs.Places.{is_bad_align, IsWanted, IsFirstPlace, placing_in}
+use Rattle.cbfs_edit.specs.Places.{runs}
+use Rattle.cbfs_edit.specs.Places.{is_bad_align, IsFirstPlace, placing_in}
 use Rattle.cbfs_edit.specs.Places.{Fits}
-use Rattle.cbfs_edit.specs.Changes.{IsAddition, AddLeavesWhole, AddLeavesBefore, IsEmptied, copy_edit_fault}
-use Rattle.cbfs_edit.specs.Additions.{NewComponent, added, added_component, addition_in, empty_between, cell_end, metadata_len_of, made_at, argument_fault, wanted_for, algorithm_of, digest_of, HasRoom, with_component, IsUnfinished}
+use Rattle.cbfs_edit.specs.Changes.{IsAddition, AddLeavesWhole, IsEmptied}
+use Rattle.cbfs_edit.specs.Additions.{NewComponent, added, added_component, addition_in, empty_between, cell_end, metadata_len_of, made_at, argument_fault, wanted_for, algorithm_of, digest_of}
 use Rattle.cbfs_edit.specs.Laws.{IsAdded}
 use Rattle.cbfs_edit.specs.declared.fault.EditFault.{EditFault}
 use Rattle.cbfs_edit.specs.declared.group.CellRange.{CellRange}
@@ -28,13 +28,11 @@ use Rattle.cbfs_edit.specs.declared.place.Place.{Place}
 use Rattle.cbfs_edit.proofs.Places.{IsPlaceAmong, IsAnsweredPlace, answered_place, fits_there, first_place-right}
 use Rattle.cbfs_edit.proofs.Lists.{content_at}
 use Rattle.cbfs_edit.proofs.Runs.{IsRun, run_of, emptied_runs}
-use Rattle.cbfs_edit.proofs.EmptyEntries.{IsOldOrEmptied, emptied-wider, emptied-write, emptied-outside, removed-emptied, old_or-wider, same_region_length, space_end-below, space_end-near, as_splice, emptied-stopped}
-use Rattle.cbfs_edit.proofs.Changes.{keeps}
-use Rattle.cbfs_edit.proofs.Insertions.{hash_short, inserted, finished-last}
+use Rattle.cbfs_edit.proofs.EmptyEntries.{IsOldOrEmptied, emptied-wider, old_or-wider, same_region_length, space_end-below, space_end-near, as_splice, emptied-stopped}
+use Rattle.cbfs_edit.proofs.Changes.{copy_edit_fault, keeps}
+use Rattle.cbfs_edit.proofs.Insertions.{added-last, with_content, written_long}
 use Rattle.std.specs.Option.{option_map_or}
-use Rattle.flash_format.specs.Head.{round64}
 use Rattle.flash_format.specs.declared.digest.Digest.{Digest}
-use Rattle.flash_format.specs.declared.meta.Meta.{Meta}
 use Rattle.cbfs_edit.proofs.Removals.{image_of}
 use Rattle.flash_device.specs.Regions.{Range, LiesOn, bytes_in}
 use Rattle.flash_device.specs.declared.paged.CopyInFault.{CopyInFault}
@@ -51,6 +49,10 @@ use Rattle.flash_device.specs.declared.paged.CopyInFault.TheVariants as copies
 pub own-is : (x : List ℕ) (new : NewComponent) (spot : Spot) (own : Option EditFault) → own ≡ argument_fault new.name new.kind spot → option_map_or (λ fault. Err fault) own (placing_in x new.name (wanted_for new spot)) ≡ addition_in x new spot
 unfolding addition_in
 own-is x new spot own is = ap (λ (o : Option EditFault). option_map_or (λ fault. Err fault) o (placing_in x new.name (wanted_for new spot))) is
+
+-- after a source fault: the components of before
+abbrev pub AddLeavesBefore : List ℕ → NewComponent → Spot → List ℕ → Type 0
+AddLeavesBefore x new spot y = AddLeavesWhole x new spot y × (components y ≡ components x)
 
 -- ---- an accepted addition
 
@@ -102,8 +104,7 @@ module _ (x : List ℕ) (new : NewComponent) (spot : Spot) (place : Place) (is :
 
   first : IsFirstPlace (wanted_for new spot) (length x) (runs x) place
   first =
-      let is_wanted : IsWanted (wanted_for new spot) = record { metadata_len = omega (arith, hash_short new.digest, fine.name_short); len = is.content; spot = fine.spot_good } in
-      subst (λ (o : Option Place). IsPlaceAmong (wanted_for new spot) (length x) (runs x) o) there.found (first_place-right (wanted_for new spot) (length x) (runs x) is_wanted)
+      subst (λ (o : Option Place). IsPlaceAmong (wanted_for new spot) (length x) (runs x) o) there.found (first_place-right (wanted_for new spot) (length x) (runs x) fine.spot_good)
 
   is_run : Contains (runs x) place.run
   is_run = subst (λ (l : List CellRange). Contains l place.run) (sym first.whole) (Contains-append_right first.before (place.run ∷ first.later) place.run (0, omega arith, refl))
@@ -123,14 +124,11 @@ module _ (x : List ℕ) (new : NewComponent) (spot : Spot) (place : Place) (is :
   cell_long : length (made_at x new place) ≡ end - place.header
   cell_long = made_as_long new.name new.kind new.digest (place.content - place.header - metadata_len_of new) new.content (kept_at x end) is.digest (keeps x end some) ∙ omega (arith, fits.header.aligned, fits.header.room)
 
-  metadata_long : length (made_metadata new.name new.kind new.digest (place.content - place.header - metadata_len_of new) (length new.content)) ≡ place.content - place.header
-  metadata_long =
-      length-metadata new.name new.kind new.digest (place.content - place.header - metadata_len_of new) (length new.content)
-      ∙ ap (λ n. meta_length (length new.name) n + (place.content - place.header - metadata_len_of new)) (hash_as_long new.digest is.digest)
-      ∙ omega (arith, fits.header.room)
-
   abbrev metadata : List ℕ
   metadata = made_metadata new.name new.kind new.digest (place.content - place.header - metadata_len_of new) (length new.content)
+
+  metadata_long : length metadata ≡ place.content - place.header
+  metadata_long = written_long x new (wanted_for new spot) place (length x) refl fits refl refl fine.name_short is.digest
 
   abbrev before : List ℕ
   before = empty_between x place.run.start place.header
@@ -204,8 +202,7 @@ module _ (x : List ℕ) (new : NewComponent) (spot : Spot) (place : Place) (is :
         is.placed,
         record {
           components = inr (ap (λ (l : List ℕ). components l) done);
-          end = ap (λ (l : List ℕ). (cut l).end) done ∙ more.same_end;
-          same_length = ap length done ∙ added_length;
+          end = ap (λ (l : List ℕ). (cut l).end) done ∙ one_more-end _ _ _ _ _ _ _ more;
           outside = record {
             before = (subst (λ (l : List ℕ). SameOutside place.run.start (place.run.end - place.run.start) x l) (sym done)
                 (SameOutside-overwritten x place.run.start (place.run.end - place.run.start) (before ++ (made_at x new place ++ after)) (omega (arith, whole_long)) (omega (arith, range.some, range.inside)))).before;
@@ -219,45 +216,13 @@ module _ (x : List ℕ) (new : NewComponent) (spot : Spot) (place : Place) (is :
   empty_before y stop = add_leaves_before y (old_or-wider x place.run range (space_end (length x) place.run.end) to y (omega arith) stop)
 
   -- the content after the empty entry
-  module _ (y z : List ℕ) (same_length : length z ≡ length y) (emptied : y ≡ removed x place.run) (torn : SameOutside place.content (length new.content) y z) where
-    copied_emptied : IsEmptied place.run to x z
-    copied_emptied =
-        let empty = subst (λ (l : List ℕ). IsEmptied place.run (space_end (length x) place.run.end) x l) (sym emptied) (removed-emptied x place.run range) in
-        emptied-write x place.run range to y (emptied-wider x place.run range (space_end (length x) place.run.end) y empty to (omega arith)) z place.content (length new.content)
-        same_length (omega (arith, fits.start_below, fits.header.room)) (omega arith) torn
+  pub copied_before : (y z : List ℕ) → length z ≡ length y → y ≡ removed x place.run → SameOutside place.content (length new.content) y z → AddLeavesBefore x new spot z
+  copied_before y z long emptied torn = add_leaves_before z (inr (with_content x new (wanted_for new spot) place (length x) refl fits refl refl fine.name_short is.digest y z long emptied torn))
 
-    pub copied_before : AddLeavesBefore x new spot z
-    copied_before = add_leaves_before z (inr copied_emptied)
-
-    -- the metadata, and the last commit
-    module _ (written w : List ℕ) (written_long : length written ≡ place.content - place.header) (shown_length : length w ≡ length z) where
-      room : HasRoom place end (length written) (length x)
-      room = let few = hash_short new.digest in let there_fits : Fits (wanted_for new spot) (length x) place = fits in let short : length new.name ≤ 127 = fine.name_short in search rules
-
-      -- all writes result in the component
-      pub shown_added : written ≡ metadata → z ≡ overwritten y place.content new.content → w ≡ with_component z place end written → w ≡ added x new place
-      shown_added is_metadata second third =
-          let whole : List ℕ = written ++ new.content in
-          let d = place.content + length new.content in
-          let long : length whole ≡ d - place.header = omega (arith, length-append written new.content, room.metadata_is) in
-          let pad : end - d ≡ round64 (length whole) - length whole = omega (arith, long, fits.header.aligned, fits.header.room) in
-          third
-          ∙ ap (λ (l : List ℕ). with_component l place end written) (second ∙ ap (λ (l : List ℕ). overwritten l place.content new.content) emptied)
-          ∙ inserted x place end written room new.content (omega arith)
-          ∙ ap (λ (l : List ℕ). overwritten x place.run.start (before ++ l)) (sym (append_assoc whole (padding (end - d) (kept_at x end)) after))
-          ∙ ap (λ n. overwritten x place.run.start (before ++ ((whole ++ padding n (kept_at x end)) ++ after))) pad
-          ∙ ap (λ (f : List ℕ). overwritten x place.run.start (before ++ (((f ++ new.content) ++ padding (round64 (length (f ++ new.content)) - length (f ++ new.content)) (kept_at x end)) ++ after))) is_metadata
-
-      -- a stop at the last writes
-      pub shown_whole : (honest : Type 0) → (honest → written ≡ metadata) → (honest → z ≡ overwritten y place.content new.content) → (w ≡ with_component z place end written) ⊎ IsUnfinished place z w → honest → AddLeavesWhole x new spot w
-      shown_whole honest is_metadata second (inl third) = λ h.
-          let behind : place.run.start + header_length ≤ to = omega (arith, near.1, range.some) in
-          let first = further x z (place.run.start + (to - place.run.start)) to (omega (arith, behind)) (emptied-outside x place.run range to z copied_emptied behind).after in
-          let last = finished-last z place end to written (subst (λ n. HasRoom place end (length written) n) (sym copied_emptied.same_length) room) (omega arith) (omega (arith, near.1)) in
-          add_leaves_done w (shown_added (is_metadata h) (second h) third) (ap (λ (l : List ℕ). drop to l) third ∙ last ∙ first)
-      shown_whole honest is_metadata second (inr unfinished) = λ h.
-          let from = place.run.start + header_length in
-          (add_leaves_before w (inr (emptied-write x place.run range to z copied_emptied w from (max place.content (place.run.end - 4) - from) shown_length (omega arith) (omega (arith, near.1, range.some, fits.start_below, fits.header.room)) unfinished))).0
+  -- a stop at the last writes
+  pub shown_whole : (z : List ℕ) → (z ≡ added x new place) ⊎ IsEmptied place.run to x z → AddLeavesWhole x new spot z
+  shown_whole z (inl done) = add_leaves_done z done (ap (λ (l : List ℕ). drop to l) done ∙ added-last x new (wanted_for new spot) place (length x) refl fits refl refl fine.name_short is.digest)
+  shown_whole z (inr emptied) = (add_leaves_before z (inr emptied)).0
 
 -- ---- the steps: own checks, search, writes
 
@@ -287,7 +252,7 @@ addition_refused r with_content spot source fault old now (inr is) same = (sym i
 
 -- the writes after a search, on an honest device
 module _ (r : Range) (device : Device) (with_content : List ℕ → NewComponent) (spot : Spot) (source : Device) (wanted : Wanted) (place : Place) (lies : LiesOn r device) (wanted_is : wanted ≡ wanted_for (with_content source.content) spot) (kind : (with_content source.content).kind < 2 ^ 32)
-    (content : length (with_content source.content).content < 2 ^ 32) (digest : IsDigest (with_content source.content).digest) (found : (let a : Result Place EditFault = Ok place in IsErrOf a faults.Device ⊎ (a ≡ addition_in (bytes_in r device.content) (with_content source.content) spot))) where
+    (digest : IsDigest (with_content source.content).digest) (found : (let a : Result Place EditFault = Ok place in IsErrOf a faults.Device ⊎ (a ≡ addition_in (bytes_in r device.content) (with_content source.content) spot))) where
   abbrev old : List ℕ
   old = bytes_in r device.content
 
@@ -298,7 +263,7 @@ module _ (r : Range) (device : Device) (with_content : List ℕ → NewComponent
   placed = ⊎_elim (λ failed. absurd cc) (λ e. sym e) found
 
   added_there : IsAdded old new spot place
-  added_there = record { region = omega (arith, length-bytes_in r device.content lies.inside, lies.inside, lies.below); kind = kind; content = content; digest = digest; placed = placed }
+  added_there = record { region = omega (arith, length-bytes_in r device.content lies.inside, lies.inside, lies.below); kind = kind; digest = digest; placed = placed }
 
   module _ (mid empty : List ℕ) (same : mid ≡ device.content) (empty_long : length empty ≡ length mid) where
     pub empty_left : IsOldOrEmptied place.run (space_end r.size place.run.end) (bytes_in r mid) (bytes_in r empty) → IsAddition r with_content spot source (Err faults.Device) device.content empty
@@ -315,35 +280,23 @@ module _ (r : Range) (device : Device) (with_content : List ℕ → NewComponent
       copied_left copies.Device = λ honest. (copied_before old new spot place added_there (bytes_in r empty) (bytes_in r copied) as_long emptied_old torn).0
       copied_left copies.Source = copied_before old new spot place added_there (bytes_in r empty) (bytes_in r copied) as_long emptied_old torn
 
-      module _ (m : Meta) (stored : Option Digest) (shown : List ℕ) (is_name : m.name.now ≡ new.name) (is_kind : m.kind ≡ new.kind) (is_digest : option_copied m.digest ≡ stored) (is_gap : m.gap ≡ place.content - place.header - wanted.metadata_len) (is_len : m.len ≡ wanted.len)
-          (digest_len : hash_len stored ≡ hash_len new.digest) (metadata_len : length (metadata_of m) ≡ described_len m) (shown_long : length shown ≡ length copied)
-          (stored_is : IsTrue source.honest → stored ≡ new.digest) (copied_is : IsTrue source.honest → bytes_in r copied ≡ overwritten (bytes_in r empty) place.content new.content) where
-        header : wanted.metadata_len ≡ metadata_len_of new
-        header = ap (λ (w : Wanted). w.metadata_len) wanted_is
+      module _ {T E : Type 0} (result : Result T E) (stored : Option Digest) (shown : List ℕ) (shown_long : length shown ≡ length copied) (stored_is : IsTrue source.honest → stored ≡ new.digest)
+          (copied_is : IsTrue source.honest → bytes_in r copied ≡ overwritten (bytes_in r empty) place.content new.content)
+          (shown_is : (x content : List ℕ) → length x ≡ r.size → length content ≡ wanted.len → bytes_in r copied ≡ overwritten (removed x place.run) place.content content → (let z = bytes_in r shown in let one : NewComponent = record { name = new.name; kind = new.kind; digest = stored; content = content } in OnOk result (z ≡ added x one place) × ((z ≡ added x one place) ⊎ IsEmptied place.run (max (place.content + wanted.len) (space_end r.size place.run.end)) x z))) where
+        is_shown : IsTrue source.honest → OnOk result (bytes_in r shown ≡ added old new place) × ((bytes_in r shown ≡ added old new place) ⊎ IsEmptied place.run (to old new spot place added_there) old (bytes_in r shown))
+        is_shown honest =
+            let size = length-bytes_in r device.content lies.inside in
+            let len : wanted.len ≡ length new.content = ap (λ (w : Wanted). w.len) wanted_is in
+            let is = rw (stored_is honest, len) at (shown_is old new.content size (sym len) (copied_is honest ∙ ap (λ (l : List ℕ). overwritten l place.content new.content) emptied_old)) in
+            subst (λ n. OnOk result (bytes_in r shown ≡ added old new place) × ((bytes_in r shown ≡ added old new place) ⊎ IsEmptied place.run (max (place.content + length new.content) (space_end n place.run.end)) old (bytes_in r shown))) (sym size) is
 
-        len : wanted.len ≡ length new.content
-        len = ap (λ (w : Wanted). w.len) wanted_is
+        pub shown_left : IsAddition r with_content spot source (Err faults.Device) device.content shown
+        shown_left = λ honest. shown_whole old new spot place added_there (bytes_in r shown) (is_shown honest).1
 
-        written_long : length (metadata_of m) ≡ place.content - place.header
-        written_long = metadata_len ∙ rw (is_name, is_digest, is_gap, digest_len, header) (omega (arith, (fits old new spot place added_there).header.room))
-
-        is_written : IsTrue source.honest → metadata_of m ≡ metadata old new spot place added_there
-        is_written honest = rw (is_name, is_kind, is_digest, stored_is honest, is_gap, header, is_len, len) refl
-
-        as_long_shown : length (bytes_in r shown) ≡ length (bytes_in r copied)
-        as_long_shown = same_region_length r device.content copied shown lies.inside (copied_long ∙ empty_long ∙ ap length same) shown_long
-
-        pub shown_left : (bytes_in r shown ≡ with_component (bytes_in r copied) place (round64 (place.content + wanted.len)) (metadata_of m)) ⊎ IsUnfinished place (bytes_in r copied) (bytes_in r shown) → IsAddition r with_content spot source (Err faults.Device) device.content shown
-        shown_left stop =
-            shown_whole old new spot place added_there (bytes_in r empty) (bytes_in r copied) as_long emptied_old torn (metadata_of m) (bytes_in r shown) written_long as_long_shown (IsTrue source.honest) is_written copied_is (rw len at stop)
-
-        pub shown_done : SameOutside r.start r.size device.content shown → bytes_in r shown ≡ with_component (bytes_in r copied) place (round64 (place.content + wanted.len)) (metadata_of m)
-            → IsAddition r with_content spot source (Ok (record { header = place.header; content = place.content })) device.content shown
-        shown_done outside is = (
+        pub shown_done : (let P : Type 0 = bytes_in r shown ≡ added old new place in OnOk result P → P) → SameOutside r.start r.size device.content shown → IsAddition r with_content spot source (Ok (record { header = place.header; content = place.content })) device.content shown
+        shown_done ok outside = (
           place,
           placed,
           refl,
-          λ honest.
-              image_of r (added old new place) device.content device.content shown lies.inside refl (shown_long ∙ copied_long ∙ empty_long ∙ ap length same) outside
-              (shown_added old new spot place added_there (bytes_in r empty) (bytes_in r copied) as_long emptied_old torn (metadata_of m) (bytes_in r shown) written_long as_long_shown (is_written honest) (copied_is honest) (rw len at is)),
+          λ honest. image_of r (added old new place) device.content device.content shown lies.inside refl (shown_long ∙ copied_long ∙ empty_long ∙ ap length same) outside (ok (is_shown honest).0),
         )

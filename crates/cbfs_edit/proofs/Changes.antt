@@ -1,8 +1,8 @@
 -- Changes within a range, and the region's last four bytes.
 use Rattle.std.proofs.Common.{◌≡◌, ℕ, ◌-◌, ◌<◌, ◌≤◌, Bool, true, false, cond, List, length, Option, Some, None, ap, refl, arith, length-drop, ◌⊎◌, inl, inr, ◌+◌, sym, ◌∙◌, subst}
-use Rattle.std.specs.Prelude.{◌==◌, is_some, max}
-use Rattle.std.proofs.lemmas.Bool.{cond_both, ne_eqb, eqb-false, eqb-true}
-use Rattle.flash_format.specs.Made.{KeepsFour, empty_header, header_length}
+use Rattle.std.specs.Prelude.{◌==◌, is_some}
+use Rattle.std.proofs.lemmas.Bool.{cond_both, ne_eqb}
+use Rattle.flash_format.proofs.MadeLaws.{KeepsFour}
 use Rattle.cbfs_edit.specs.Removals.{last_four, kept_at}
 use Rattle.flash_device.specs.Device.{SameOutside, overwritten}
 use Rattle.flash_device.proofs.BytesLemmas.{SameOutside-overwritten, SameOutside-trans}
@@ -18,9 +18,9 @@ use Rattle.flash_device.specs.declared.paged.CopyInFault.{CopyInFault}
 use Rattle.flash_device.specs.declared.paged.CopyFault.{CopyFault}
 use Rattle.flash_device.specs.declared.paged.CopyInFault.TheVariants as causes
 use Rattle.flash_device.proofs.RegionLemmas.{outside_of, changed_at, written_ok}
-use Rattle.cbfs_edit.specs.Changes.{by_device, by_source, copy_edit_fault}
-use Rattle.cbfs_edit.specs.declared.place.Place.{Place}
-use Rattle.cbfs_edit.specs.Additions.{HasRoom, with_bound, held_back, IsUnfinished}
+use Rattle.cbfs_edit.specs.Changes.{by_device, by_fault, by_source}
+use Rattle.cbfs_edit.specs.declared.fault.EditFault.{EditFault}
+use Rattle.cbfs_edit.specs.declared.fault.EditFault.TheVariants as faults
 
 -- ---- the last four bytes of a region
 
@@ -57,30 +57,16 @@ within y z at n from to after before same =
 pub again : (x y z : List ℕ) (at n : ℕ) → SameOutside at n x y → SameOutside at n y z → SameOutside at n x z
 again x y z at n first second = record { before = second.before ∙ first.before; after = second.after ∙ first.after }
 
-module _ (size : ℕ) (place : Place) (end metadata : ℕ) (room : HasRoom place end metadata size) (y z : List ℕ) where
-  -- the other metadata
-  pub metadata-within : (at n : ℕ) → at ≡ place.header + held_back place → n ≡ metadata - held_back place → SameOutside at n y z → IsUnfinished place y z
-  metadata-within at n is long same =
-      let held : (place.run.start + header_length ≤ place.header + held_back place) × (held_back place ≤ header_length) =
-      cond_both (place.header == place.run.start) header_length 0 (λ k. (place.run.start + header_length ≤ place.header + k) × (k ≤ header_length))
-      (λ e. (omega (arith, eqb-true place.header place.run.start e), omega arith))
-      (λ e. (omega (arith, eqb-false place.header place.run.start e, room.start_below, room.run.start_aligned, room.cell.start_aligned), omega arith)) in
-      within y z at n (place.run.start + header_length) (max place.content (place.run.end - 4)) (omega (arith, held, is)) (omega (arith, held, is, long, room.metadata_is, room.metadata_long)) same
-
-  -- the empty entry after the component
-  pub bound-is : (header : List ℕ) (told : ℕ) → told ≡ length y → header ≡ empty_header (place.run.end - end) (place.run.end == told) → (end ≡ place.run.end → ⊥) → z ≡ overwritten y end header → z ≡ with_bound y end place.run.end
-  bound-is header told is_told is_header other is =
-      is
-      ∙ ap (λ (h : List ℕ). overwritten y end h) (is_header ∙ ap (λ n. empty_header (place.run.end - end) (place.run.end == n)) is_told)
-      ∙ sym (ap (λ b. cond b y (overwritten y end (empty_header (place.run.end - end) (place.run.end == length y)))) (ne_eqb end place.run.end other))
-
-  pub bound-within : (n : ℕ) → n ≡ header_length → (end ≡ place.run.end → ⊥) → SameOutside end n y z → IsUnfinished place y z
-  bound-within n long other same =
-      within y z end n (place.run.start + header_length) (max place.content (place.run.end - 4))
-      (omega (arith, room.start_below, room.metadata_is, room.metadata_long, room.content_below))
-      (omega (arith, long, other, room.cell.inside, room.cell.end_aligned, room.run.end_aligned)) same
-
 -- ---- a copy to an offset in a region
+
+abbrev pub copy_edit_fault : CopyInFault → EditFault
+copy_edit_fault causes.Device = faults.Device
+copy_edit_fault causes.Source = faults.Source
+
+pub copied-fault : (copied : CopyInFault) (fault : EditFault) → by_fault fault (copied ≡ causes.Device) (copied ≡ causes.Source) ⊥ → fault ≡ copy_edit_fault copied
+copied-fault copied faults.Device is = ap copy_edit_fault (sym is)
+copied-fault copied faults.Source is = ap copy_edit_fault (sym is)
+copied-fault copied fault is = absurd is
 
 copied_ok : {T : Type 0} (P : Type 0) (r : Result T CopyInFault) → OnOk (as_copy r) P → OnOk r P
 copied_ok P (Ok value) done = done

@@ -3,7 +3,7 @@ use Rattle.std.proofs.Common.{◌≡◌, List, ℕ, Result, Err, ap, refl, sym, 
 use Rattle.std.specs.Prelude.{IsErrOf, sum_by}
 use Rattle.flash_device.specs.Regions.{Range}
 use Rattle.cbfs_edit.specs.Changes.{by_device, by_source}
-use Rattle.cbfs_edit.specs.Steps.{Run, Step, edit_calls, faults_of}
+use Rattle.cbfs_edit.specs.Changes.{Run, Step, edit_calls, faults_of}
 use Rattle.cbfs_edit.specs.declared.edit.Reply.{Reply}
 use Rattle.cbfs_edit.specs.declared.fault.EditFault.{EditFault}
 use Rattle.cbfs_edit.specs.declared.group.CellRange.{CellRange}

@@ -99,7 +99,6 @@ module _ (x : List ℕ) (group : CellRange) (range : IsCellRange group (length x
       emptied-stopped done last order inside later cells ends = record {
         components = cells;
         end = ends;
-        same_length = is.same_length;
         outside = SameOutside-wider x y group.start (to - group.start) (min group.end last - group.start) (omega (arith, inside, later)) (emptied-outside order);
       }
 

@@ -14,7 +14,7 @@ use Rattle.flash_format.proofs.MadeLaws.{length-padding}
 use Rattle.flash_device.specs.Device.{overwritten}
 use Rattle.flash_device.proofs.BytesLemmas.{further}
 use Rattle.cbfs_edit.specs.Removals.{IsCellRange, removed, last_four, space_end}
-use Rattle.cbfs_edit.specs.Formats.{formatted, IsOneFreeCell}
+use Rattle.cbfs_edit.specs.Changes.{formatted, IsOneFreeCell}
 use Rattle.cbfs_edit.specs.declared.group.CellRange.{CellRange}
 use Rattle.cbfs_edit.proofs.EmptyEntries.{IsOldOrEmptied, emptied-bytes, emptied-outside, emptied-wider, space_end-below, space_end-near}
 use Rattle.cbfs_edit.proofs.Changes.{length-last_four}

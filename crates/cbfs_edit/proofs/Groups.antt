@@ -2,7 +2,7 @@
 use Rattle.std.proofs.Common.{◌≡◌, ℕ, ◌+◌, ◌%◌, List, [], ◌∷◌, ◌++◌, length, sym, ◌∙◌, ap, subst, append_assoc, length-append, inl, inr, ◌<◌, refl, arith, All, Contains, Option, Some, None, true, cond}
 use Rattle.std.specs.List.{concat, last_or, slice_get}
 use Rattle.std.specs.Prelude.{IfSome, MatchOption, ◌↔◌}
-use Rattle.std.proofs.lemmas.List.{append-nil}
+use Rattle.std.proofs.lemmas.List.{append-nil, drop_at, take_at}
 use Rattle.flash_format.specs.Cut.{cut, IsCut}
 use Rattle.flash_format.specs.Splices.{CellsBetween}
 use Rattle.flash_format.proofs.CutLaws.{cut_exists}
@@ -10,10 +10,10 @@ use Rattle.flash_format.proofs.Splices.{concat-append}
 use Rattle.cbfs_edit.specs.declared.group.CellRange.{CellRange}
 use Rattle.std.specs.Str.{bytes_eq}
 use Rattle.std.proofs.lemmas.Bool.{both_ways, cases_Bool}
-use Rattle.std.proofs.lemmas.List.Elements.{All-nil, All-cons, All-push, All-append, All-weaker, All-head, All-tail, All-contains, Contains-append_right}
+use Rattle.std.proofs.lemmas.List.Elements.{All-nil, All-cons, All-push, All-append, All-weaker, All-head, All-tail, All-contains, All-drop, All-take, Contains-append_right}
 use Rattle.flash_format.specs.Head.{head_of, is_free}
 use Rattle.flash_format.specs.Components.{cell_name}
-use Rattle.cbfs_edit.specs.Removals.{by_rows, group_from, group_of, row_end, IsComponent, IsNot, IsRangeAmong, IsGroupOf}
+use Rattle.cbfs_edit.specs.Removals.{by_rows, group_from, row_end, IsComponent, IsNot, IsRangeAmong, IsGroupOf}
 
 abbrev pub IsFree : List ℕ → Type 0
 IsFree c = is_free (head_of c) ≡ true
@@ -141,8 +141,7 @@ exact name start at done row (c ∷ cells) group none ends free begun is found =
               is_component = used;
               named = named;
               first = none;
-              row_before_free = free;
-              row_after_free = r.free;
+              free = All-append IsFree row r.row free r.free;
             })
         | inr other ↦
             let not : All (IsNot name) ((done ++ row) ++ c ∷ []) = All-push (IsNot name) (done ++ row) c (All-append (IsNot name) done row none (All-weaker IsFree (IsNot name) (free_is_not name) row free)) (λ u. other) in
@@ -150,7 +149,7 @@ exact name start at done row (c ∷ cells) group none ends free begun is found =
       ]
     ]
 
-pub group_exact : (x name : List ℕ) (group : CellRange) → group_of x name ≡ Some group → IsGroupOf name (cut x).cells group
+pub group_exact : (x name : List ℕ) (group : CellRange) → group_from name 0 0 (cut x).cells ≡ Some group → IsGroupOf name (cut x).cells group
 group_exact x name group found = exact name 0 0 [] [] (cut x).cells group (All-nil (IsNot name)) tt (All-nil IsFree) refl refl found
 
 -- without a group, no component has the name
@@ -167,8 +166,12 @@ none_left name start at (c ∷ cells) none =
       ]
     ]
 
-pub group_none : (x name : List ℕ) → group_of x name ≡ None → All (IsNot name) (cut x).cells
+pub group_none : (x name : List ℕ) → group_from name 0 0 (cut x).cells ≡ None → All (IsNot name) (cut x).cells
 group_none x name none = none_left name 0 0 (cut x).cells none
+
+-- a group's free cells, before and after its component
+pub free_parts : (row more : List (List ℕ)) → All IsFree (row ++ more) → All IsFree row × All IsFree more
+free_parts row more free = (subst (All IsFree) (take_at row more (length row) refl) (All-take IsFree (length row) (row ++ more) free), subst (All IsFree) (drop_at row more (length row) refl) (All-drop IsFree (length row) (row ++ more) free))
 
 -- a group's cells, and its end
 pub whole_of : (name : List ℕ) (cells : List (List ℕ)) (group : CellRange) (g : IsGroupOf name cells group) → cells ≡ g.range.before ++ (g.row_before ++ (g.component ∷ (g.row_after ++ g.range.after)))
@@ -203,22 +206,22 @@ over_others name start at (c ∷ before) cells fresh ends others =
       | inr e ↦ rw (e, All-head (IsNot name) c before others e) (rest next (λ none. refl))
     ]
 
-one_group : (x name : List ℕ) (group : CellRange) → IsGroupOf name (cut x).cells group → group_of x name ≡ Some group
+one_group : (x name : List ℕ) (group : CellRange) → IsGroupOf name (cut x).cells group → group_from name 0 0 (cut x).cells ≡ Some group
 unfolding by_rows
 one_group x name group is =
     let behind : List (List ℕ) = is.row_after ++ is.range.after in
     let first : 0 + length (concat is.range.before) ≡ group.start = omega (arith, is.range.start_is) in
     let next = group.start + length (concat is.row_before) + length is.component in
-    let last : row_end next behind ≡ group.end = row_ends next is.row_after is.range.after is.row_after_free is.range.no_more_after ∙ end_of name (cut x).cells group is in
+    let last : row_end next behind ≡ group.end = row_ends next is.row_after is.range.after (free_parts is.row_before is.row_after is.free).1 is.range.no_more_after ∙ end_of name (cut x).cells group is in
     let step : group_from name group.start (group.start + length (concat is.row_before)) (is.component ∷ behind) ≡ Some group = rw (is.is_component, is.named, last) refl in
     ap (λ (cells : List (List ℕ)). group_from name 0 0 cells) (whole_of name (cut x).cells group is)
     ∙ over_others name 0 0 is.range.before (is.row_before ++ (is.component ∷ behind)) (λ none. refl) is.range.no_more_before is.first
     ∙ ap (λ n. group_from name n n (is.row_before ++ (is.component ∷ behind))) first
-    ∙ over_row (λ s a. None) (λ s a c cells rest. cond (bytes_eq (cell_name c) name) (Some (let r : CellRange = record { start = s; end = row_end (a + length c) cells } in r)) rest) group.start group.start is.row_before (is.component ∷ behind) is.row_before_free
+    ∙ over_row (λ s a. None) (λ s a c cells rest. cond (bytes_eq (cell_name c) name) (Some (let r : CellRange = record { start = s; end = row_end (a + length c) cells } in r)) rest) group.start group.start is.row_before (is.component ∷ behind) (free_parts is.row_before is.row_after is.free).0
     ∙ step
 
 -- no component has the name
-no_group : (x name : List ℕ) (found : Option CellRange) → group_of x name ≡ found → All (IsNot name) (cut x).cells → None ≡ found
+no_group : (x name : List ℕ) (found : Option CellRange) → group_from name 0 0 (cut x).cells ≡ found → All (IsNot name) (cut x).cells → None ≡ found
 no_group x name None is none = refl
 no_group x name (Some group) is none =
     let g = group_exact x name group is in
@@ -226,6 +229,6 @@ no_group x name (Some group) is none =
     let here : Contains (cut x).cells g.component = subst (λ (l : List (List ℕ)). Contains l g.component) (sym (whole_of name (cut x).cells group g)) (Contains-append_right g.range.before (g.row_before ++ behind) g.component (Contains-append_right g.row_before behind g.component (0, omega arith, refl))) in
     absurd (both_ways (bytes_eq (cell_name g.component) name) (All-contains (IsNot name) (cut x).cells g.component none here g.is_component) g.named)
 
-pub groups_exact : (x name : List ℕ) (found : Option CellRange) → MatchOption found (All (IsNot name) (cut x).cells) (IsGroupOf name (cut x).cells) ↔ (found ≡ group_of x name)
-groups_exact x name None = (no_group x name (group_of x name) refl, λ none. group_none x name (sym none))
+pub groups_exact : (x name : List ℕ) (found : Option CellRange) → MatchOption found (All (IsNot name) (cut x).cells) (IsGroupOf name (cut x).cells) ↔ (found ≡ group_from name 0 0 (cut x).cells)
+groups_exact x name None = (no_group x name (group_from name 0 0 (cut x).cells) refl, λ none. group_none x name (sym none))
 groups_exact x name (Some group) = (λ is. sym (one_group x name group is), λ same. group_exact x name group (sym same))

@@ -6,10 +6,10 @@ use Rattle.std.specs.Int.{next_multiple_of}
 use Rattle.std.proofs.lemmas.Bool.{eqb-false, leb-false, leb-true}
 use Rattle.std.proofs.lemmas.List.Elements.{All-nil, All-cons, All-weaker, All-contains, Contains-append_right}
 use Rattle.std.proofs.Math.Nat.{add-mod-mod, mul-mod_left, mod-lt, div-add-mod, lt_of_mul-lt-mul_right, mul-le-mul_right}
-use Rattle.cbfs_edit.specs.Places.{is_bad_align, Allows, HasNoRoom, IsAllowed, IsHeaderOf, IsFirstPlace, IsWanted, limit_of, least_from, place_in, first_place, placing_in}
+use Rattle.cbfs_edit.specs.Places.{is_bad_align, Allows, HasNoRoom, IsAllowed, IsHeaderOf, IsFirstPlace, limit_of, least_from, place_in, first_place, placing_in}
 use Rattle.cbfs_edit.specs.Removals.{IsCellRange}
 use Rattle.cbfs_edit.specs.Places.{Fits}
-use Rattle.cbfs_edit.specs.Runs.{runs}
+use Rattle.cbfs_edit.specs.Places.{runs}
 use Rattle.cbfs_edit.specs.declared.group.CellRange.{CellRange}
 use Rattle.cbfs_edit.specs.declared.place.Spot.{Spot}
 use Rattle.cbfs_edit.specs.declared.place.Spot.TheVariants.{First, Aligned, Fixed}
@@ -64,7 +64,7 @@ place_at wanted run c = record { run = run; header = (c - wanted.metadata_len) /
 header_lemma : (wanted : Wanted) (run : CellRange) (c : ℕ) → wanted.metadata_len ≤ c → IsHeaderOf wanted (place_at wanted run c)
 header_lemma wanted run c above = record { aligned = omega arith; room = omega arith; largest = omega arith }
 
-pub place_in-right : (wanted : Wanted) (size : ℕ) (run : CellRange) (later : List CellRange) → IsWanted wanted → MatchOption (place_in wanted size run) (HasNoRoom wanted size run) (IsFirstPlace wanted size (run ∷ later))
+pub place_in-right : (wanted : Wanted) (size : ℕ) (run : CellRange) (later : List CellRange) → is_bad_align wanted.spot ≡ false → MatchOption (place_in wanted size run) (HasNoRoom wanted size run) (IsFirstPlace wanted size (run ∷ later))
 place_in-right wanted size run later is = go (nat_le from c) (nat_le (c + wanted.len) limit) refl refl
   where
     from : ℕ
@@ -78,15 +78,15 @@ place_in-right wanted size run later is = go (nat_le from c) (nat_le (c + wanted
 
     go : (a b : Bool) → nat_le from c ≡ a → nat_le (c + wanted.len) limit ≡ b
         → MatchOption (cond (a && b) (Some (place_at wanted run c)) None) (HasNoRoom wanted size run) (IsFirstPlace wanted size (run ∷ later))
-    go false b ta tb = λ d allowed. least_from-none wanted.spot from d is.spot (leb-false from c ta) allowed.after_header allowed.meets
-    go true false ta tb = λ d allowed. omega (arith, least_from-least wanted.spot from d is.spot allowed.after_header allowed.meets, allowed.ends, leb-false (c + wanted.len) limit tb)
+    go false b ta tb = λ d allowed. least_from-none wanted.spot from d is (leb-false from c ta) allowed.after_header allowed.meets
+    go true false ta tb = λ d allowed. omega (arith, least_from-least wanted.spot from d is allowed.after_header allowed.meets, allowed.ends, leb-false (c + wanted.len) limit tb)
     go true true ta tb = record {
       before = [];
       later = later;
       whole = refl;
       none_before = All-nil (HasNoRoom wanted size);
-      allowed = record { after_header = leb-true from c ta; meets = least_from-meets wanted.spot from is.spot; ends = leb-true (c + wanted.len) limit tb };
-      least = λ d allowed. least_from-least wanted.spot from d is.spot allowed.after_header allowed.meets;
+      allowed = record { after_header = leb-true from c ta; meets = least_from-meets wanted.spot from is; ends = leb-true (c + wanted.len) limit tb };
+      least = λ d allowed. least_from-least wanted.spot from d is allowed.after_header allowed.meets;
       header = header_lemma wanted run c (omega (arith, leb-true from c ta));
     }
 
@@ -104,7 +104,7 @@ fits_at wanted size run c range after ends = fits_there wanted size (place_at wa
 abbrev pub IsPlaceAmong : Wanted → ℕ → List CellRange → Option Place → Type 0
 IsPlaceAmong wanted size runs found = MatchOption found (All (HasNoRoom wanted size) runs) (IsFirstPlace wanted size runs)
 
-pub first_place-right : (wanted : Wanted) (size : ℕ) (runs : List CellRange) → IsWanted wanted → IsPlaceAmong wanted size runs (first_place wanted size runs)
+pub first_place-right : (wanted : Wanted) (size : ℕ) (runs : List CellRange) → is_bad_align wanted.spot ≡ false → IsPlaceAmong wanted size runs (first_place wanted size runs)
 first_place-right wanted size [] is = All-nil (HasNoRoom wanted size)
 first_place-right wanted size (run ∷ later) is = go (place_in wanted size run) (place_in-right wanted size run later is) (filter_map (place_in wanted size) later) (first_place-right wanted size later is)
   where
@@ -153,7 +153,7 @@ module _ (wanted : Wanted) (size : ℕ) where
       let content : p.content ≡ q.content = omega arith in
       ap (λ (k : Place). Some k) (same_place p q run (omega (arith, is.header, other.header, content)) content)
 
-pub places_exact : (x : List ℕ) (wanted : Wanted) (found : Option Place) → IsWanted wanted → IsPlaceAmong wanted (length x) (runs x) found ↔ (found ≡ first_place wanted (length x) (runs x))
+pub places_exact : (x : List ℕ) (wanted : Wanted) (found : Option Place) → is_bad_align wanted.spot ≡ false → IsPlaceAmong wanted (length x) (runs x) found ↔ (found ≡ first_place wanted (length x) (runs x))
 places_exact x wanted found is =
     let here = first_place-right wanted (length x) (runs x) is in
     (λ place. one_place wanted (length x) (runs x) found (first_place wanted (length x) (runs x)) place here, λ same. subst (λ (o : Option Place). IsPlaceAmong wanted (length x) (runs x) o) (sym same) here)

@@ -4,14 +4,14 @@ use Rattle.std.specs.Prelude.{IsErrOf, ok_or}
 use Rattle.flash_device.specs.Regions.{Range, LiesIn, bytes_in}
 use Rattle.flash_device.proofs.DeviceLemmas.{length-bytes_in}
 use Rattle.flash_format.specs.Cut.{cut}
-use Rattle.cbfs_edit.specs.Removals.{IsCellRange, IsGroupOf, group_of, IsComponent, IsNot, removal_in, removed, space_end}
+use Rattle.cbfs_edit.specs.Removals.{IsCellRange, IsGroupOf, group_from, IsComponent, IsNot, removal_in, removed, space_end}
 use Rattle.flash_device.specs.Device.{overwritten, SameOutside}
 use Rattle.flash_device.proofs.RegionLemmas.{image_is}
 use Rattle.cbfs_edit.specs.Changes.{LeavesWhole, IsRemoval}
 use Rattle.cbfs_edit.specs.Laws.{LosesOne}
 use Rattle.cbfs_edit.specs.declared.fault.EditFault.{EditFault}
 use Rattle.cbfs_edit.specs.declared.group.CellRange.{CellRange}
-use Rattle.cbfs_edit.proofs.Groups.{between, end_of, group_exact, group_some, whole_of}
+use Rattle.cbfs_edit.proofs.Groups.{between, end_of, free_parts, group_exact, group_some, whole_of}
 use Rattle.cbfs_edit.proofs.Sound.{accepted_by, found-some}
 use Rattle.cbfs_edit.proofs.EmptyEntries.{IsOldOrEmptied, group_range, emptied-end, emptied-same, emptied-stopped, emptied-wider, space_end-below, space_end-near, emptied-components, removed-whole}
 use Rattle.std.specs.Str.{bytes_eq}
@@ -36,8 +36,8 @@ pub record IsAccepted (x name : List ℕ) (group : CellRange) : Type 0 where
 pub accepted : (x name : List ℕ) (group : CellRange) → removal_in x name ≡ Ok group → IsAccepted x name group
 unfolding removal_in
 accepted x name group is =
-    let a = accepted_by x (ok_or (group_of x name) faults.NotFound) group is in
-    let g : IsGroupOf name (cut x).cells group = group_exact x name group (found-some (group_of x name) faults.NotFound group a.is) in
+    let a = accepted_by x (ok_or (group_from name 0 0 (cut x).cells) faults.NotFound) group is in
+    let g : IsGroupOf name (cut x).cells group = group_exact x name group (found-some (group_from name 0 0 (cut x).cells) faults.NotFound group a.is) in
     let cells = between x (g.row_before ++ (g.component ∷ g.row_after)) group a.sound.whole g.range in
     record { whole = a.sound.whole; is = g; cells = cells; range = group_range x group cells (group_some x name group g) }
 
@@ -111,7 +111,7 @@ removal_takes_one x name group small is =
         after = components_from group.end r.after;
         whole =
             ap (λ (l : List (List ℕ)). components_from 0 l) (whole_of name (cut x).cells group g)
-            ∙ rw (components-append 0 r.before (g.row_before ++ (g.component ∷ (g.row_after ++ r.after))), first) (ap (λ (l : List Component). components_from 0 r.before ++ l) (row_of_one group.start group.end g.row_before g.row_after r.after g.component g.row_before_free g.row_after_free g.is_component (end_of name (cut x).cells group g)));
+            ∙ rw (components-append 0 r.before (g.row_before ++ (g.component ∷ (g.row_after ++ r.after))), first) (ap (λ (l : List Component). components_from 0 r.before ++ l) (row_of_one group.start group.end g.row_before g.row_after r.after g.component (free_parts g.row_before g.row_after g.free).0 (free_parts g.row_before g.row_after g.free).1 g.is_component (end_of name (cut x).cells group g)));
         named = g.named;
         none_before = others_have_not name 0 r.before g.first;
       };

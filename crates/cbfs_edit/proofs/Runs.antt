@@ -8,7 +8,7 @@ use Rattle.std.proofs.lemmas.List.Elements.{All-nil, All-head, All-tail, All-pus
 use Rattle.flash_format.specs.Head.{head_of, is_free}
 use Rattle.flash_format.specs.Cut.{cut, IsCell}
 use Rattle.cbfs_edit.specs.Removals.{IsCellRange, by_rows}
-use Rattle.cbfs_edit.specs.Runs.{add_run, runs, runs_from, IsRunOf}
+use Rattle.cbfs_edit.specs.Places.{add_run, runs, runs_from, IsRunOf}
 use Rattle.cbfs_edit.specs.Changes.{IsEmptied, SameCells}
 use Rattle.cbfs_edit.specs.declared.group.CellRange.{CellRange}
 use Rattle.cbfs_edit.proofs.Groups.{IsFree, EndsWithComponent, BeginsWithComponent, length-concat-push, length-placed, over_row, ends_after, ends_push, not_alone, between}

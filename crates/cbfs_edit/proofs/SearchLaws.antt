@@ -4,14 +4,20 @@ use Rattle.std.specs.Prelude.{ok_or}
 use Rattle.std.specs.Str.{bytes_eq}
 use Rattle.std.proofs.lemmas.List.Elements.{All-nil, All-cons, All-head, All-tail, All-weaker, All-contains, Contains-append_right}
 use Rattle.std.proofs.lemmas.Bool.{eq-eqb, ne_eqb, both_ways}
-use Rattle.flash_format.specs.Entry.{Entry, absent, damaged, cell, entry}
+use Rattle.flash_format.specs.Entry.{absent}
 use Rattle.flash_format.specs.Cut.{Cut, cut, End}
 use Rattle.flash_format.specs.Components.{Component, components, components_from}
 use Rattle.flash_format.specs.Placings.{space_cells}
 use Rattle.flash_format.proofs.CutSteps.{cut_step}
 use Rattle.flash_format.proofs.CutLaws.{cut_unique}
+use Rattle.flash_format.proofs.Placings.{one_more-end}
 use Rattle.cbfs_walk.specs.Search.{IsFirstOf, component_in, first_named}
-use Rattle.cbfs_walk.specs.Shapes.{has_bad_size, is_absent, shape_fault, refused_or}
+use Rattle.std.specs.Option.{option_map_or}
+use Rattle.cbfs_walk.proofs.Checks.{entry_absent}
+use Rattle.flash_format.specs.declared.head.Head.{Head}
+use Rattle.flash_format.specs.Entry.{front}
+use Rattle.std.specs.Prelude.{is_some, not}
+use Rattle.cbfs_walk.specs.Shapes.{has_bad_size, shape_fault}
 use Rattle.cbfs_walk.proofs.FirstComponents.{first_found, none_named, same_name}
 use Rattle.cbfs_edit.specs.Additions.{NewComponent, added, added_component, empty_between, cell_end, made_at}
 use Rattle.cbfs_edit.specs.Laws.{AddsOne, IsAdded, LosesOne}
@@ -22,7 +28,8 @@ use Rattle.cbfs_walk.specs.CellReadings.{place_after}
 use Rattle.cbfs_walk.specs.declared.walk.WalkFault.{WalkFault}
 use Rattle.cbfs_edit.specs.Changes.{SameCells}
 use Rattle.flash_format.specs.Splices.{CellsBetween}
-use Rattle.cbfs_edit.specs.Removals.{group_of, removed, removal_in, unless_damaged, edit_fault_of}
+use Rattle.cbfs_edit.specs.Removals.{group_from, removed, removal_in, edit_fault_of}
+use Rattle.cbfs_edit.proofs.Sound.{unless_damaged}
 use Rattle.cbfs_edit.specs.declared.fault.EditFault.TheVariants as faults
 use Rattle.cbfs_edit.specs.declared.group.CellRange.{CellRange}
 use Rattle.cbfs_edit.proofs.Groups.{group_none}
@@ -38,13 +45,12 @@ all_left P (c ∷ a) b each = All-cons P c a (All-head P c (a ++ b) each) (all_l
 fine_size : (n : ℕ) → 0 < n → n % 64 ≡ 0 → has_bad_size n ≡ false
 fine_size n some whole = rw (ne_eqb n 0 (λ (e : n ≡ 0). omega (arith, e, some)), eq-eqb (n % 64) 0 whole) refl
 
-cell_there : (x : List ℕ) → 0 < length x → 0 < length (cut x).cells → is_absent (entry x) ≡ false
-cell_there x some cells = go (entry x) refl
+cell_there : (x : List ℕ) → 0 < length x → 0 < length (cut x).cells → not (is_some (front x)) ≡ false
+cell_there x some cells = go (front x) refl
   where
-    go : (e : Entry) → entry x ≡ e → is_absent e ≡ false
-    go absent e = absurd (omega (arith, cells, ap (λ (k : Cut). length k.cells) (cut_step x absent some e)))
-    go (damaged kind) e = refl
-    go (cell span) e = refl
+    go : (o : Option Head) → front x ≡ o → not (is_some o) ≡ false
+    go None e = absurd (omega (arith, cells, ap (λ (k : Cut). length k.cells) (cut_step x absent some (sym (entry_absent x (sym e))))))
+    go (Some h) e = refl
 
 one_among : (a b c d : List (List ℕ)) (m : List ℕ) → 0 < length (a ++ (b ++ (m ∷ []) ++ c) ++ d)
 one_among a b c d m = simp length-append (omega arith)
@@ -98,15 +104,15 @@ IsNamed name c = bytes_eq c.name name ≡ true
 unnamed : (name : List ℕ) (cs : List Component) → All (λ (c : Component). bytes_eq c.name name ≡ false) cs → All (λ c. IsNamed name c → ⊥) cs
 unnamed name cs none = All-weaker (λ (c : Component). bytes_eq c.name name ≡ false) (λ c. IsNamed name c → ⊥) (λ (c : Component) other. both_ways (bytes_eq c.name name) other) cs none
 
-removal_is : (y name : List ℕ) → shape_fault y ≡ None → unless_damaged (place_after 0 (cut y).cells) (cut y).end (ok_or (group_of y name) faults.NotFound) ≡ ok_or (group_of y name) faults.NotFound → removal_in y name ≡ ok_or (group_of y name) faults.NotFound
+removal_is : (y name : List ℕ) → shape_fault y ≡ None → unless_damaged (place_after 0 (cut y).cells) (cut y).end (ok_or (group_from name 0 0 (cut y).cells) faults.NotFound) ≡ ok_or (group_from name 0 0 (cut y).cells) faults.NotFound → removal_in y name ≡ ok_or (group_from name 0 0 (cut y).cells) faults.NotFound
 unfolding removal_in
-removal_is y name good through = ap (λ (o : Option WalkFault). refused_or (λ fault. Err (edit_fault_of fault)) o (unless_damaged (place_after 0 (cut y).cells) (cut y).end (ok_or (group_of y name) faults.NotFound))) good ∙ through
+removal_is y name good through = ap (λ (o : Option WalkFault). option_map_or (λ fault. Err (edit_fault_of fault)) o (unless_damaged (place_after 0 (cut y).cells) (cut y).end (ok_or (group_from name 0 0 (cut y).cells) faults.NotFound))) good ∙ through
 
 -- a component with the name has a group
-some_group : (y name : List ℕ) (c : Component) → IsFirstOf name (components y) c → (group : CellRange) × (group_of y name ≡ Some group)
-some_group y name c is = go (group_of y name) refl
+some_group : (y name : List ℕ) (c : Component) → IsFirstOf name (components y) c → (group : CellRange) × (group_from name 0 0 (cut y).cells ≡ Some group)
+some_group y name c is = go (group_from name 0 0 (cut y).cells) refl
   where
-    go : (o : Option CellRange) → group_of y name ≡ o → (group : CellRange) × (group_of y name ≡ Some group)
+    go : (o : Option CellRange) → group_from name 0 0 (cut y).cells ≡ o → (group : CellRange) × (group_from name 0 0 (cut y).cells ≡ Some group)
     go (Some group) e = (group, e)
     go None e =
         let others = others_have_not name 0 (cut y).cells (group_none y name e) in
@@ -124,7 +130,7 @@ module _ (x : List ℕ) (new : NewComponent) (spot : Spot) (place : Place) (is :
       let sound = (there x new spot place is).sound in
       let at = place_after 0 (cut y).cells in
       let removes : removal_in y new.name ≡ Ok group =
-      removal_is y new.name (shape_after x new spot place is) (ap (λ (e : End). unless_damaged at e (ok_or (group_of y new.name) faults.NotFound)) one_more.same_end ∙ sound.undamaged at (ok_or (group_of y new.name) faults.NotFound)) ∙ ap (λ (o : Option CellRange). ok_or o faults.NotFound) some.1 in
+      removal_is y new.name (shape_after x new spot place is) (ap (λ (e : End). unless_damaged at e (ok_or (group_from new.name 0 0 (cut y).cells) faults.NotFound)) (one_more-end _ _ _ _ _ _ _ one_more) ∙ sound.undamaged at (ok_or (group_from new.name 0 0 (cut y).cells) faults.NotFound)) ∙ ap (λ (o : Option CellRange). ok_or o faults.NotFound) some.1 in
       let loses : LosesOne y new.name group = removal_takes_one y new.name group (omega (arith, added_length x new spot place is, is.region)) removes in
       let was = loses.was in
       let once = one_split (IsNamed new.name) was.before was.after (before x new spot place is) (after x new spot place is) loses.component (added_component x new place) was.named (same_name new.name)
@@ -134,7 +140,7 @@ module _ (x : List ℕ) (new : NewComponent) (spot : Spot) (place : Place) (is :
         removes,
         record {
           components = loses.is ∙ ap (λ (l : List Component). l ++ was.after) once.first ∙ ap (λ (l : List Component). before x new spot place is ++ l) once.last ∙ sym one_more.old_components;
-          end = loses.same_end ∙ one_more.same_end;
+          end = loses.same_end ∙ one_more-end _ _ _ _ _ _ _ one_more;
         },
       )
 

@@ -9,8 +9,9 @@ use Rattle.flash_device.proofs.WindowLemmas.{HasRead-none, HasRead-then, HasRead
 use Rattle.flash_device.specs.Regions.{Range, LiesOn, bytes_in}
 use Rattle.flash_device.proofs.DeviceLemmas.{honest_still, length-bytes_in}
 use Rattle.cbfs_walk.specs.Cells.{IsCellIn, cell_in}
-use Rattle.cbfs_walk.specs.Walks.{reads_over, StepResult, Walking, walk_of, answer_at, reads_at, StandsIn}
-use Rattle.cbfs_walk.specs.Shapes.{shape_fault, refused_or}
+use Rattle.cbfs_walk.specs.Walks.{reads_over, StepResult, Walking, answer_at, reads_at, StandsIn}
+use Rattle.std.specs.Option.{option_map_or}
+use Rattle.cbfs_walk.specs.Shapes.{shape_fault}
 use Rattle.cbfs_walk.specs.CellReadings.{reading_of, by_answer, place_after}
 use Rattle.cbfs_walk.specs.declared.cell.Cell.{Cell}
 use Rattle.cbfs_walk.specs.declared.walk.Step.{Step}
@@ -18,7 +19,8 @@ use Rattle.cbfs_walk.specs.declared.walk.WalkFault.{WalkFault}
 use Rattle.cbfs_walk.proofs.Shapes.{shaped_step}
 use Rattle.cbfs_walk.proofs.StepResults.{IsLast, last_reads}
 use Rattle.cbfs_edit.specs.Changes.{by_device, by_fault}
-use Rattle.cbfs_edit.specs.Removals.{edit_fault_of, unless_damaged, unless_unsound, removal_in, by_rows}
+use Rattle.cbfs_edit.specs.Removals.{edit_fault_of, unless_unsound, removal_in, by_rows}
+use Rattle.cbfs_edit.proofs.Sound.{unless_damaged}
 use Rattle.cbfs_edit.specs.declared.fault.EditFault.{EditFault}
 use Rattle.std.specs.Str.{bytes_eq}
 use Rattle.flash_format.specs.Head.{head_of, is_free}
@@ -29,8 +31,8 @@ use Rattle.cbfs_edit.specs.declared.group.Search.TheVariants.{Looking}
 use Rattle.std.specs.List.{cons_option, filter_map, slice_get}
 use Rattle.std.specs.Option.{option_or}
 use Rattle.cbfs_walk.specs.Search.{first_named}
-use Rattle.cbfs_edit.specs.Runs.{add_run, runs_from}
-use Rattle.cbfs_edit.specs.Places.{place_in, first_place, placing_in, unless_exists}
+use Rattle.cbfs_edit.specs.Places.{add_run, runs_from}
+use Rattle.cbfs_edit.specs.Places.{place_in, first_place, placing_in}
 use Rattle.cbfs_edit.specs.declared.place.Wanted.{Wanted}
 use Rattle.cbfs_edit.specs.declared.place.Place.{Place}
 use Rattle.cbfs_edit.specs.declared.place.Survey.{Survey}
@@ -60,7 +62,7 @@ found_whole : {A : Type 0} (x : List ℕ) (read : Reading A) → unless_unsound 
 unfolding found_from reading_of
 found_whole {A} x read = go (shape_fault x)
   where
-    go : (o : Option WalkFault) → refused_or (λ fault. Err (edit_fault_of fault)) o (read_cut 0 (cut x) read) ≡ refused_or refused o (read_cut 0 (cut x)) read
+    go : (o : Option WalkFault) → option_map_or (λ fault. Err (edit_fault_of fault)) o (read_cut 0 (cut x) read) ≡ option_map_or refused o (read_cut 0 (cut x)) read
     go None = refl
     go (Some fault) = refl
 
@@ -90,7 +92,7 @@ pub record Surveying {F S A : Type 0} (r : Range) (sense : S → ℕ → Reading
 
 pub surveying_start : {F S A : Type 0} (r : Range) (sense : S → ℕ → Reading A) (by : List ℕ → Result A EditFault) (IsBefore : ℕ → S → Type 0) (s : S) (old : Pages F)
     → IsBefore 0 s → (let x = bytes_in r old.device.content in by x ≡ unless_unsound x (sense s 0 (cut x).cells))
-    → Surveying r sense by IsBefore (walk_of r) s old old
+    → Surveying r sense by IsBefore (record { region = r; at = 0; steps = 0; ended = None }) s old old
 surveying_start r sense by IsBefore s old before is = record {
   region = refl;
   going = refl;
@@ -225,9 +227,9 @@ unfolding components_from by_rows
 place_step name wanted size s c cells span named place used long is_named is_place =
     let next = s.row.end + span in
     rw (used, long, is_named, is_place) (
-    ap (λ b. unless_exists b (option_or s.place (first_place wanted size (add_run s.row.start s.row.end (runs_from next next cells)))))
+    ap (λ b. cond b (Err faults.Exists) (ok_or (option_or s.place (first_place wanted size (add_run s.row.start s.row.end (runs_from next next cells)))) faults.NoSpace))
     (or_found s.exists (bytes_eq (cell_name c) name) (component_at s.row.end c) (first_named name (components_from next cells)))
-    ∙ ap (λ (p : Option Place). unless_exists ((s.exists || bytes_eq (cell_name c) name) || is_some (first_named name (components_from next cells))) p)
+    ∙ ap (λ (p : Option Place). cond ((s.exists || bytes_eq (cell_name c) name) || is_some (first_named name (components_from next cells))) (Err faults.Exists) (ok_or p faults.NoSpace))
     (or_run wanted size s.place (nat_lt s.row.start s.row.end) s.row (runs_from next next cells))
     )
 

@@ -1,21 +1,19 @@
 -- The effect and errors of an addition.
 use Rattle.std.specs.List.{list_any}
 use Rattle.std.specs.Option.{option_map, option_map_or}
-use Rattle.std.specs.Prelude.{◌≡◌, ℕ, ◌+◌, ◌-◌, ◌==◌, ◌||◌, max, List, [], ◌++◌, length}
+use Rattle.std.specs.Prelude.{ℕ, ◌+◌, ◌-◌, ◌==◌, ◌||◌, List, [], ◌++◌, length}
 use Rattle.std.specs.Prelude.{nat_lt, Option, Some, None, Result, Err, if◌then◌else◌}
-use Rattle.std.specs.Prelude.{◌≤◌, false, take, drop}
 use Rattle.flash_format.specs.Head.{round64}
-use Rattle.flash_format.specs.Made.{header_length, empty_entry, empty_header, hash_len, meta_length}
-use Rattle.flash_format.specs.Made.{made}
+use Rattle.flash_format.specs.Made.{empty_entry, hash_len, made, meta_length}
 use Rattle.flash_format.specs.Entry.{is_nul}
 use Rattle.flash_format.specs.Components.{Component}
 use Rattle.flash_format.specs.Placings.{made_component}
 use Rattle.flash_format.specs.declared.digest.Algorithm.{Algorithm}
 use Rattle.flash_format.specs.declared.digest.Algorithm.TheVariants as algorithms
 use Rattle.flash_format.specs.declared.digest.Digest.{Digest}
-use Rattle.flash_device.specs.Device.{overwritten, SameOutside}
+use Rattle.flash_device.specs.Device.{overwritten}
 use Rattle.cbfs_walk.specs.Hashes.{hashed_by}
-use Rattle.cbfs_edit.specs.Removals.{kept_at, IsCellRange}
+use Rattle.cbfs_edit.specs.Removals.{kept_at}
 use Rattle.cbfs_edit.specs.Places.{is_bad_align, placing_in}
 use Rattle.cbfs_edit.specs.declared.addition.HashChoice.{HashChoice}
 use Rattle.cbfs_edit.specs.declared.addition.HashChoice.TheVariants.{Plain, Sha256, Sha512}
@@ -91,39 +89,3 @@ argument_fault name kind spot =
 unfoldable pub addition_in : List ℕ → NewComponent → Spot → Result Place EditFault
 addition_in x new spot = option_map_or (λ fault. Err fault) (argument_fault new.name new.kind spot)
     (placing_in x new.name (wanted_for new spot))
-
--- room for the metadata, and for a cell up to `end`
-pub record HasRoom (place : Place) (end metadata size : ℕ) : Type 0 where
-  pub run : IsCellRange place.run size
-  pub start_below : place.run.start ≤ place.header
-  pub cell : IsCellRange (record { start = place.header; end = end }) place.run.end
-  pub metadata_is : place.header + metadata ≡ place.content
-  pub metadata_long : header_length ≤ metadata
-  pub metadata_short : metadata ≤ 4096
-  pub content_below : place.content ≤ end
-
--- the number of metadata bytes in the last commit
-abbrev pub held_back : Place → ℕ
-held_back place = if place.header == place.run.start then header_length else 0
-
--- the empty entry after the component, if any
-abbrev pub with_bound : List ℕ → ℕ → ℕ → List ℕ
-with_bound y end run_end = if end == run_end then y
-    else overwritten y end (empty_header (run_end - end) (run_end == length y))
-
--- the metadata's start, or the header of the empty entry before the component
-abbrev pub shown_by : Place → List ℕ → List ℕ
-shown_by place metadata = if place.header == place.run.start then take header_length metadata
-    else empty_header (place.header - place.run.start) false
-
--- all writes after the content: the other metadata, the next header, the last commit
-abbrev pub with_component : List ℕ → Place → ℕ → List ℕ → List ℕ
-with_component y place end metadata = let held = held_back place in
-    let described = overwritten y (place.header + held) (drop held metadata) in
-    overwritten (with_bound described end place.run.end) place.run.start (shown_by place metadata)
-
--- Before the last commit, only bytes of the run after the header of its empty entry have changed;
--- of the last four bytes, only bytes before the content.
-abbrev pub IsUnfinished : Place → List ℕ → List ℕ → Type 0
-IsUnfinished place y z = SameOutside (place.run.start + header_length)
-    (max place.content (place.run.end - 4) - (place.run.start + header_length)) y z

@@ -1,6 +1,6 @@
 -- The laws of edits.
 use Rattle.std.specs.Prelude.{◌≡◌, ◌↔◌, ℕ, ◌+◌, ◌%◌, ◌^◌, ◌<◌, All, Contains, List, [], ◌∷◌, ◌++◌}
-use Rattle.std.specs.Prelude.{length, slice_range, Ok, Option, Some, MatchOption}
+use Rattle.std.specs.Prelude.{false, length, slice_range, Ok, Option, Some, MatchOption}
 use Rattle.std.specs.List.{AllPairs}
 use Rattle.flash_format.specs.Cut.{cut}
 use Rattle.flash_format.specs.Components.{Component, components}
@@ -10,10 +10,10 @@ use Rattle.flash_format.specs.Splices.{AllFree, CellsBetween}
 use Rattle.cbfs_walk.specs.Search.{IsFirstOf, component_in}
 use Rattle.cbfs_edit.specs.Additions.{NewComponent, added, added_component, addition_in, cell_end}
 use Rattle.cbfs_edit.specs.Additions.{empty_between, made_at}
-use Rattle.cbfs_edit.specs.Removals.{group_of, IsNot, IsGroupOf, removed, removal_in}
+use Rattle.cbfs_edit.specs.Removals.{group_from, IsNot, IsGroupOf, removed, removal_in}
 use Rattle.cbfs_edit.specs.Changes.{IsEmptied, SameCells}
-use Rattle.cbfs_edit.specs.Runs.{runs, IsRunOf}
-use Rattle.cbfs_edit.specs.Places.{HasNoRoom, IsFirstPlace, IsWanted, first_place}
+use Rattle.cbfs_edit.specs.Places.{runs, IsRunOf}
+use Rattle.cbfs_edit.specs.Places.{HasNoRoom, IsFirstPlace, first_place, is_bad_align}
 use Rattle.cbfs_edit.specs.declared.group.CellRange.{CellRange}
 use Rattle.cbfs_edit.specs.declared.place.Wanted.{Wanted}
 use Rattle.cbfs_edit.specs.declared.place.Place.{Place}
@@ -24,7 +24,7 @@ pub record SearchesAreExact (x : List ℕ) : Type 0 where
   -- the first component with the name and all adjacent free cells
   pub groups : (name : List ℕ) (found : Option CellRange)
       → MatchOption found (All (IsNot name) (cut x).cells) (IsGroupOf name (cut x).cells)
-      ↔ (found ≡ group_of x name)
+      ↔ (found ≡ group_from name 0 0 (cut x).cells)
   -- the maximal sequences of adjacent free cells
   pub free : (run : CellRange) → Contains (runs x) run ↔ IsRunOf (cut x).cells run
   -- with a cell between two runs
@@ -33,7 +33,7 @@ pub record SearchesAreExact (x : List ℕ) : Type 0 where
   pub emptied : (run : CellRange) (y : List ℕ) → length x % 64 ≡ 0 → length x < 2 ^ 32
       → Contains (runs x) run → IsEmptied run run.end x y → SameCells y x
   -- the least allowed place in the first run with an allowed place
-  pub places : (wanted : Wanted) (found : Option Place) → IsWanted wanted
+  pub places : (wanted : Wanted) (found : Option Place) → is_bad_align wanted.spot ≡ false
       → MatchOption found (All (HasNoRoom wanted (length x)) (runs x))
       (IsFirstPlace wanted (length x) (runs x)) ↔ (found ≡ first_place wanted (length x) (runs x))
 
@@ -50,7 +50,6 @@ pub record LosesOne (x name : List ℕ) (group : CellRange) : Type 0 where
 pub record IsAdded (x : List ℕ) (new : NewComponent) (spot : Spot) (place : Place) : Type 0 where
   pub region : length x < 2 ^ 32
   pub kind : new.kind < 2 ^ 32
-  pub content : length new.content < 2 ^ 32
   pub digest : IsDigest new.digest
   pub placed : addition_in x new spot ≡ Ok place
 

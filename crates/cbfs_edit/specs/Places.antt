@@ -1,13 +1,12 @@
--- The place of a new component.
+-- The runs of free cells, and the place of a new component.
 use Rattle.std.specs.List.{filter_map, slice_get}
 use Rattle.std.specs.Int.{next_multiple_of}
-use Rattle.std.specs.Prelude.{◌≡◌, ℕ, ◌+◌, ◌-◌, ◌*◌, ◌/◌, ◌%◌, ◌^◌, ◌<◌, ◌≤◌, ⊤, ◌&&◌, ◌==◌, Bool}
-use Rattle.std.specs.Prelude.{false, nat_le, if◌then◌else◌, is_some, List, ◌∷◌, ◌++◌, All, length}
-use Rattle.std.specs.Prelude.{Option, Some, None, Result, Err, ok_or}
+use Rattle.std.specs.Prelude.{◌≡◌, ℕ, ◌+◌, ◌-◌, ◌*◌, ◌/◌, ◌%◌, ◌<◌, ◌≤◌, ⊤, ◌&&◌, ◌==◌, Bool, false}
+use Rattle.std.specs.Prelude.{nat_le, if◌then◌else◌, is_some, List, ◌∷◌, ◌++◌, All, length, Option}
+use Rattle.std.specs.Prelude.{Some, None, Result, Err, ok_or, [], nat_lt}
 use Rattle.flash_format.specs.Components.{components}
 use Rattle.cbfs_walk.specs.Search.{first_named}
-use Rattle.cbfs_edit.specs.Removals.{IsCellRange, space_end, unless_unsound}
-use Rattle.cbfs_edit.specs.Runs.{runs}
+use Rattle.cbfs_edit.specs.Removals.{IsCellRange, space_end, unless_unsound, IsRangeAmong, by_rows}
 use Rattle.cbfs_edit.specs.declared.fault.EditFault.{EditFault}
 use Rattle.cbfs_edit.specs.declared.fault.EditFault.TheVariants.{Exists, NoSpace}
 use Rattle.cbfs_edit.specs.declared.group.CellRange.{CellRange}
@@ -15,17 +14,33 @@ use Rattle.cbfs_edit.specs.declared.place.Spot.{Spot}
 use Rattle.cbfs_edit.specs.declared.place.Spot.TheVariants.{First, Aligned, Fixed}
 use Rattle.cbfs_edit.specs.declared.place.Wanted.{Wanted}
 use Rattle.cbfs_edit.specs.declared.place.Place.{Place}
+use Rattle.flash_format.specs.Splices.{AllFree}
+use Rattle.flash_format.specs.Cut.{cut}
+
+-- adds the range, unless empty
+abbrev pub add_run : ℕ → ℕ → List CellRange → List CellRange
+add_run start end others =
+    if nat_lt start end then record { start = start; end = end } ∷ others else others
+
+-- the maximal sequences of adjacent free cells
+abbrev pub runs_from : ℕ → ℕ → List (List ℕ) → List CellRange
+runs_from =
+    by_rows (λ start at. add_run start at []) (λ start at x cells later. add_run start at later)
+
+abbrev pub runs : List ℕ → List CellRange
+runs x = runs_from 0 0 (cut x).cells
+
+-- free cells between components, or at an end of the cells
+pub record IsRunOf (cells : List (List ℕ)) (run : CellRange) : Type 0 where
+  pub row : List (List ℕ)
+  pub range : IsRangeAmong cells row run
+  pub free : AllFree row
+  pub some : run.start < run.end
 
 -- an alignment of 0
 abbrev pub is_bad_align : Spot → Bool
 is_bad_align (Aligned unit) = unit == 0
 is_bad_align spot = false
-
--- lengths of 32 bits, and a valid alignment
-pub record IsWanted (wanted : Wanted) : Type 0 where
-  pub metadata_len : wanted.metadata_len < 2 ^ 32
-  pub len : wanted.len < 2 ^ 32
-  pub spot : is_bad_align wanted.spot ≡ false
 
 -- ---- as a relation
 
@@ -82,9 +97,8 @@ least_from (Fixed place) from = place
 
 abbrev pub place_in : Wanted → ℕ → CellRange → Option Place
 place_in wanted size run =
-    let c = least_from wanted.spot (run.start + wanted.metadata_len) in
-    if nat_le (run.start + wanted.metadata_len) c
-    && nat_le (c + wanted.len) (limit_of wanted.spot size run.end)
+    let from = run.start + wanted.metadata_len in let c = least_from wanted.spot from in
+    if nat_le from c && nat_le (c + wanted.len) (limit_of wanted.spot size run.end)
     then Some (record { run = run; header = (c - wanted.metadata_len) / 64 * 64; content = c })
     else None
 
@@ -93,11 +107,8 @@ first_place wanted size runs = slice_get (filter_map (place_in wanted size) runs
 
 -- ---- with errors
 
-abbrev pub unless_exists : Bool → Option Place → Result Place EditFault
-unless_exists exists place = if exists then Err Exists else ok_or place NoSpace
-
 -- the place, or the first error
 unfoldable pub placing_in : List ℕ → List ℕ → Wanted → Result Place EditFault
 placing_in x name wanted =
-    unless_unsound x (unless_exists (is_some (first_named name (components x)))
-    (first_place wanted (length x) (runs x)))
+    unless_unsound x (if is_some (first_named name (components x)) then Err Exists
+    else ok_or (first_place wanted (length x) (runs x)) NoSpace)

@@ -5,7 +5,7 @@ use Rattle.std.specs.Prelude.{length, Option, Some, None, if◌then◌else◌, �
 use Rattle.std.specs.Prelude.{ok_or, ◌==◌}
 use Rattle.std.specs.Str.{bytes_eq}
 use Rattle.flash_format.specs.Head.{head_of, is_free}
-use Rattle.flash_format.specs.Cut.{cut, End}
+use Rattle.flash_format.specs.Cut.{cut}
 use Rattle.flash_format.specs.Components.{cell_name}
 use Rattle.flash_format.specs.Splices.{AllFree}
 use Rattle.cbfs_edit.specs.declared.group.CellRange.{CellRange}
@@ -13,7 +13,8 @@ use Rattle.std.specs.Result.{result_and, result_map_both}
 use Rattle.flash_format.specs.Made.{empty_entry}
 use Rattle.flash_device.specs.Device.{overwritten}
 use Rattle.cbfs_walk.specs.Search.{not_found}
-use Rattle.cbfs_walk.specs.Shapes.{shape_fault, refused_or}
+use Rattle.std.specs.Option.{option_map_or}
+use Rattle.cbfs_walk.specs.Shapes.{shape_fault}
 use Rattle.cbfs_walk.specs.CellReadings.{place_after}
 use Rattle.cbfs_walk.specs.declared.walk.WalkFault.{WalkFault}
 use Rattle.cbfs_walk.specs.declared.walk.WalkFault.TheVariants as faults
@@ -28,8 +29,7 @@ unfoldable pub by_rows : {A : Type 0} → (ℕ → ℕ → A) → (ℕ → ℕ �
     → ℕ → List (List ℕ) → A
 by_rows last each start at [] = last start at
 by_rows last each start at (x ∷ cells) =
-    let next = at + length x in
-    if is_free (head_of x) then by_rows last each start next cells
+    let next = at + length x in if is_free (head_of x) then by_rows last each start next cells
     else each start at x cells (by_rows last each next next cells)
 
 -- the end of the leading free cells
@@ -41,9 +41,6 @@ abbrev pub group_from : List ℕ → ℕ → ℕ → List (List ℕ) → Option 
 group_from name =
     by_rows (λ start at. None) (λ start at x cells later. if bytes_eq (cell_name x) name
     then Some (record { start = start; end = row_end (at + length x) cells }) else later)
-
-abbrev pub group_of : List ℕ → List ℕ → Option CellRange
-group_of x name = group_from name 0 0 (cut x).cells
 
 -- multiples of 64 in a region of the given size
 pub record IsCellRange (group : CellRange) (size : ℕ) : Type 0 where
@@ -80,8 +77,7 @@ pub record IsGroupOf (name : List ℕ) (cells : List (List ℕ)) (group : CellRa
   pub is_component : IsComponent component
   pub named : bytes_eq (cell_name component) name ≡ true
   pub first : All (IsNot name) range.before
-  pub row_before_free : AllFree row_before
-  pub row_after_free : AllFree row_after
+  pub free : AllFree (row_before ++ row_after)
 
 abbrev pub last_four : List ℕ → List ℕ
 last_four x = drop (length x - 4) x
@@ -105,16 +101,12 @@ edit_fault_of faults.RegionShape = RegionShape
 edit_fault_of faults.NotCbfs = NotCbfs
 edit_fault_of (faults.Damaged at kind) = Damaged at kind
 
--- damage takes precedence
-abbrev pub unless_damaged : {A : Type 0} → ℕ → End → Result A EditFault → Result A EditFault
-unless_damaged at end otherwise =
-    result_and (result_map_both (λ none. none) edit_fault_of (not_found at end)) otherwise
-
--- the precedence of errors
+-- the region's shape, then damage take precedence
 abbrev pub unless_unsound : {A : Type 0} → List ℕ → Result A EditFault → Result A EditFault
-unless_unsound x otherwise = refused_or (λ fault. Err (edit_fault_of fault)) (shape_fault x)
-    (unless_damaged (place_after 0 (cut x).cells) (cut x).end otherwise)
+unless_unsound x otherwise = option_map_or (λ fault. Err (edit_fault_of fault)) (shape_fault x)
+    (result_and (result_map_both (λ none. none) edit_fault_of
+    (not_found (place_after 0 (cut x).cells) (cut x).end)) otherwise)
 
 -- the group, or the first error
 unfoldable pub removal_in : List ℕ → List ℕ → Result CellRange EditFault
-removal_in x name = unless_unsound x (ok_or (group_of x name) NotFound)
+removal_in x name = unless_unsound x (ok_or (group_from name 0 0 (cut x).cells) NotFound)

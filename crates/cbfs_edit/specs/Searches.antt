@@ -1,7 +1,8 @@
 -- Searches cell by cell.
 use Rattle.std.specs.Option.{option_or}
-use Rattle.std.specs.Prelude.{◌≡◌, ℕ, ◌%◌, ◌^◌, ◌<◌, ◌≤◌, ◌||◌, is_some, List, IfSome, Result, Ok}
-use Rattle.std.specs.Prelude.{ok_or, ◌+◌, ◌/◌, ◌⊎◌, IsErrOf, IfOk}
+use Rattle.std.specs.Prelude.{◌≡◌, ℕ, ◌%◌, ◌^◌, ◌<◌, ◌≤◌, ◌||◌, is_some, List, IfSome}
+use Rattle.std.specs.Prelude.{false, ok_or, ◌+◌, ◌/◌, ◌⊎◌, IsErrOf, IfOk, if◌then◌else◌, Result}
+use Rattle.std.specs.Prelude.{Ok, Err}
 use Rattle.flash_device.specs.Device.{fault_count}
 use Rattle.flash_device.specs.Pages.{Pages, HasRead, OnHonestIn}
 use Rattle.flash_device.specs.Regions.{Range}
@@ -9,10 +10,11 @@ use Rattle.cbfs_edit.specs.Changes.{by_device}
 use Rattle.flash_format.specs.Components.{components_from}
 use Rattle.cbfs_walk.specs.Search.{first_named}
 use Rattle.cbfs_edit.specs.Removals.{IsCellRange, group_from, row_end}
-use Rattle.cbfs_edit.specs.Runs.{runs_from}
-use Rattle.cbfs_edit.specs.Places.{Fits, IsWanted, first_place, unless_exists}
+use Rattle.cbfs_edit.specs.Places.{runs_from}
+use Rattle.cbfs_edit.specs.Places.{Fits, first_place, is_bad_align}
 use Rattle.cbfs_edit.specs.declared.fault.EditFault.{EditFault}
 use Rattle.cbfs_edit.specs.declared.fault.EditFault.TheVariants.{Device, Source, NotFound}
+use Rattle.cbfs_edit.specs.declared.fault.EditFault.TheVariants.{Exists, NoSpace}
 use Rattle.cbfs_edit.specs.declared.group.CellRange.{CellRange}
 use Rattle.cbfs_edit.specs.declared.group.Search.{Search}
 use Rattle.cbfs_edit.specs.declared.group.Search.TheVariants.{Looking, Growing, Whole}
@@ -44,16 +46,14 @@ IsBefore at (Whole group) = IsCellRange group at
 -- the result for the remaining cells
 abbrev pub place_by : List ℕ → Wanted → ℕ → Survey → List (List ℕ) → Result Place EditFault
 place_by name wanted size s cells =
-    unless_exists (s.exists || is_some (first_named name (components_from s.row.end cells)))
-    (option_or s.place (first_place wanted size (runs_from s.row.start s.row.end cells)))
+    let exists = s.exists || is_some (first_named name (components_from s.row.end cells)) in
+    let place = first_place wanted size (runs_from s.row.start s.row.end cells) in
+    if exists then Err Exists else ok_or (option_or s.place place) NoSpace
 
--- the bounds of row and place
+-- the bounds of row and place; the row may be empty
 pub record IsSurvey (wanted : Wanted) (size at : ℕ) (s : Survey) : Type 0 where
-  pub asked : IsWanted wanted
+  pub spot : is_bad_align wanted.spot ≡ false
   pub small : size < 2 ^ 32
   pub here : s.row.end ≡ at
-  pub order : s.row.start ≤ at
-  pub inside : at ≤ size
-  pub start_aligned : s.row.start % 64 ≡ 0
-  pub end_aligned : at % 64 ≡ 0
+  pub row : (s.row.start ≡ s.row.end) ⊎ IsCellRange s.row size
   pub place : IfSome s.place (Fits wanted size)

@@ -1,6 +1,6 @@
 //! The addition of a component.
 ghost use Rattle.std.specs.Prelude.{ℕ, List, ◌≡◌, ◌+◌, ◌/◌, ◌<◌, ◌≤◌, length, Err};
-ghost use Rattle.std.specs.Prelude.{IsTrue, IfOk, IfSome, option_copied};
+ghost use Rattle.std.specs.Prelude.{IsTrue, IfOk, IfSome};
 ghost use Rattle.std.specs.List.{list_any};
 ghost use Rattle.flash_format.specs.Entry.{is_nul};
 ghost use Rattle.flash_format.specs.Made.{hash_len};
@@ -17,7 +17,7 @@ use crate::insertion::describe;
 use crate::place::{Spot, Wanted, find_place};
 use crate::region_writes::write_empty_entry;
 use flash_device::{CopyInFault, Flash, Paged, Source, Unwatched};
-use flash_format::{Algorithm, Digest, Meta, meta_len};
+use flash_format::{Algorithm, Digest, meta_len};
 use flash_map::Region;
 use sha2::{Sha256, Sha512};
 
@@ -118,44 +118,13 @@ fn copy_hashed<F: Flash, S: Source, H: sha2::Digest>(
     Ok(hashing.finish())
 }
 
-fn meta_of<'a>(
-    name: &'a [u8],
-    kind: u32,
-    len: u32,
-    gap: u32,
-    digest: &'a Option<Digest>,
-) -> Meta<'a>
-    ensures name { result.name.now ≡ name.now }
-    ensures kind { result.kind ≡ kind }
-    ensures len { result.len ≡ len }
-    ensures gap { result.gap ≡ gap }
-    ensures digest { option_copied result.digest ≡ digest.now }
-{
-    match digest {
-        None => Meta {
-            name,
-            kind,
-            len,
-            gap,
-            digest: None,
-        },
-        Some(digest) => Meta {
-            name,
-            kind,
-            len,
-            gap,
-            digest: Some(digest),
-        },
-    }
-}
-
-fn wanted_of(name: &[u8], hash: HashChoice, len: u64, spot: Spot) -> Wanted
+fn wanted_of(name: &[u8], hash: HashChoice, len: u32, spot: Spot) -> Wanted
     requires { length name.now ≤ 127 }
     ensures { (kind : ℕ) (content : List ℕ) → len ≡ length content
         → result ≡ wanted_for (new_component name.now kind hash content) spot }
 {
     Wanted {
-        metadata_len: meta_len(name.len(), attribute_len(hash)) as u64,
+        metadata_len: meta_len(name.len(), attribute_len(hash)) as u32,
         len,
         spot,
     }
@@ -226,14 +195,11 @@ pub fn add<F: Flash, S: Source>(
     if let Some(fault) = argument_fault(name, kind, spot) {
         return Err(fault);
     }
-    let wanted = wanted_of(name, hash, source.len(), spot);
+    let wanted = wanted_of(name, hash, source.len() as u32, spot);
     let place = find_place(paged, region, name, wanted)?;
-    let end = (place.content + wanted.len + 63) / 64 * 64;
     write_empty_entry(paged, region, place.run)?;
     let digest = copy_content(paged, region.start() + place.content, hash, source)?;
-    let gap = (place.content - place.header - wanted.metadata_len) as u32;
-    let meta = meta_of(name, kind, wanted.len as u32, gap, &digest);
-    describe(paged, region, place, end, &meta)?;
+    describe(paged, region, name, kind, &digest, wanted, place)?;
     Ok(Placed {
         header: place.header,
         content: place.content,

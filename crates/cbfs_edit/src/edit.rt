@@ -3,7 +3,7 @@ ghost use Rattle.std.specs.Prelude.{◌≡◌, length, sum_by};
 ghost use Rattle.flash_device.specs.Pages.{HasChanged};
 ghost use Rattle.flash_device.specs.Regions.{LiesOn};
 ghost use Rattle.cbfs_edit.specs.Changes.{by_device};
-ghost use Rattle.cbfs_edit.specs.Steps.{Run, Step, edit_calls, faults_of};
+ghost use Rattle.cbfs_edit.specs.Changes.{Run, Step, edit_calls, faults_of};
 
 use crate::addition::{HashChoice, Placed, add};
 use crate::fault::EditFault;

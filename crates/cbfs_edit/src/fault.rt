@@ -1,6 +1,7 @@
 //! The errors of edits.
 ghost use Rattle.std.specs.Prelude.{◌≡◌};
-ghost use Rattle.cbfs_edit.specs.Changes.{copy_edit_fault};
+ghost use Rattle.flash_device.specs.declared.paged.CopyInFault.TheVariants as causes;
+ghost use Rattle.cbfs_edit.specs.Changes.{by_fault};
 ghost use Rattle.cbfs_edit.specs.Removals.{edit_fault_of};
 ghost use Rattle.cbfs_edit.specs.declared.fault.EditFault.TheVariants.{Device};
 
@@ -45,7 +46,7 @@ impl From<FlashFault> for EditFault {
 }
 
 impl From<CopyInFault> for EditFault {
-    ghost from_gives = { λ copy_in_fault fault. fault ≡ copy_edit_fault copy_in_fault };
+    ghost from_gives = { λ was now. by_fault now (was ≡ causes.Device) (was ≡ causes.Source) ⊥ };
 
     fn from(fault: CopyInFault) -> EditFault {
         match fault {

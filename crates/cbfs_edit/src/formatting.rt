@@ -6,7 +6,7 @@ ghost use Rattle.flash_device.specs.Pages.{HasChanged, OnHonestIn};
 ghost use Rattle.flash_device.specs.Regions.{LiesOn, bytes_in};
 ghost use Rattle.cbfs_walk.specs.Shapes.{has_bad_size};
 ghost use Rattle.cbfs_edit.specs.Changes.{by_device};
-ghost use Rattle.cbfs_edit.specs.Formats.{formatted, IsOneFreeCell};
+ghost use Rattle.cbfs_edit.specs.Changes.{formatted, IsOneFreeCell};
 ghost use Rattle.cbfs_edit.specs.Removals.{last_four};
 
 use crate::fault::EditFault;

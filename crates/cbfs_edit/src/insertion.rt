@@ -2,22 +2,26 @@
 //!
 //! The first commit covers the run with the header of an empty entry, and the last commit shows the
 //! component. Bytes written between the commits are free space.
-ghost use Rattle.std.specs.Prelude.{◌≡◌, ◌⊎◌, ◌+◌, ◌-◌, ◌<◌, ◌≤◌, drop, length};
-ghost use Rattle.flash_device.specs.Device.{overwritten};
-ghost use Rattle.flash_format.specs.Made.{metadata_of, described_len};
-ghost use Rattle.cbfs_edit.specs.Changes.{HasWrittenIn, HoldsOn};
-ghost use Rattle.cbfs_edit.specs.Additions.{HasRoom, IsUnfinished, held_back, with_bound};
-ghost use Rattle.cbfs_edit.specs.Additions.{with_component};
+ghost use Rattle.std.specs.Prelude.{◌≡◌, ◌⊎◌, ◌+◌, ◌-◌, ◌<◌, ◌≤◌, ◌==◌, if◌then◌else◌, List, ℕ};
+ghost use Rattle.std.specs.Prelude.{length, max, OnOk};
+ghost use Rattle.flash_device.specs.Device.{SameOutside, overwritten, refusals};
+ghost use Rattle.flash_device.specs.Pages.{HasChanged, OnHonestIn};
+ghost use Rattle.flash_device.specs.Regions.{LiesOn, Reaches, bytes_in};
+ghost use Rattle.flash_format.specs.Made.{empty_header, hash_len, header_length, meta_length};
+ghost use Rattle.cbfs_edit.specs.Additions.{NewComponent, added};
+ghost use Rattle.cbfs_edit.specs.Changes.{HasWrittenIn, IsEmptied};
+ghost use Rattle.cbfs_edit.specs.Places.{Fits};
+ghost use Rattle.cbfs_edit.specs.Removals.{removed, space_end};
 
-use crate::place::Place;
+use crate::place::{Place, Wanted};
 use crate::region_writes::{commit_in, write_in};
 use flash_device::{Flash, FlashFault, Paged};
-use flash_format::{HEADER_LENGTH, LONGEST_METADATA, Meta, empty_header, write_meta};
+use flash_format::{Digest, HEADER_LENGTH, LONGEST_METADATA, Meta, empty_header, write_meta};
 use flash_map::Region;
 
 /// Returns the number of metadata bytes in the last commit.
 fn held_back(place: Place) -> usize
-    ensures { result ≡ held_back place }
+    ensures { result ≡ (if place.header == place.run.start then header_length else 0) }
 {
     if place.header == place.run.start {
         HEADER_LENGTH
@@ -26,40 +30,25 @@ fn held_back(place: Place) -> usize
     }
 }
 
-fn write_metadata<F: Flash>(
-    paged: &mut Paged<F>,
-    region: Region,
-    place: Place,
-    end: u64,
-    metadata: &[u8],
-) -> Result<(), FlashFault>
-    requires { HoldsOn (HasRoom place end (length metadata.now)) region paged.old.device }
-
-    ensures { HasWrittenIn region 1 (λ x. overwritten x (place.header + held_back place)
-        (drop (held_back place) metadata.now)) (IsUnfinished place) paged.old paged.new result }
-{
-    let skip = held_back(place);
-    write_in(paged, region, place.header + skip as u64, &metadata[skip..])
-}
-
-/// Writes the header of the empty entry after the component, if any.
+/// Writes the header of the empty entry between two offsets, if different.
 fn write_bound<F: Flash>(
     paged: &mut Paged<F>,
     region: Region,
-    place: Place,
+    start: u64,
     end: u64,
 ) -> Result<(), FlashFault>
-    requires { HoldsOn (HasRoom place end (place.content - place.header)) region paged.old.device }
+    requires reach { Reaches region end paged.old.device }
+    requires room { (start ≡ end) ⊎ (start + 64 ≤ end) }
 
-    ensures { HasWrittenIn region 1 (λ x. with_bound x end place.run.end)
-        (IsUnfinished place) paged.old paged.new result }
+    ensures { HasWrittenIn region 1 (λ x. if start == end then x else overwritten x start
+        (empty_header (end - start) (end == length x))) (λ x y. (y ≡ x) ⊎ ((start < end)
+        × SameOutside start header_length x y)) paged.old paged.new result }
 {
-    if end == place.run.end {
+    if start == end {
         return Ok(());
     }
-    let kept = place.run.end == region.size();
-    let header = empty_header((place.run.end - end) as u32, kept);
-    write_in(paged, region, end, &header)
+    let header = empty_header((end - start) as u32, end == region.size());
+    write_in(paged, region, start, &header)
 }
 
 /// Writes the metadata of existing content and the header of the following empty entry. The last
@@ -67,24 +56,40 @@ fn write_bound<F: Flash>(
 pub fn describe<F: Flash>(
     paged: &mut Paged<F>,
     region: Region,
+    name: &[u8],
+    kind: u32,
+    digest: &Option<Digest>,
+    wanted: Wanted,
     place: Place,
-    end: u64,
-    meta: &Meta<'_>,
 ) -> Result<(), FlashFault>
-    requires room { HoldsOn (HasRoom place end (described_len meta.now)) region paged.old.device }
-    requires name { length meta.now.name.now ≤ 127 }
-    requires gap { meta.now.gap < 64 }
+    requires region { LiesOn region paged.old.device }
+    requires fits { Fits wanted region.size place }
+    requires name { length name.now ≤ 127 }
+    requires metadata { wanted.metadata_len ≡ meta_length (length name.now) (hash_len digest.now) }
 
-    ensures metadata { length (metadata_of meta.now) ≡ described_len meta.now }
-    ensures after { HasWrittenIn region 3 (λ x. with_component x place end (metadata_of meta.now))
-        (λ x y. (y ≡ with_component x place end (metadata_of meta.now))
-        ⊎ IsUnfinished place x y) paged.old paged.new result }
+    ensures after { HasChanged region 3 (refusals result) paged.old paged.new }
+    ensures shown { OnHonestIn paged.old.device region (λ y. (x content : List ℕ)
+        → length x ≡ region.size → length content ≡ wanted.len
+        → y ≡ overwritten (removed x place.run) place.content content
+        → let z = bytes_in region paged.new.device.content in let new : NewComponent =
+        record { name = name.now; kind = kind; digest = digest.now; content = content } in
+        OnOk result (z ≡ added x new place) × ((z ≡ added x new place) ⊎ IsEmptied place.run
+        (max (place.content + wanted.len) (space_end region.size place.run.end)) x z)) }
 {
+    let end = (place.content + u64::from(wanted.len) + 63) / 64 * 64;
+    let meta = Meta {
+        name,
+        kind,
+        len: wanted.len,
+        gap: (place.content - place.header - u64::from(wanted.metadata_len)) as u32,
+        digest: digest.as_ref(),
+    };
     let mut metadata = [0; LONGEST_METADATA];
-    let n = write_meta(meta, &mut metadata);
+    let n = write_meta(&meta, &mut metadata);
     let metadata = &metadata[..n];
-    write_metadata(paged, region, place, end, metadata)?;
-    write_bound(paged, region, place, end)?;
+    let skip = held_back(place);
+    write_in(paged, region, place.header + skip as u64, &metadata[skip..])?;
+    write_bound(paged, region, end, place.run.end)?;
     if place.header == place.run.start {
         let mut begin = [0; HEADER_LENGTH];
         begin.copy_from_slice(&metadata[..HEADER_LENGTH]);

@@ -8,7 +8,7 @@ ghost use Rattle.cbfs_walk.specs.Cells.{IsCellOn, IsCellIn, cell_in};
 ghost use Rattle.cbfs_walk.specs.Walks.{StandsIn};
 ghost use Rattle.cbfs_edit.specs.Removals.{IsCellRange};
 ghost use Rattle.cbfs_edit.specs.Changes.{by_fault};
-ghost use Rattle.cbfs_edit.specs.Places.{Fits, IsWanted, is_bad_align, limit_of, least_from};
+ghost use Rattle.cbfs_edit.specs.Places.{Fits, is_bad_align, limit_of, least_from};
 ghost use Rattle.cbfs_edit.specs.Places.{place_in, placing_in};
 ghost use Rattle.cbfs_edit.specs.Searches.{HasSearched, IsSurvey, place_by};
 
@@ -35,8 +35,8 @@ pub enum Spot {
 #[derive(Clone, Copy)]
 pub struct Wanted {
     /// The length without the gap before the content.
-    pub metadata_len: u64,
-    pub len: u64,
+    pub metadata_len: u32,
+    pub len: u32,
     pub spot: Spot,
 }
 
@@ -67,7 +67,7 @@ pub fn find_place<F: Flash>(
     wanted: Wanted,
 ) -> Result<Place, EditFault>
     requires region { LiesOn region paged.old.device }
-    requires wanted { IsWanted wanted }
+    requires spot { is_bad_align wanted.spot ≡ false }
 
     ensures { HasSearched (λ x. placing_in x name.now wanted) region (Fits wanted region.size)
         paged.old paged.new result }
@@ -164,25 +164,25 @@ fn close(wanted: Wanted, region: Region, survey: Survey) -> Option<Place>
 /// Returns the least allowed place in a run. The header lies at the last multiple of 64 with room
 /// for the metadata.
 fn place_in(wanted: Wanted, region: Region, run: CellRange) -> Option<Place>
-    requires wanted { IsWanted wanted }
+    requires spot { is_bad_align wanted.spot ≡ false }
     requires run { IsCellRange run region.size }
     requires small { region.size < 2 ^ 32 }
 
     ensures is { result ≡ place_in wanted region.size run }
     ensures fits { IfSome result (Fits wanted region.size) }
 {
-    let from = run.start + wanted.metadata_len;
+    let from = run.start + u64::from(wanted.metadata_len);
     let content = least_from(wanted.spot, from);
     if content < from {
         return None;
     }
     let limit = limit_of(wanted.spot, region, run.end);
-    if limit < content + wanted.len {
+    if limit < content + u64::from(wanted.len) {
         return None;
     }
     Some(Place {
         run,
-        header: (content - wanted.metadata_len) / 64 * 64,
+        header: (content - u64::from(wanted.metadata_len)) / 64 * 64,
         content,
     })
 }

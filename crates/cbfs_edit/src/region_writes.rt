@@ -2,8 +2,8 @@
 ghost use Rattle.std.specs.Prelude.{◌≡◌, ◌⊎◌, ◌+◌, ◌/◌, ◌≤◌, length, replicate};
 ghost use Rattle.flash_format.specs.Made.{header_length};
 ghost use Rattle.flash_device.specs.Device.{overwritten, SameOutside};
-ghost use Rattle.flash_device.specs.Regions.{Reaches};
-ghost use Rattle.cbfs_edit.specs.Changes.{HasWrittenIn, HoldsOn, IsEmptied};
+ghost use Rattle.flash_device.specs.Regions.{LiesOn, Reaches};
+ghost use Rattle.cbfs_edit.specs.Changes.{HasWrittenIn, IsEmptied};
 ghost use Rattle.cbfs_edit.specs.Removals.{IsCellRange, removed, space_end};
 
 use crate::group::CellRange;
@@ -69,7 +69,8 @@ pub fn write_empty_entry<F: Flash>(
     region: Region,
     group: CellRange,
 ) -> Result<(), FlashFault>
-    requires { HoldsOn (IsCellRange group) region paged.old.device }
+    requires region { LiesOn region paged.old.device }
+    requires group { IsCellRange group region.size }
 
     ensures { HasWrittenIn region (region.size / 4096 + 2) (λ x. removed x group)
         (λ x y. (y ≡ x) ⊎ IsEmptied group (space_end region.size group.end) x y)

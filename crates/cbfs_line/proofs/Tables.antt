@@ -1,7 +1,21 @@
 -- A table adds its rows to clap's command: f adds a row, and g all rows.
-use Rattle.std.proofs.Common.{◌≡◌, ◌<◌, ◌-◌, List, [], ◌∷◌, length, take, drop, get_or, ap, sym, ◌∙◌, arith}
+use Rattle.std.proofs.Common.{◌≡◌, ◌<◌, ◌-◌, ℕ, List, [], ◌∷◌, length, take, drop, get_or, ap, sym, ◌∙◌, arith}
 use Rattle.std.proofs.lemmas.List.{take_all}
-use Rattle.clap.specs.Words.{App}
+use Rattle.clap.specs.Words.{App, new_app, with_subcommand}
+use Rattle.std.specs.Prelude.{fold}
+use Rattle.std.specs.Borrow.{Bor}
+use Rattle.cbfs_line.specs.declared.words.TableOption.{TableOption}
+use Rattle.cbfs_line.specs.Subcommands.{with_options}
+
+-- a subcommand's name and options
+abbrev pub TableRow : Type 0
+TableRow = Bor (List ℕ) × Bor (List TableOption)
+
+abbrev pub with_row : App → TableRow → App
+with_row a row = with_subcommand a (with_options (new_app row.0.now) row.1.now).top
+
+abbrev pub with_rows : App → List TableRow → App
+with_rows app rows = fold with_row app rows
 
 -- a row, and then the rest
 pub one_more : {R : Type 0} (f : App → R → App) (g : App → List R → App) → ((a : App) (row : R) (rows : List R) → g (f a row) rows ≡ g a (row ∷ rows))

@@ -2,9 +2,9 @@
 use Rattle.std.specs.Prelude.{ℕ, Bool, false, List, [], ◌∷◌, length, ◌==◌, ◌||◌, nat_lt}
 use Rattle.std.specs.Prelude.{Option, Some, None, Result, Ok, Err, option_map, option_and_then}
 use Rattle.std.specs.Prelude.{find, unwrap_or, if◌then◌else◌}
-use Rattle.std.specs.Borrow.{Bor}
 use Rattle.std.specs.List.{list_any, slice_split}
 use Rattle.std.specs.Option.{option_map_or}
+use Rattle.std.specs.Result.{result_map_both}
 use Rattle.std.specs.Str.{bytes_eq}
 use Prim.Native.String.{String}
 use lib.Chars.{codes}
@@ -52,19 +52,12 @@ spot_by (Some alignment) (Some base) = None
 
 -- None without `-A`
 abbrev pub hash_by : Option (List ℕ) → Option HashChoice
-hash_by text =
-    option_map_or (λ name. option_map choice_of (algorithm_named name)) text (Some Plain)
+hash_by text = option_map_or (λ name. option_map choice_of (algorithm_named name)) text (Some Plain)
 
--- between commas
-abbrev pub split_names : List ℕ → List (List ℕ)
-split_names list = slice_split (λ b. b == 44) list
-
-abbrev pub names_of : Option (Bor (List ℕ)) → List (List ℕ)
-names_of rest = option_map_or (λ (list : Bor (List ℕ)). split_names list.now) rest []
-
--- at most 16 names, none empty
-abbrev pub creation_of : List (List ℕ) → Result Request Refusal
-creation_of names = if nat_lt 16 (length names) || list_any (λ name. length name == 0) names
+-- at most 16 names between commas, none empty
+abbrev pub creation_of : List ℕ → Result Request Refusal
+creation_of list = let names = slice_split (λ b. b == 44) list in
+    if nat_lt 16 (length names) || list_any (λ name. length name == 0) names
     then Err refusals.Usage else Ok (requests.create names)
 
 -- ---- the request
@@ -88,28 +81,26 @@ module _ (t : Texts) where
   with_name task = option_map_or (λ name. on_region (task name)) (text "name") (Err refusals.Usage)
 
   -- requires a name and valid options
-  abbrev pub addition_by : Option (List ℕ) → Option ℕ → Option HashChoice → Option Spot
-      → Result Request Refusal
-  addition_by (Some name) (Some kind) (Some hash) (Some spot) =
-      on_region (requests.add name kind hash spot)
-  addition_by _ _ _ _ = Err refusals.Usage
+  abbrev pub addition_by : Option ℕ → Option HashChoice → Option Spot → Result Request Refusal
+  addition_by (Some kind) (Some hash) (Some spot) =
+      with_name (λ name. requests.add name kind hash spot)
+  addition_by _ _ _ = Err refusals.Usage
 
   abbrev pub addition : Result Request Refusal
-  addition = with_file (addition_by (text "name") (option_and_then type_of_text (text "type"))
+  addition = with_file (addition_by (option_and_then type_of_text (text "type"))
       (hash_by (text "hash")) (spot_by (text "alignment") (text "base")))
 
   -- by subcommand
   abbrev pub command_of : Result Request Refusal
   command_of = let requests : List (String × Result Request Refusal) =
       ("print", on_region (requests.print (verbose_by (text "verbose"))))
-      ∷ ("layout", Ok requests.layout)
-      ∷ ("extract", with_file (with_name requests.extract)) ∷ ("add", addition)
-      ∷ ("remove", with_name requests.remove) ∷ ("read", with_file (on_region requests.read))
+      ∷ ("layout", Ok requests.layout) ∷ ("extract", with_file (with_name requests.extract))
+      ∷ ("add", addition) ∷ ("remove", with_name requests.remove)
+      ∷ ("read", with_file (on_region requests.read))
       ∷ ("write", with_file (on_region requests.write))
-      ∷ ("create", with_file (creation_of (split_names region_named))) ∷ [] in
+      ∷ ("create", with_file (creation_of region_named)) ∷ [] in
       option_map_or (λ row. row.1) (find (λ row. bytes_eq t.subcommand (codes row.0)) requests)
       (Err refusals.Usage)
 
 abbrev pub request_answer : Result Command Refusal → Result Request Refusal
-request_answer (Ok command) = Ok (request_of command)
-request_answer (Err refusal) = Err refusal
+request_answer answer = result_map_both request_of (λ refusal. refusal) answer

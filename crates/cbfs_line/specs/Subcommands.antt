@@ -1,8 +1,11 @@
 -- The subcommands of cbfstool and their options.
-use Rattle.std.specs.Prelude.{ℕ, Bool, true, false, List, [], ◌∷◌, Some}
+use Rattle.std.specs.Prelude.{◌≡◌, ℕ, Bool, true, false, List, [], ◌∷◌, Some, fold}
 use Prim.Native.String.{String}
 use lib.Chars.{codes}
-use Rattle.clap.specs.Words.{App, Rule, Shape, new_rule}
+use Rattle.clap.specs.Words.{App, Rule, Shape, app_of, new_rule, with_rule}
+use Rattle.clap.specs.declared.builder.command.Command.{Command}
+use Rattle.clap.specs.declared.builder.command.Command.TheViews.{out-Command as fields_of}
+use Rattle.cbfs_line.specs.declared.words.TableOption.{TableOption}
 use Rattle.clap.specs.Simple.{new_shape}
 use Rattle.clap.specs.declared.builder.action.ArgAction.TheVariants.{Set, SetTrue}
 
@@ -11,32 +14,35 @@ abbrev pub option_of : String → ℕ → Bool → Rule
 option_of id letter required =
     record (new_rule (codes id)) { short = Some letter; action = Some Set; required = required }
 
-abbrev pub region_option : Rule
-region_option = option_of "region" 114 false
-
-abbrev pub file_option : Rule
-file_option = option_of "file" 102 true
-
-abbrev pub name_option : Rule
-name_option = option_of "name" 110 true
-
 abbrev pub subcommand : String → List Rule → Shape
 subcommand name options = record (new_shape (codes name)) { rules = options }
 
 -- `-v` has no value; `-M` of create names a file
 abbrev pub subcommands : List Shape
-subcommands = subcommand "print" (region_option
-    ∷ record (option_of "verbose" 118 false) { action = Some SetTrue } ∷ [])
-    ∷ subcommand "layout" [] ∷ subcommand "extract" (region_option ∷ file_option ∷ name_option ∷ [])
-    ∷ subcommand "add" (region_option ∷ name_option ∷ file_option ∷ option_of "type" 116 true
+subcommands = let region = option_of "region" 114 false in
+    let file = option_of "file" 102 true in let name = option_of "name" 110 true in
+    let verbose = record (option_of "verbose" 118 false) { action = Some SetTrue } in
+    subcommand "print" (region ∷ verbose ∷ []) ∷ subcommand "layout" []
+    ∷ subcommand "extract" (region ∷ file ∷ name ∷ [])
+    ∷ subcommand "add" (region ∷ name ∷ file ∷ option_of "type" 116 true
     ∷ option_of "alignment" 97 false ∷ option_of "base" 98 false ∷ option_of "hash" 65 false ∷ [])
-    ∷ subcommand "remove" (region_option ∷ name_option ∷ [])
-    ∷ subcommand "read" (region_option ∷ file_option ∷ [])
-    ∷ subcommand "write" (region_option ∷ file_option ∷ [])
-    ∷ subcommand "create" (option_of "file" 77 true ∷ region_option ∷ []) ∷ []
+    ∷ subcommand "remove" (region ∷ name ∷ []) ∷ subcommand "read" (region ∷ file ∷ [])
+    ∷ subcommand "write" (region ∷ file ∷ [])
+    ∷ subcommand "create" (option_of "file" 77 true ∷ region ∷ []) ∷ []
 
 -- the arguments after IMAGE
 abbrev pub command_line : App
 command_line = let shape = new_shape (codes "cbfstool") in
     let top = record shape { is_leaf = false; no_binary_name = true; subcommand_required = true } in
     record { top = top; subs = subcommands }
+
+-- ---- tables as clap commands
+
+-- as defined, without a global option
+pub record IsLocal (command : Command) (app : App) : Type 0 where
+  pub local : (fields_of command).has_globals ≡ false
+  pub shape : app_of command ≡ app
+
+abbrev pub with_options : App → List TableOption → App
+with_options app options = fold (λ a o. with_rule a (record (new_rule o.id.now)
+    { short = Some o.letter; action = Some o.action; required = o.required })) app options

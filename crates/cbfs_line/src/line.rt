@@ -1,11 +1,13 @@
 //! The command line: IMAGE, a subcommand, and its options.
 
 ghost use Rattle.std.specs.Prelude.{◌≡◌, ◌≢◌, ◌<◌, ◌⊎◌, [], ◌∷◌, length, Some, IfSome, IfOk, IfErr};
-ghost use Rattle.std.specs.Prelude.{drop, map, option_map, true};
+ghost use Rattle.std.specs.Prelude.{drop, map, option_map, true, ◌==◌};
+ghost use Rattle.std.specs.List.{slice_split};
+ghost use Rattle.std.specs.Option.{option_map_or};
 ghost use Rattle.clap.specs.Words.{fault_of, first_of, has_subcommand, subcommand_rows_of};
 ghost use Rattle.cbfs_line.specs.Subcommands.{command_line};
-ghost use Rattle.cbfs_line.specs.CommandLine.{addition, command_of, creation_of, hash_by, split_names};
-ghost use Rattle.cbfs_line.specs.CommandLine.{names_of, request_answer, spot_by};
+ghost use Rattle.cbfs_line.specs.CommandLine.{addition, command_of, creation_of, hash_by};
+ghost use Rattle.cbfs_line.specs.CommandLine.{request_answer, spot_by};
 ghost use Rattle.cbfs_line.specs.CommandLine.{region_named, text, texts_of, verbose_by, with_file, with_image};
 
 use crate::words::whole_command;
@@ -117,15 +119,18 @@ impl<'a> Line<'a> {
         ensures { request_answer result ≡ addition self.now }
     {
         let region = self.regions().as_bytes();
-        let (Some(name), Some(_)) = (self.option("name"), self.file()) else {
-            return Err(Refusal::Usage);
-        };
         let kind = match self.option("type") {
             Some(text) => type_number(text),
             None => None,
         };
-        match (kind, self.hash(), self.spot()) {
-            (Some(kind), Some(hash), Some(spot)) => Ok(Command::Add {
+        match (
+            self.file(),
+            kind,
+            self.hash(),
+            self.spot(),
+            self.option("name"),
+        ) {
+            (Some(_), Some(kind), Some(hash), Some(spot), Some(name)) => Ok(Command::Add {
                 region,
                 name: name.as_bytes(),
                 kind,
@@ -168,7 +173,7 @@ impl<'a> Line<'a> {
 
 /// Returns the creation of an image. Refuses an empty name, or more than 16 names.
 fn creation<'a>(list: &'a str) -> Result<Command<'a>, Refusal>
-    ensures { request_answer result ≡ creation_of (split_names list.entry.now) }
+    ensures { request_answer result ≡ creation_of list.entry.now }
 {
     let mut regions: ArrayVec<&[u8], MOST_REGIONS> = ArrayVec::new();
     let mut rest = Some(list);
@@ -184,7 +189,8 @@ fn creation<'a>(list: &'a str) -> Result<Command<'a>, Refusal>
 }
 
 fn first_name<'a>(list: &'a str) -> (&'a str, Option<&'a str>)
-    ensures names { split_names list.entry.now ≡ result.0.now ∷ names_of result.1 }
+    ensures names { slice_split (λ b. b == 44) list.entry.now ≡ result.0.now
+        ∷ option_map_or (λ rest. slice_split (λ b. b == 44) rest.now) result.1 [] }
     ensures shorter { IfSome result.1 (λ rest. length rest.now < length list.entry.now) }
 {
     match list.split_once(',') {

@@ -1,10 +1,9 @@
 //! The clap command: subcommands with options.
 
 ghost use Rattle.std.specs.Prelude.{◌≡◌, IfOk, true, false};
-ghost use Rattle.clap.specs.Words.{app_of};
+ghost use Rattle.clap.specs.Words.{app_of, new_app, with_subcommand};
 ghost use Rattle.clap.specs.declared.builder.command.Command.TheViews.{out-Command as fields_of};
-ghost use Rattle.cbfs_line.specs.Subcommands.{command_line};
-ghost use Rattle.cbfs_line.specs.Table.{IsLocal, with_options, with_row, with_rows};
+ghost use Rattle.cbfs_line.specs.Subcommands.{IsLocal, command_line, with_options};
 
 use clap::{Arg, ArgAction, Command};
 use std::alloc::{AllocError, Global};
@@ -118,32 +117,24 @@ fn with_row<'a>(
     row: TableRow,
 ) -> Result<Command<'a>, AllocError>
     requires { (fields_of command).has_globals ≡ false }
-    ensures { IfOk result (λ c. IsLocal c (with_row (app_of command.entry) row.entry)) }
+    ensures { IfOk result (λ c. IsLocal c (with_subcommand (app_of command.entry)
+        (with_options (new_app row.entry.0.now) row.entry.1.now).top)) }
 {
     let subcommand = with_options(alloc, Command::new(alloc, row.0), row.1)?;
     command.subcommand(subcommand)
 }
 
-fn with_rows<'a>(
-    alloc: Global,
-    mut command: Command<'a>,
-    mut rows: &[TableRow],
-) -> Result<Command<'a>, AllocError>
-    requires { (fields_of command).has_globals ≡ false }
-    ensures { IfOk result (λ c. IsLocal c (with_rows (app_of command.entry) rows.entry.now)) }
+/// Returns the command: a required subcommand with its options.
+pub fn whole_command<'a>(alloc: Global) -> Result<Command<'a>, AllocError>
+    ensures needs { IfOk result (λ c. (fields_of c).subcommand_required ≡ true) }
+    ensures shape { IfOk result (λ c. app_of c ≡ command_line) }
 {
+    let command = Command::new(alloc, "cbfstool").no_binary_name(true);
+    let mut command = command.subcommand_required(true);
+    let mut rows: &[TableRow] = &SUBCOMMANDS;
     while let [row, rest @ ..] = rows {
         command = with_row(alloc, command, *row)?;
         rows = rest;
     }
     Ok(command)
-}
-
-/// Returns the command: a required subcommand with its options.
-pub fn whole_command<'a>(alloc: Global) -> Result<Command<'a>, AllocError>
-    ensures needs { IfOk result (λ c. (fields_of c).subcommand_required ≡ true) }
-    ensures shape { IfOk result (λ c. IsLocal c command_line) }
-{
-    let command = Command::new(alloc, "cbfstool").no_binary_name(true);
-    with_rows(alloc, command.subcommand_required(true), &SUBCOMMANDS)
 }

@@ -1,20 +1,20 @@
 -- The start and rest of an attribute list.
 use Rattle.std.proofs.lemmas.Grind.{common_steps}
 use Rattle.std.proofs.Common.{◌≡◌, ℕ, ◌+◌, ◌-◌, ◌≤◌, min, Bool, true, false, cond, List, [], ◌∷◌, length, take, drop, Option, Some, None, refl, sym, ap, subst, ◌∙◌, arith}
-use Rattle.std.specs.Prelude.{slice_range, is_some, unwrap_or}
+use Rattle.std.specs.Prelude.{slice_range, slice_get, is_some, unwrap_or}
 use Rattle.std.specs.Option.{option_map}
 use Rattle.std.proofs.lemmas.Bool.{le-ltb}
 use Rattle.flash_format.specs.declared.attribute.AttrHead.{AttrHead}
 use Rattle.flash_format.specs.declared.head.Head.{Head}
 use Rattle.flash_format.specs.Head.{head_of, is_free}
-use Rattle.flash_format.specs.Entry.{Attribute, attribute, attributes, attr_head_of, ends_list, is_malformed, is_unused, has_bad_len, least_len, attribute_field, name_end}
+use Rattle.flash_format.specs.Entry.{Attribute, attribute, attributes, attr_head_of, ends_list, is_unused, has_bad_len, least_len, attribute_field, name_end}
 use Rattle.flash_format.specs.Components.{cell_attributes}
 use Rattle.flash_format.proofs.Fronts.{attr_head_of-take}
-use Rattle.flash_format.proofs.AttributeSteps.{attribute_len, attributes_end, attributes_malformed, attributes_more}
+use Rattle.flash_format.proofs.AttributeSteps.{attribute_len, attributes_end, attributes_malformed, attributes_more, is_malformed}
 use Rattle.flash_device.specs.Regions.{Range, LiesIn, bytes_in}
 use Rattle.cbfs_walk.specs.Cells.{cell_in}
 use Rattle.cbfs_walk.specs.Walks.{StandsIn}
-use Rattle.cbfs_walk.specs.AttrWalks.{AttrWalking, attr_walk_of, attributes_left, first_head, after_first, next_attribute}
+use Rattle.cbfs_walk.specs.AttrWalks.{attributes_left, head_of_attribute, next_attribute}
 use Rattle.cbfs_walk.specs.declared.cell.Cell.{Cell}
 use Rattle.cbfs_walk.specs.declared.attribute_walk.Listed as declared
 use Rattle.cbfs_walk.specs.declared.attribute_walk.Listed.TheVariants.{End, Malformed}
@@ -70,10 +70,14 @@ goes_end y e = attributes_end y (inverted_end (ends_list y) (is_malformed y) (at
 pub goes_malformed : (y : List ℕ) → Malformed ≡ next_attribute y → attributes y ≡ None
 goes_malformed y e = let v = inverted_malformed (ends_list y) (is_malformed y) (attr_head_of y) e in attributes_malformed y v.0 v.1
 
+-- the first attribute's head, of a list
+abbrev pub first_head : List Attribute → Option AttrHead
+first_head all = option_map head_of_attribute (slice_get all 0)
+
 -- well-formed attributes
 pub record GoesOn (y : List ℕ) (h : AttrHead) (all : List Attribute) : Type 0 where
-  pub first : all ≡ attribute y ∷ after_first all
-  pub rest : attributes (drop h.len y) ≡ Some (after_first all)
+  pub first : all ≡ attribute y ∷ drop 1 all
+  pub rest : attributes (drop h.len y) ≡ Some (drop 1 all)
 
 pub goes_on : (y : List ℕ) (h : AttrHead) (all : List Attribute) → Goes y h → attributes y ≡ Some all → GoesOn y h all
 goes_on y h all g e = grind (arith, common_steps)
@@ -108,7 +112,7 @@ listed_all x c stands used =
     some_is (attributes (slice_range x (c.at + name_end c.head) (c.at + c.head.offset))) [] (ap (λ l. is_some (attributes l)) (sym there) ∙ whole.formed)
     ∙ ap (λ l. Some (unwrap_or (attributes l) [])) (sym here)
 
-pub walk_all : (x : List ℕ) (c : Cell) → StandsIn x c → is_free c.head ≡ false → attributes_left x (attr_walk_of c) ≡ Some (cell_attributes (cell_in x c))
+pub walk_all : (x : List ℕ) (c : Cell) → StandsIn x c → is_free c.head ≡ false → attributes_left x (record { cell = c; at = min (name_end c.head) c.head.offset }) ≡ Some (cell_attributes (cell_in x c))
 walk_all x c stands used =
     let k = standing_good x c (standing x c stands) in
     let high = k.name_high used in
@@ -117,25 +121,23 @@ walk_all x c stands used =
 
 -- a walk's result at a position, and its rest
 abbrev pub GivesListed : List ℕ → Cell → ℕ → List Attribute → declared.Listed → Type 0
-GivesListed x k a all (listed.Attribute h) = (Some h ≡ first_head all) × (attributes_left x (record { cell = k; at = a + h.len }) ≡ Some (after_first all))
-GivesListed x k a all End = (None ≡ first_head all) × (attributes_left x (record { cell = k; at = k.head.offset }) ≡ Some (after_first all))
+GivesListed x k a all (listed.Attribute h) = (Some h ≡ first_head all) × (attributes_left x (record { cell = k; at = a + h.len }) ≡ Some (drop 1 all))
+GivesListed x k a all End = (None ≡ first_head all) × (attributes_left x (record { cell = k; at = k.head.offset }) ≡ Some (drop 1 all))
 GivesListed x k a all Malformed = ⊥
 
-pub walk_step : (r : Range) (image : List ℕ) (k : Cell) (a p q : ℕ) (w : AttrWalking) (l : declared.Listed) → LiesIn r image → w.cell.at + w.cell.head.offset ≤ r.size → w ≡ record { cell = k; at = a }
+pub walk_step : (r : Range) (image : List ℕ) (k : Cell) (a p q : ℕ) (l : declared.Listed) → LiesIn r image → k.at + k.head.offset ≤ r.size
     → p ≡ k.at + a → q ≡ k.at + k.head.offset → l ≡ next_attribute (slice_range (bytes_in r image) p q)
-    → (all : List Attribute) → attributes_left (bytes_in r image) w ≡ Some all → GivesListed (bytes_in r image) k a all l
-walk_step r image k a p q w l lies room view from to is all left = go l is
+    → (all : List Attribute) → attributes_left (bytes_in r image) (record { cell = k; at = a }) ≡ Some all → GivesListed (bytes_in r image) k a all l
+walk_step r image k a p q l lies room from to is all left = go l is
   where
     x : List ℕ
     x = bytes_in r image
 
     inside : q ≤ length x
-    inside =
-        let fits : k.at + k.head.offset ≤ r.size = subst (λ (v : AttrWalking). v.cell.at + v.cell.head.offset ≤ r.size) view room in
-        omega (arith, to, fits, length-region r image lies)
+    inside = omega (arith, to, room, length-region r image lies)
 
     here : attributes (slice_range x p q) ≡ Some all
-    here = ap (λ n. attributes (slice_range x n q)) from ∙ ap (λ n. attributes (slice_range x (k.at + a) n)) to ∙ ap (attributes_left x) (sym view) ∙ left
+    here = ap (λ n. attributes (slice_range x n q)) from ∙ ap (λ n. attributes (slice_range x (k.at + a) n)) to ∙ left
 
     none_left : attributes_left x (record { cell = k; at = k.head.offset }) ≡ Some []
     none_left = ap (λ n. attributes (take n (drop (k.at + k.head.offset) x))) {x = k.at + k.head.offset - (k.at + k.head.offset)} {y = 0} (omega arith) ∙ attributes_end [] refl
@@ -153,9 +155,9 @@ walk_step r image k a p q w l lies room view from to is all left = go l is
         )
     go End is =
         let none : all ≡ [] = goes_none (slice_range x p q) all (goes_end (slice_range x p q) is) here in
-        (ap first_head (sym none), none_left ∙ ap (λ (l : List Attribute). Some (after_first l)) (sym none))
+        (ap first_head (sym none), none_left ∙ ap (λ (l : List Attribute). Some (drop 1 l)) (sym none))
     go Malformed is = let e : (let o : Option (List Attribute) = None in o) ≡ Some all = sym (goes_malformed (slice_range x p q) is) ∙ here in absurd cc
 
 pub gives_none : (x : List ℕ) (k : Cell) (a : ℕ) (all : List Attribute) (l : declared.Listed) → ((h : AttrHead) → l ≡ listed.Attribute h → ⊥) → GivesListed x k a all l
-    → (None ≡ first_head all) × (attributes_left x (record { cell = k; at = k.head.offset }) ≡ Some (after_first all))
+    → (None ≡ first_head all) × (attributes_left x (record { cell = k; at = k.head.offset }) ≡ Some (drop 1 all))
 gives_none x k a all l other gives = grind (arith, common_steps)

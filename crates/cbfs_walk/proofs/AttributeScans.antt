@@ -13,7 +13,7 @@ use Rattle.flash_device.specs.Pages.{Pages}
 use Rattle.flash_device.specs.Regions.{Range, LiesIn, LiesOn, bytes_in}
 use Rattle.cbfs_walk.specs.Walks.{Passes, StandsIn}
 use Rattle.cbfs_walk.specs.Cells.{attributes_start, content_start, IsComponentIn, cell_in}
-use Rattle.cbfs_walk.specs.AttrWalks.{IsAttrIn, next_attribute, formed_after, attributes_in, IsAttrOf, data_at}
+use Rattle.cbfs_walk.specs.AttrWalks.{IsAttrIn, next_attribute, formed_after, attributes_in}
 use Rattle.cbfs_walk.specs.declared.cell.Cell.{Cell}
 use Rattle.cbfs_walk.specs.declared.attribute_walk.Listed as declared
 use Rattle.cbfs_walk.specs.declared.attribute_walk.Listed.TheVariants as listed
@@ -120,6 +120,10 @@ unfolding formed_after formed_with
 formed_by l [] told = ap (λ (k : declared.Listed). formed_with k []) (sym told)
 formed_by l (b ∷ y) told = grind (arith, common_steps, formed_later, goes)
 
+-- the data of an attribute at a position
+abbrev pub data_at : List ℕ → ℕ × AttrHead → List ℕ
+data_at x found = slice_range x (found.0 + 8) (found.0 + found.1.len)
+
 -- the data of the first attribute with the tag
 abbrev pub data_with : ℕ → List ℕ → Option (List ℕ)
 data_with tag y = data_of tag (formed_after 0 y)
@@ -166,9 +170,9 @@ attributes_found r image c lies is stands = formed_all 0 _ _ (listed_all (bytes_
 compression_len : (h : AttrHead) → h.tag ≡ COMPRESSION → least_len h.tag ≡ 16
 compression_len h e = rw e refl
 
-pub value_is : (x : List ℕ) (c : Cell) (found : ℕ × AttrHead) → IsAttrOf c COMPRESSION found → be32 (found.0 + 8) x ≡ be32 0 (data_at x found)
+pub value_is : (x : List ℕ) (c : Cell) (found : ℕ × AttrHead) → (found.1.tag ≡ COMPRESSION) × IsAttrIn found.0 (content_start c) found.1 → be32 (found.0 + 8) x ≡ be32 0 (data_at x found)
 value_is x c found is =
-    let long : 16 ≤ found.1.len = omega (arith, is.attribute.least, compression_len found.1 is.has) in
+    let long : 16 ≤ found.1.len = omega (arith, is.1.least, compression_len found.1 is.0) in
     sym (ap (big_number 4) (
     range-inner x (found.0 + 8) (found.0 + found.1.len) 0 4 (omega (arith, long))
     ∙ ap (λ k. slice_range x k (found.0 + 8 + 4)) {x = found.0 + 8 + 0} {y = found.0 + 8} (omega arith)

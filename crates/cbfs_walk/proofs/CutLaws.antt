@@ -15,7 +15,9 @@ use Rattle.flash_format.proofs.EntryLaws.{from_head, present_by}
 use Rattle.flash_format.proofs.Fronts.{head_of-take, range-take}
 use Rattle.flash_device.specs.Regions.{Range, LiesIn, bytes_in}
 use Rattle.cbfs_walk.specs.Cells.{IsCellIn, cell_in}
-use Rattle.cbfs_walk.specs.Shapes.{has_bad_size, is_absent, refused_or}
+use Rattle.std.specs.Option.{option_map_or}
+use Rattle.flash_format.specs.Entry.{front}
+use Rattle.cbfs_walk.specs.Shapes.{has_bad_size}
 use Rattle.cbfs_walk.specs.Walks.{answer_at, answer_by, StandsIn}
 use Rattle.cbfs_walk.specs.Laws.{GoesOn, CellBytes}
 use Rattle.cbfs_walk.specs.declared.cell.Cell.{Cell}
@@ -24,26 +26,23 @@ use Rattle.cbfs_walk.specs.declared.walk.WalkFault.TheVariants as walk
 use Rattle.cbfs_walk.proofs.Checks.{IsGood, checks_give, checked_extent}
 use Rattle.cbfs_walk.proofs.Parts.{range_is, range-drop, part-in, length-region}
 
-none_first : (at : ℕ) (e : Entry) → (eqb at 0 && is_absent e) ≡ true → (at ≡ 0) × (e ≡ absent)
-none_first at e z = grind (arith, common_steps)
-
 -- the cell, and the later cut
 pub cut_at : (x : List ℕ) (at span : ℕ) → 0 < length (drop at x) → entry (drop at x) ≡ cell span → cut (drop at x) ≡ after (slice_range x at (at + span) ∷ []) (cut (drop (at + span) x))
 cut_at x at span some is = cut_cell (drop at x) span some is ∙ ap (λ c. after (c ∷ []) (cut (drop span (drop at x)))) (sym (range_is x at span)) ∙ ap (λ l. after (slice_range x at (at + span) ∷ []) (cut l)) (drop-drop span at x)
 
 pub walks_follow : (x : List ℕ) (at : ℕ) → at ≤ length x → at % 64 ≡ 0 → GoesOn x at (answer_at x at)
 unfolding answer_at
-walks_follow x at inside aligned = go (has_bad_size (length x)) (eqb at 0 && is_absent (entry x)) (eqb (length (drop at x)) 0) refl refl refl
+walks_follow x at inside aligned = go (has_bad_size (length x)) (eqb at 0 && not (is_some (front x))) (eqb (length (drop at x)) 0) refl refl refl
   where
     by_entry : (e : Entry) → entry (drop at x) ≡ e → 0 < length (drop at x) → GoesOn x at (answer_by (drop at x) at e)
     by_entry absent is some = (refl, cut_step (drop at x) absent some is)
     by_entry (damaged k) is some = (refl, cut_step (drop at x) (damaged k) some is)
     by_entry (cell span) is some = (refl, cut_at x at span some is)
 
-    go : (b m n : Bool) → has_bad_size (length x) ≡ b → (eqb at 0 && is_absent (entry x)) ≡ m → eqb (length (drop at x)) 0 ≡ n
-        → GoesOn x at (refused_or (λ fault. Err fault) (cond b (Some walk.RegionShape) (cond m (Some walk.NotCbfs) None)) (cond n (Ok steps.End) (answer_by (drop at x) at (entry (drop at x)))))
-    go true m n e z f = e
-    go false true n e z f = none_first at (entry x) z
+    go : (b m n : Bool) → has_bad_size (length x) ≡ b → (eqb at 0 && not (is_some (front x))) ≡ m → eqb (length (drop at x)) 0 ≡ n
+        → GoesOn x at (option_map_or (λ fault. Err fault) (cond b (Some walk.RegionShape) (cond m (Some walk.NotCbfs) None)) (cond n (Ok steps.End) (answer_by (drop at x) at (entry (drop at x)))))
+    go true m n e z f = rw e refl
+    go false true n e z f = rw (e, z) refl
     go false false true e z f =
         let none : length (drop at x) ≡ 0 = grind (arith, common_steps) in
         (omega (arith, length-drop at x, inside), cut_empty (drop at x) none)

@@ -1,6 +1,6 @@
 -- The digest of a content, and the first hash attribute.
 use Rattle.std.proofs.lemmas.Grind.{common_steps}
-use Rattle.std.proofs.Common.{◌≡◌, ℕ, ◌+◌, ◌-◌, ◌<◌, ◌≤◌, true, false, cond, IsTrue, List, ◌++◌, take, drop, length, Option, Some, None, Result, Ok, ◌⊎◌, sym, ap, ◌∙◌, arith, ltb, le_refl}
+use Rattle.std.proofs.Common.{◌≡◌, ℕ, ◌+◌, ◌-◌, ◌<◌, ◌≤◌, true, false, cond, IsTrue, List, ◌++◌, take, drop, length, Option, Some, None, Ok, sym, ap, ◌∙◌, arith, ltb, le_refl}
 use Rattle.std.specs.Prelude.{slice_range, IfSome, option_and_then}
 use Rattle.std.proofs.lemmas.Bool.{lt-ltb, le-ltb}
 use Rattle.byteorder.specs.Endian.{big_number}
@@ -16,14 +16,11 @@ use Rattle.flash_device.specs.Pages.{Pages}
 use Rattle.flash_device.specs.Regions.{Range, LiesIn, bytes_in}
 use Rattle.cbfs_walk.specs.Walks.{Passes, StandsIn}
 use Rattle.cbfs_walk.specs.Cells.{IsComponentIn, cell_in, attributes_start, content_start, content_end}
-use Rattle.cbfs_walk.specs.AttrWalks.{IsAttrOf, attributes_in, searched_to}
-use Rattle.cbfs_walk.specs.Hashes.{hashed_by, digest_by, stored_digest, comparison, hash_state, content_at}
+use Rattle.cbfs_walk.specs.AttrWalks.{IsAttrIn, attributes_in, searched_to}
+use Rattle.cbfs_walk.specs.Hashes.{hashed_by, stored_digest, hash_state, content_at}
 use Rattle.cbfs_walk.specs.declared.cell.Cell.{Cell}
-use Rattle.cbfs_walk.specs.declared.hashes.HashState.{HashState}
-use Rattle.cbfs_walk.specs.declared.hashes.HashState.TheVariants as states
 use Rattle.flash_format.specs.declared.attribute.AttrHead.{AttrHead}
-use Rattle.flash_device.specs.declared.flash.FlashFault.{FlashFault}
-use Rattle.flash_format.specs.Made.{algorithm, algorithm_row, algorithm_numbered, digest_with, digest_bytes, digest_len}
+use Rattle.flash_format.specs.Made.{algorithm, algorithm_row, algorithm_numbered, digest_with, digest_bytes}
 use Rattle.cbfs_walk.proofs.Parts.{length-region, range-inner, range-take, range-after, length-range}
 use Rattle.cbfs_walk.proofs.ReadSequences.{Passes-then}
 use Rattle.cbfs_walk.proofs.Checks.{checks_give}
@@ -56,6 +53,10 @@ taking_more holds r from end at n old now new before hasher piece s fits read sh
     rw (← range-join x from at n s.low, ← same) (taken (slice_range x from at) held))
 
 -- ---- the digest in a hash attribute
+
+-- the digest after the number of a known algorithm, if complete
+abbrev digest_by : List ℕ → Algorithm → Option Digest
+digest_by contents a = let end = 4 + (algorithm_row a).len in cond (ltb (length contents) end) None (Some (digest_with a (slice_range contents 4 end)))
 
 -- a hash attribute's data, its number read first
 module _ (r : Range) (image : List ℕ) (at n number : ℕ) (lies : LiesIn r image) (inside : at + n ≤ r.size) (room : 4 ≤ n) (e : number ≡ be32 at (bytes_in r image)) where
@@ -98,7 +99,7 @@ pub algorithm-hashed : (a : Algorithm) (bytes : List ℕ) → algorithm (hashed_
 unfolding hashed_by
 algorithm-hashed a bytes = grind (arith, common_steps)
 
-pub length-hashed : (a : Algorithm) (bytes : List ℕ) → length (digest_bytes (hashed_by a bytes)) ≡ digest_len (hashed_by a bytes)
+pub length-hashed : (a : Algorithm) (bytes : List ℕ) → length (digest_bytes (hashed_by a bytes)) ≡ (algorithm_row (algorithm (hashed_by a bytes))).len
 unfolding hashed_by
 length-hashed a bytes = grind (arith, common_steps, length-sha256, length-sha512)
 
@@ -116,12 +117,8 @@ state_found r image c lies is stands =
     ap (λ all. hash_state all (content_at x c)) (attributes_found r image c lies is stands) ∙ ap (hash_state (cell_attributes (cell_in x c))) (sym content)
 
 -- reads of attributes and digest end before the content
-pub read_to_content : {F : Type 0} {r : Range} {refused : ℕ} {old mid new : Pages F} (c : Cell) (tag : ℕ) (o : Option (ℕ × AttrHead)) (found : ℕ × AttrHead) → o ≡ Some found → IfSome o (IsAttrOf c tag)
+pub read_to_content : {F : Type 0} {r : Range} {refused : ℕ} {old mid new : Pages F} (c : Cell) (tag : ℕ) (o : Option (ℕ × AttrHead)) (found : ℕ × AttrHead) → o ≡ Some found → IfSome o (λ f. (f.1.tag ≡ tag) × IsAttrIn f.0 (content_start c) f.1)
     → Passes r (attributes_start c) (searched_to c (Ok o)) 0 old mid → Passes r (found.0 + 8) (found.0 + 8 + (found.1.len - 8)) refused mid new → Passes r (attributes_start c) (content_start c) refused old new
 read_to_content c tag o found is attribute first second =
-    let there = (rw is at attribute).attribute in
+    let there = (rw is at attribute).1 in
     Passes-then (rw is at first) second (le_refl _) (omega arith) (omega (arith, there.inside, there.head))
-
--- a comparison results in no other state
-pub compared : (stored computed : Digest) (state : HashState) → state ≡ comparison stored computed → (let result : Result HashState FlashFault = Ok state in (result ≡ Ok states.Absent) ⊎ (result ≡ Ok states.Unsupported)) → ⊥
-compared stored computed state is = grind (arith, common_steps)

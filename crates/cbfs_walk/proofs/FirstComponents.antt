@@ -56,6 +56,10 @@ pub first_found : (x name : List ℕ) (c : Component) → shape_fault x ≡ None
 unfolding component_in
 first_found x name c good is = grind (arith, common_steps, first_is)
 
+pub found_shape : (x name : List ℕ) (c : Component) → component_in x name ≡ Ok (Some c) → shape_fault x ≡ None
+unfolding component_in
+found_shape x name c found = grind (arith, common_steps)
+
 pub found_first : (x name : List ℕ) (c : Component) → component_in x name ≡ Ok (Some c) → IsFirstOf name (components x) c
 unfolding component_in
 found_first x name c found = grind (arith, common_steps, is_first)

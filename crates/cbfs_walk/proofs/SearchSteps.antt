@@ -2,18 +2,18 @@
 use Rattle.std.proofs.lemmas.Grind.{common_steps}
 use Rattle.std.proofs.Common.{◌≡◌, ℕ, ◌+◌, ◌/◌, ◌%◌, ◌≤◌, Bool, true, false, cond, not, ◌&&◌, ◌⊎◌, inl, inr, IsTrue, List, length, Option, Some, None, Result, Ok, Err, refl, sym, ap, ◌∙◌, arith}
 use Rattle.std.specs.Prelude.{IsErrOf}
+use Rattle.std.specs.Option.{option_map_or}
 use Rattle.std.specs.Str.{bytes_eq}
-use Rattle.flash_format.specs.declared.head.Head.{Head}
-use Rattle.flash_format.specs.Head.{head_of, is_free}
+use Rattle.flash_format.specs.Head.{is_free}
 use Rattle.flash_format.specs.Cut.{Cut}
-use Rattle.flash_format.specs.Components.{cell_name, component_at, components_from}
+use Rattle.flash_format.specs.Components.{Component, cell_name, component_at, components_from}
 use Rattle.flash_device.specs.Device.{fault_count}
 use Rattle.flash_device.specs.Pages.{Pages, HasRead}
 use Rattle.flash_device.specs.Regions.{Range, LiesOn, bytes_in}
-use Rattle.cbfs_walk.specs.Walks.{reads_over, StepResult, Walking, walk_of, answer_at, StandsIn, GivesCell, reads_at, by_device, walk_after}
+use Rattle.cbfs_walk.specs.Walks.{reads_over, StepResult, Walking, answer_at, StandsIn, GivesCell, reads_at, by_device, walk_after}
 use Rattle.cbfs_walk.specs.Cells.{IsCellIn, cell_in}
 use Rattle.cbfs_walk.specs.CellReadings.{reading_of, ReadsCells, by_answer, place_after}
-use Rattle.cbfs_walk.specs.Search.{Found, first_named, not_found, found_or, component_in, found_cell}
+use Rattle.cbfs_walk.specs.Search.{first_named, not_found, component_in}
 use Rattle.cbfs_walk.specs.declared.cell.Cell.{Cell}
 use Rattle.cbfs_walk.specs.declared.walk.Step.{Step}
 use Rattle.cbfs_walk.specs.declared.walk.Step.TheVariants as steps
@@ -22,16 +22,18 @@ use Rattle.cbfs_walk.specs.declared.walk.WalkFault.TheVariants as faults
 use Rattle.flash_device.proofs.DeviceLemmas.{honest_still}
 use Rattle.flash_device.proofs.WindowLemmas.{HasRead-none, HasRead-then, HasRead-within}
 use Rattle.cbfs_walk.proofs.Parts.{length-region}
-use Rattle.cbfs_walk.proofs.CutLaws.{standing, cell_head, cell_len}
 use Rattle.cbfs_walk.proofs.Shapes.{shaped_step}
 use Rattle.cbfs_walk.proofs.StepResults.{IsLast}
+
+abbrev Found : Type 0
+Found = Result (Option Component) WalkFault
 
 refused : WalkFault → Found
 refused fault = Err fault
 
 -- the first component with the name in a cut at a position
 find_cut : List ℕ → ℕ → Cut → Found
-find_cut name at k = found_or (first_named name (components_from at k.cells)) (not_found (place_after at k.cells) k.end)
+find_cut name at k = option_map_or (λ c. Ok (Some c)) (first_named name (components_from at k.cells)) (not_found (place_after at k.cells) k.end)
 
 each_cell : List ℕ → List ℕ → Cell → Found → Found
 each_cell name c given later = cond (not (is_free given.head) && bytes_eq (cell_name c) name) (Ok (Some (component_at given.at c))) later
@@ -66,7 +68,7 @@ pub record Searching {F : Type 0} (r : Range) (name : List ℕ) (w : Walking) (o
   pub read : HasRead (w.at / 16) 0 old now
   pub so_far : IsTrue old.device.honest → component_in (bytes_in r old.device.content) name ≡ found_from (bytes_in r old.device.content) name w.at
 
-pub searching_start : {F : Type 0} (r : Range) (name : List ℕ) (old : Pages F) → Searching r name (walk_of r) old old
+pub searching_start : {F : Type 0} (r : Range) (name : List ℕ) (old : Pages F) → Searching r name (record { region = r; at = 0; steps = 0; ended = None }) old old
 searching_start r name old = record {
   region = refl;
   going = refl;
@@ -78,9 +80,6 @@ searching_start r name old = record {
 
 told_step : (s : Step) (b : StepResult) → (let a : StepResult = Ok s in IsErrOf a faults.Device ⊎ (a ≡ b)) → Ok s ≡ b
 told_step s b it = grind (arith, common_steps)
-
-cell_is : (at span : ℕ) (h k : Head) (n : ℕ) → h ≡ k → n ≡ span → (let a : Cell = record { at = at; head = h; span = n } in a) ≡ record { at = at; head = k; span = span }
-cell_is at span h k n e f = ap (λ (j : Head). let a : Cell = record { at = at; head = j; span = n } in a) e ∙ ap (λ m. let a : Cell = record { at = at; head = k; span = m } in a) f
 
 module _ {F : Type 0} (r : Range) (name : List ℕ) (w : Walking) (old now : Pages F) (lies : LiesOn r old.device) (s : Searching r name w old now) where
   answered : (a : StepResult) → IsTrue old.device.honest → a ≡ answer_at (bytes_in w.region now.device.content) w.at
@@ -125,14 +124,6 @@ module _ {F : Type 0} (r : Range) (name : List ℕ) (w : Walking) (old now : Pag
     pub found_first : is_it ≡ true → IsTrue old.device.honest → component_in (bytes_in r old.device.content) name ≡ Ok (Some (component_at c.at (cell_in (bytes_in r old.device.content) c)))
     found_first e h = tested h ∙ ap (λ b. cond b (Ok (Some (component_at c.at (cell_in (bytes_in r old.device.content) c)))) (found_from (bytes_in r old.device.content) name (c.at + c.span))) e
 
-    pub found_answer : is_it ≡ true → IsTrue old.device.honest → Ok (Some c) ≡ found_cell (component_in (bytes_in r old.device.content) name)
-    found_answer e h =
-        let x = bytes_in r old.device.content in
-        let len : length x ≡ r.size = length-region r old.device.content lies.inside in
-        let head = cell_head x c (standing x c (stands h)) given.0.positive in
-        let span = cell_len x r.size c len cell_of_region in
-        sym (ap found_cell (found_first e h) ∙ ap (λ (d : Cell). Ok (Some d)) (cell_is c.at c.span (head_of (cell_in x c)) c.head (length (cell_in x c)) head span))
-
     pub searching_more : (v : Walking) (new : Pages F) → is_it ≡ false → v ≡ walk_after w (Ok step) → HasRead 1 0 mid new → Searching r name v old new
     searching_more v new e next more = rw (rw is at next) (record {
       region = s.region;
@@ -150,7 +141,7 @@ module _ {F : Type 0} (r : Range) (name : List ℕ) (w : Walking) (old now : Pag
   -- ---- an ended walk
 
   module _ (step : Step) (last : IsLast step) where
-    last_found : found_cell (found_by (bytes_in r old.device.content) name (Ok step)) ≡ Ok None
+    last_found : found_by (bytes_in r old.device.content) name (Ok step) ≡ Ok None
     unfolding found_by find_cut components_from
     last_found = grind (arith, common_steps)
 
@@ -158,18 +149,18 @@ module _ {F : Type 0} (r : Range) (name : List ℕ) (w : Walking) (old now : Pag
     last_after mid reading = grind (arith, common_steps)
 
     pub last_answer : (IsTrue now.device.honest → w.ended ≡ None → (let a : StepResult = Ok step in IsErrOf a faults.Device ⊎ (a ≡ answer_at (bytes_in w.region now.device.content) w.at)))
-        → IsTrue old.device.honest → Ok None ≡ found_cell (component_in (bytes_in r old.device.content) name)
-    last_answer answer h = sym (ap found_cell (answered (Ok step) h (told_step _ _ (answer (honest_still s.read.device.calls.same_honesty h) s.going))).1 ∙ last_found)
+        → IsTrue old.device.honest → component_in (bytes_in r old.device.content) name ≡ Ok None
+    last_answer answer h = (answered (Ok step) h (told_step _ _ (answer (honest_still s.read.device.calls.same_honesty h) s.going))).1 ∙ last_found
 
-  refusal : (fault : WalkFault) → found_cell (found_by (bytes_in r old.device.content) name (Err fault)) ≡ Err fault
+  refusal : (fault : WalkFault) → found_by (bytes_in r old.device.content) name (Err fault) ≡ Err fault
   unfolding found_by find_cut components_from refused
   refusal fault = grind (arith, common_steps)
 
   pub searching_err : (fault : WalkFault) → (answer : IsTrue now.device.honest → w.ended ≡ None → (let a : StepResult = Err fault in IsErrOf a faults.Device ⊎ (a ≡ answer_at (bytes_in w.region now.device.content) w.at)))
-      → IsTrue old.device.honest → (let a : Result (Option Cell) WalkFault = Err fault in IsErrOf a faults.Device ⊎ (a ≡ found_cell (component_in (bytes_in r old.device.content) name)))
+      → IsTrue old.device.honest → (let a : Result (Option Cell) WalkFault = Err fault in IsErrOf a faults.Device ⊎ (component_in (bytes_in r old.device.content) name ≡ Err fault))
   searching_err fault answer h = go (answer (honest_still s.read.device.calls.same_honesty h) s.going)
     where
       go : (let a : StepResult = Err fault in IsErrOf a faults.Device ⊎ (a ≡ answer_at (bytes_in w.region now.device.content) w.at))
-          → (let a : Result (Option Cell) WalkFault = Err fault in IsErrOf a faults.Device ⊎ (a ≡ found_cell (component_in (bytes_in r old.device.content) name)))
+          → (let a : Result (Option Cell) WalkFault = Err fault in IsErrOf a faults.Device ⊎ (component_in (bytes_in r old.device.content) name ≡ Err fault))
       go (inl device) = let is : fault ≡ faults.Device = cc in inl (ap (λ (f : WalkFault). Err f) is)
-      go (inr is) = inr (sym (ap found_cell (answered (Err fault) h is).1 ∙ refusal fault))
+      go (inr is) = inr ((answered (Err fault) h is).1 ∙ refusal fault)

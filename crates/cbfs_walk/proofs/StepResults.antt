@@ -1,11 +1,12 @@
 -- A walk's result at a position, by the entry.
 use Rattle.std.proofs.Common.{◌≡◌, ℕ, ◌-◌, ◌%◌, ◌<◌, ◌≤◌, Some, true, false, ◌&&◌, ◌⊎◌, List, length, drop, Ok, Err, refl, sym, ap, ◌∙◌, arith, eqb, le_refl}
-use Rattle.std.specs.Prelude.{IfOk, Option, None}
+use Rattle.std.specs.Prelude.{IfOk, Option, None, is_some, not}
+use Rattle.std.specs.Option.{option_map_or}
 use Rattle.std.proofs.lemmas.Bool.{and_right}
 use Rattle.std.proofs.lemmas.Grind.{common_steps}
 use Rattle.flash_format.specs.declared.head.Head.{Head}
 use Rattle.flash_format.specs.declared.head.DamageKind.{DamageKind}
-use Rattle.flash_format.specs.Entry.{Entry, absent, entry, front}
+use Rattle.flash_format.specs.Entry.{Entry, damaged, cell, entry, front}
 use Rattle.flash_format.proofs.CutSteps.{front_some}
 use Rattle.flash_device.specs.Device.{fault_count}
 use Rattle.flash_device.specs.Pages.{Pages, HasRead}
@@ -13,10 +14,10 @@ use Rattle.flash_device.specs.Regions.{Range}
 use Rattle.flash_device.proofs.WindowLemmas.{HasRead-within}
 use Rattle.cbfs_walk.specs.declared.cell.Cell.{Cell}
 use Rattle.cbfs_walk.specs.Cells.{PassesChecks, content_start}
-use Rattle.cbfs_walk.specs.Walks.{Passes, reads_over, StepResult, Walking, walk_of, by_device, GivesCell, walk_after, answer_by, entry_or, answer_at, reads_at}
+use Rattle.cbfs_walk.specs.Walks.{Passes, reads_over, StepResult, Walking, by_device, GivesCell, walk_after, answer_by, answer_at, reads_at}
 use Rattle.cbfs_walk.proofs.Checks.{checks_give}
 use Rattle.cbfs_walk.proofs.ReadSequences.{Passes-then}
-use Rattle.cbfs_walk.specs.Shapes.{has_bad_size, is_absent}
+use Rattle.cbfs_walk.specs.Shapes.{has_bad_size}
 use Rattle.cbfs_walk.specs.declared.walk.Step.{Step}
 use Rattle.cbfs_walk.specs.declared.walk.Step.TheVariants as steps
 use Rattle.cbfs_walk.specs.declared.walk.WalkFault.TheVariants as faults
@@ -32,12 +33,12 @@ pub answer_end : (x : List ℕ) (at size : ℕ) → length x ≡ size → false 
 unfolding answer_at
 answer_end x at size len good end = grind (arith, common_steps)
 
-pub answer_entry : (x : List ℕ) (at size : ℕ) (e : Entry) → length x ≡ size → false ≡ has_bad_size size → at < size → e ≡ entry (drop at x) → (eqb at 0 && is_absent e) ≡ false
+pub answer_entry : (x : List ℕ) (at size : ℕ) (e : Entry) → length x ≡ size → false ≡ has_bad_size size → at < size → e ≡ entry (drop at x) → (eqb at 0 && not (is_some (front (drop at x)))) ≡ false
     → answer_by (drop at x) at e ≡ answer_at x at
 unfolding answer_at
 answer_entry x at size e len good inside is other = grind (arith, common_steps)
 
-pub answer_absent : (x : List ℕ) (at size : ℕ) → length x ≡ size → false ≡ has_bad_size size → absent ≡ entry (drop at x) → at ≡ 0 → Err faults.NotCbfs ≡ answer_at x at
+pub answer_absent : (x : List ℕ) (at size : ℕ) → length x ≡ size → false ≡ has_bad_size size → None ≡ front (drop at x) → at ≡ 0 → Err faults.NotCbfs ≡ answer_at x at
 unfolding answer_at
 answer_absent x at size len good is first = grind (arith, common_steps)
 
@@ -49,14 +50,10 @@ step_of c None = Ok (steps.Cell c)
 step_of c (Some kind) = Err (faults.Damaged c.at kind)
 
 pub answer_checked : (x : List ℕ) (size : ℕ) (c : Cell) (damage : Option DamageKind) → length x ≡ size → false ≡ has_bad_size size → c.at < size → Some c.head ≡ front (drop c.at x)
-    → (front (drop c.at x) ≡ Some c.head → entry_or damage c.span ≡ entry (drop c.at x)) → step_of c damage ≡ answer_at x c.at
-answer_checked x size c damage len good inside head told = go damage ∙ answer_entry x c.at size _ len good inside (told (sym head)) (and_right (eqb c.at 0) _ (some damage))
+    → (front (drop c.at x) ≡ Some c.head → option_map_or damaged damage (cell c.span) ≡ entry (drop c.at x)) → step_of c damage ≡ answer_at x c.at
+answer_checked x size c damage len good inside head told = go damage ∙ answer_entry x c.at size _ len good inside (told (sym head)) (and_right (eqb c.at 0) _ (ap (λ (o : Option Head). not (is_some o)) (sym head)))
   where
-    some : (d : Option DamageKind) → is_absent (entry_or d c.span) ≡ false
-    some None = refl
-    some (Some kind) = refl
-
-    go : (d : Option DamageKind) → step_of c d ≡ answer_by (drop c.at x) c.at (entry_or d c.span)
+    go : (d : Option DamageKind) → step_of c d ≡ answer_by (drop c.at x) c.at (option_map_or damaged d (cell c.span))
     go None = ap (λ (h : Head). Ok (steps.Cell (record { at = c.at; head = h; span = c.span }))) (front_some (drop c.at x) c.head (sym head)).2
     go (Some kind) = refl
 
@@ -79,13 +76,13 @@ cell_gives size c (Ok step) is good aligned inside told =
 
 -- ---- an ended walk
 
-pub ends_faultless : (r : Range) (a : StepResult) → (walk_after (walk_of r) a).ended ≡ Some a → fault_count by_device a ≡ 0
+pub ends_faultless : (r : Range) (a : StepResult) → (walk_after (record { region = r; at = 0; steps = 0; ended = None }) a).ended ≡ Some a → fault_count by_device a ≡ 0
 ends_faultless r a e = grind (arith, common_steps)
 
-pub ends_cell : (r : Range) (size at : ℕ) (a : StepResult) → (walk_after (walk_of r) a).ended ≡ Some a → GivesCell size at a
+pub ends_cell : (r : Range) (size at : ℕ) (a : StepResult) → (walk_after (record { region = r; at = 0; steps = 0; ended = None }) a).ended ≡ Some a → GivesCell size at a
 ends_cell r size at a e = grind (arith, common_steps)
 
-pub ends_moved : (r : Range) (w : Walking) (a : StepResult) → (walk_after (walk_of r) a).ended ≡ Some a → w.ended ≡ Some a → w ≡ walk_after w a
+pub ends_moved : (r : Range) (w : Walking) (a : StepResult) → (walk_after (record { region = r; at = 0; steps = 0; ended = None }) a).ended ≡ Some a → w.ended ≡ Some a → w ≡ walk_after w a
 ends_moved r w a e is = grind (arith, common_steps)
 
 -- ---- the last steps of a walk

@@ -3,7 +3,8 @@ use Rattle.std.specs.Prelude.{◌≡◌, ℕ, ◌+◌, List, [], ◌∷◌, leng
 use Rattle.flash_format.specs.Head.{head_of}
 use Rattle.flash_format.specs.Cut.{Cut, complete, tail, damage, ends, after, cut}
 use Rattle.cbfs_walk.specs.Cells.{cell_in}
-use Rattle.cbfs_walk.specs.Shapes.{shape_fault_at, refused_or}
+use Rattle.std.specs.Option.{option_map_or}
+use Rattle.cbfs_walk.specs.Shapes.{shape_fault_at}
 use Rattle.cbfs_walk.specs.Walks.{StepResult}
 use Rattle.cbfs_walk.specs.declared.cell.Cell.{Cell}
 use Rattle.cbfs_walk.specs.declared.walk.Step.TheVariants as steps
@@ -17,7 +18,7 @@ place_after at (x ∷ cells) = place_after (at + length x) cells
 
 -- a function of the cut from a position on, or the fault of the region's shape
 unfoldable pub reading_of : {A : Type 0} → (WalkFault → A) → (ℕ → Cut → A) → List ℕ → ℕ → A
-reading_of refuse read x at = refused_or refuse (shape_fault_at x at) (read at (cut (drop at x)))
+reading_of refuse read x at = option_map_or refuse (shape_fault_at x at) (read at (cut (drop at x)))
 
 -- `read` is defined cell by cell
 abbrev pub ReadsCells : {A : Type 0} → (ℕ → Cut → A) → (List ℕ → Cell → A → A) → Type 0

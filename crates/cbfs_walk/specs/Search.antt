@@ -1,20 +1,14 @@
 -- The search by name.
-use Rattle.std.specs.Prelude.{◌≡◌, ℕ, ◌+◌, ◌/◌, true, false, All, List, ◌∷◌, ◌++◌, length, Option, Some, None, Result, Ok, Err}
+use Rattle.std.specs.Prelude.{◌≡◌, ℕ, true, false, All, List, ◌∷◌, ◌++◌, Option, Some, None, Result, Ok, Err}
 use Rattle.std.specs.List.{find}
-use Rattle.std.specs.Option.{option_map, option_map_or}
-use Rattle.std.specs.Result.{result_map_both}
+use Rattle.std.specs.Option.{option_map_or}
 use Rattle.std.specs.Str.{bytes_eq}
-use Rattle.flash_format.specs.Head.{head_of}
 use Rattle.flash_format.specs.Cut.{End, damage, cut}
 use Rattle.flash_format.specs.Components.{Component, components}
-use Rattle.cbfs_walk.specs.Shapes.{shape_fault, refused_or}
+use Rattle.cbfs_walk.specs.Shapes.{shape_fault}
 use Rattle.cbfs_walk.specs.CellReadings.{place_after}
-use Rattle.cbfs_walk.specs.declared.cell.Cell.{Cell}
 use Rattle.cbfs_walk.specs.declared.walk.WalkFault.{WalkFault}
 use Rattle.cbfs_walk.specs.declared.walk.WalkFault.TheVariants as faults
-
-abbrev pub Found : Type 0
-Found = Result (Option Component) WalkFault
 
 abbrev pub first_named : List ℕ → List Component → Option Component
 first_named name all = find (λ c. bytes_eq c.name name) all
@@ -27,22 +21,12 @@ pub record IsFirstOf (name : List ℕ) (all : List Component) (c : Component) : 
   pub none_before : All (λ (d : Component). bytes_eq d.name name ≡ false) before
 
 -- the damage at the end of the cells, or nothing
-abbrev pub not_found : ℕ → End → Found
+abbrev pub not_found : ℕ → End → Result (Option Component) WalkFault
 not_found at (damage kind) = Err (faults.Damaged at kind)
 not_found at _ = Ok None
 
-abbrev pub found_or : Option Component → Found → Found
-found_or found otherwise = option_map_or (λ c. Ok (Some c)) found otherwise
-
 -- the first component with the name, or the end of the cells
-unfoldable pub component_in : List ℕ → List ℕ → Found
-component_in x name = refused_or (λ fault. Err fault) (shape_fault x) (found_or
-    (first_named name (components x)) (not_found (place_after 0 (cut x).cells) (cut x).end))
-
-abbrev pub found_cell : Found → Result (Option Cell) WalkFault
-found_cell found = result_map_both (option_map (λ (c : Component).
-    record { at = c.at; head = head_of c.bytes; span = length c.bytes })) (λ fault. fault) found
-
-abbrev pub find_reads : ℕ → Result (Option Cell) WalkFault → ℕ
-find_reads size (Ok (Some c)) = (c.at + c.span) / 16
-find_reads size _ = size / 16 + 2
+unfoldable pub component_in : List ℕ → List ℕ → Result (Option Component) WalkFault
+component_in x name = option_map_or (λ fault. Err fault) (shape_fault x) (option_map_or
+    (λ c. Ok (Some c)) (first_named name (components x))
+    (not_found (place_after 0 (cut x).cells) (cut x).end))

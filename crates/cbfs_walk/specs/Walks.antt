@@ -1,14 +1,13 @@
 -- Walks over the cells of a region, and ordered reads.
-use Rattle.std.specs.Prelude.{◌≡◌, ◌⊎◌, ◌*◌, ◌≤◌, ℕ, ◌+◌, ◌-◌, ◌/◌, List, Result, length, drop, Option, Some, None, Ok, Err, ◌==◌, if◌then◌else◌, ⊤, IfOk}
+use Rattle.std.specs.Prelude.{◌≡◌, ◌⊎◌, ◌*◌, ◌≤◌, ℕ, ◌+◌, ◌-◌, ◌/◌, List, Result, length, drop, Option, Some, Ok, Err, ◌==◌, if◌then◌else◌, ⊤, IfOk}
 use Rattle.flash_device.specs.Device.{refusals}
 use Rattle.flash_device.specs.Pages.{Pages, Covers, HasRead, OnHonestIn, Returns}
 use Rattle.flash_device.specs.Regions.{Range}
 use Rattle.flash_format.specs.Head.{head_of}
 use Rattle.flash_format.specs.Entry.{Entry, absent, damaged, cell, entry}
-use Rattle.flash_format.specs.declared.head.DamageKind.{DamageKind}
-use Rattle.std.specs.Option.{option_map_or}
 use Rattle.cbfs_walk.specs.Cells.{IsCellIn, cell_in}
-use Rattle.cbfs_walk.specs.Shapes.{shape_fault_at, refused_or}
+use Rattle.std.specs.Option.{option_map_or}
+use Rattle.cbfs_walk.specs.Shapes.{shape_fault_at}
 use Rattle.cbfs_walk.specs.declared.cell.Cell.{Cell}
 use Rattle.cbfs_walk.specs.declared.walk.Step.{Step}
 use Rattle.cbfs_walk.specs.declared.walk.Step.TheVariants as steps
@@ -26,25 +25,21 @@ IsLoad p at q n = (at ≤ q) × (n ≤ 256) × (q + n ≤ length p.device.conten
 -- Ordered reads between two positions of a region, with the number of faults. A call loads at least
 -- 3840 bytes for later reads. So the distance between a load before these reads and a load after
 -- them covers the calls (`paid`). Otherwise it covers all calls except the last one (`spent`).
-pub record Passes {F : Type 0} (region : Range) (at end refused : ℕ)
-    (old new : Pages F) : Type 0 where
+pub record Passes {F : Type 0} (r : Range) (at end refused : ℕ) (old new : Pages F) : Type 0 where
   pub order : at ≤ end
   pub read : HasRead (reads_over (end - at)) refused old new
-  pub paid : refused ≡ 0 → (q n : ℕ) → IsLoad new (region.start + end) q n
-      → (p : ℕ) × (m : ℕ) × IsLoad old (region.start + at) p m
+  pub paid : refused ≡ 0 → (q n : ℕ) → IsLoad new (r.start + end) q n
+      → (p : ℕ) × (m : ℕ) × IsLoad old (r.start + at) p m
       × (3840 * new.device.calls + p ≤ 3840 * old.device.calls + q)
   pub spent : (new.device.calls ≤ old.device.calls)
-      ⊎ ((p : ℕ) × (m : ℕ) × IsLoad old (region.start + at) p m
-      × (3840 * new.device.calls + p ≤ 3840 * old.device.calls + region.start + end + 3840))
+      ⊎ ((p : ℕ) × (m : ℕ) × IsLoad old (r.start + at) p m
+      × (3840 * new.device.calls + p ≤ 3840 * old.device.calls + r.start + end + 3840))
 
--- such reads by a call that fails if a read fails
-abbrev pub HasPassed : {F T E : Type 0} → Range → ℕ → ℕ → Pages F → Pages F → Result T E → Type 0
-HasPassed region at end old new result = Passes region at end (refusals result) old new
-
--- such reads; on an honest device, a success's value is what `Is` says of the region's bytes
+-- such reads by a call that fails if a read fails; on an honest device, a success's value is what
+-- `Is` says of the region's bytes
 pub record ReadsIn {F T E : Type 0} (region : Range) (at end : ℕ) (old new : Pages F)
     (result : Result T E) (Is : List ℕ → T → Type 0) : Type 0 where
-  pub passed : HasPassed region at end old new result
+  pub passed : Passes region at end (refusals result) old new
   pub value : OnHonestIn old.device region (λ x. IfOk result (Is x))
 
 abbrev pub StepResult : Type 0
@@ -57,9 +52,6 @@ pub record Walking : Type 0 where
   pub steps : ℕ
   pub ended : Option StepResult
 
-abbrev pub walk_of : Range → Walking
-walk_of region = record { region = region; at = 0; steps = 0; ended = None }
-
 -- ---- results
 
 abbrev pub answer_by : List ℕ → ℕ → Entry → StepResult
@@ -68,11 +60,8 @@ answer_by rest at (damaged kind) = Err (faults.Damaged at kind)
 answer_by rest at (cell span) =
     Ok (steps.Cell (record { at = at; head = head_of rest; span = span }))
 
-abbrev pub entry_or : Option DamageKind → ℕ → Entry
-entry_or fault span = option_map_or damaged fault (cell span)
-
 unfoldable pub answer_at : List ℕ → ℕ → StepResult
-answer_at x at = let rest = drop at x in refused_or (λ fault. Err fault) (shape_fault_at x at)
+answer_at x at = let rest = drop at x in option_map_or (λ fault. Err fault) (shape_fault_at x at)
     (if length rest == 0 then Ok steps.End else answer_by rest at (entry rest))
 
 -- a walk returns the cell at its position

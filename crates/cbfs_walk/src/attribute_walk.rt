@@ -1,14 +1,16 @@
 //! Attributes of components.
-ghost use Rattle.std.specs.Prelude.{◌≡◌, ℕ, ◌+◌, ◌<◌, ◌≤◌, false, List, slice_range, IfOk, Some, None, is_some};
+ghost use Rattle.std.specs.Prelude.{◌≡◌, ℕ, ◌+◌, ◌-◌, ◌/◌, ◌<◌, ◌≤◌, min, false, List, slice_range, slice_get, drop, IfOk, Some, None, is_some};
 ghost use Rattle.std.specs.Option.{option_map};
 ghost use Rattle.flash_format.specs.Head.{is_free, be32};
-ghost use Rattle.flash_format.specs.Entry.{Attribute, attributes, data_of};
+ghost use Rattle.flash_format.specs.Entry.{Attribute, attributes, data_of, name_end};
 ghost use Rattle.flash_format.specs.Components.{cell_attributes, packing};
 ghost use Rattle.flash_device.specs.Pages.{HasAnswered, OnHonestIn, ReadsAs, IfFound};
 ghost use Rattle.flash_device.specs.Regions.{Reaches};
-ghost use Rattle.cbfs_walk.specs.Walks.{HasPassed, ReadsIn, reads_over, StandsIn, ReadsCellAs};
-ghost use Rattle.cbfs_walk.specs.Cells.{IsCellOn, IsComponentIn, attributes_start, cell_in};
-ghost use Rattle.cbfs_walk.specs.AttrWalks.{attr_walk_of, attr_moved, attr_reads, IsAttrIn, attributes_left, first_head, after_first, next_attribute, IsListedAttribute, attributes_in, IsAttrOf, data_at, searched_to};
+ghost use Rattle.cbfs_walk.specs.Walks.{Passes, ReadsIn, reads_over, StandsIn, ReadsCellAs};
+ghost use Rattle.cbfs_walk.specs.Cells.{IsCellOn, IsComponentIn, attributes_start, content_start, cell_in};
+ghost use Rattle.cbfs_walk.specs.AttrWalks.{attr_moved, IsAttrIn, attributes_left, head_of_attribute, next_attribute, IsListedAttribute, attributes_in, searched_to};
+ghost use Rattle.flash_format.specs.declared.attribute.AttrHead.{AttrHead};
+ghost use Rattle.flash_device.specs.Device.{refusals};
 
 use crate::cell::Cell;
 use crate::names::name_end;
@@ -17,7 +19,6 @@ use byteorder::{BigEndian, ByteOrder};
 use flash_device::{Flash, FlashFault, Paged};
 use flash_format::AttrHead;
 use flash_map::Region;
-use std::marker::Model;
 
 /// A walk over a component's attributes.
 #[derive(Drop)]
@@ -26,20 +27,10 @@ pub struct AttrWalk {
     at: u32,
 }
 
-impl Model for AttrWalk {
-    ghost use Rattle.std.specs.Prelude.{◌≤◌};
-    ghost use Rattle.cbfs_walk.specs.AttrWalks.{AttrWalking};
-
-    ghost Value = { AttrWalking };
-
-    ghost view = { λ w. record { cell = w.cell; at = w.at } };
-
-    ghost invariant = { λ w. w.at ≤ w.cell.head.offset };
-}
-
 /// Returns a walk over a component's attributes.
 pub fn attributes(cell: &Cell) -> AttrWalk
-    ensures start { result ≡ attr_walk_of cell.now }
+    ensures start { result
+        ≡ record { cell = cell.now; at = min (name_end cell.now.head) cell.now.head.offset } }
     ensures all { (x : List ℕ) → StandsIn x cell.now → is_free cell.now.head ≡ false
         → attributes_left x result ≡ Some (cell_attributes (cell_in x cell.now)) }
 {
@@ -58,9 +49,10 @@ impl AttrWalk {
     ) -> Result<Option<AttrHead>, FlashFault>
         requires { Reaches region (self.old.cell.at + self.old.cell.head.offset) paged.old.device }
 
-        ensures after { HasAnswered (attr_reads self.old) paged.old paged.new result }
-        ensures passes { HasPassed region (self.old.cell.at + self.old.at)
-            (self.old.cell.at + self.old.at) paged.old paged.new result }
+        ensures after { HasAnswered (min 1 ((self.old.cell.head.offset - self.old.at) / 8))
+            paged.old paged.new result }
+        ensures passes { Passes region (self.old.cell.at + self.old.at)
+            (self.old.cell.at + self.old.at) (refusals result) paged.old paged.new }
         ensures attribute { IfFound result (IsAttrIn self.old.at self.old.cell.head.offset) }
         ensures moved { self.new ≡ attr_moved self.old result }
         ensures ended { self.old.at ≡ self.old.cell.head.offset → result ≡ Ok None }
@@ -68,7 +60,8 @@ impl AttrWalk {
 
         ensures list { OnHonestIn paged.old.device region (λ x. (all : List Attribute)
             → attributes_left x self.old ≡ Some all → IfOk result (λ found.
-            (found ≡ first_head all) × (attributes_left x self.new ≡ Some (after_first all)))) }
+            (found ≡ option_map head_of_attribute (slice_get all 0))
+            × (attributes_left x self.new ≡ Some (drop 1 all)))) }
     {
         let at = self.cell.at + u64::from(self.at);
         let end = self.cell.at + u64::from(self.cell.head.offset);
@@ -117,10 +110,12 @@ pub fn first_attribute<F: Flash>(
 ) -> Result<Option<(u64, AttrHead)>, FlashFault>
     requires { IsCellOn IsComponentIn region cell.now paged.old.device }
 
-    ensures attribute { IfFound result (IsAttrOf cell.now tag) }
+    ensures attribute { IfFound result (λ found. (found.1.tag ≡ tag)
+        × IsAttrIn found.0 (content_start cell.now) found.1) }
     ensures first { ReadsIn region (attributes_start cell.now) (searched_to cell.now result)
-        paged.old paged.new result (λ x found.
-        option_map (data_at x) found ≡ data_of tag (attributes_in x cell.now)) }
+        paged.old paged.new result (λ x found. option_map (λ (attribute : ℕ × AttrHead).
+        slice_range x (attribute.0 + 8) (attribute.0 + attribute.1.len)) found
+        ≡ data_of tag (attributes_in x cell.now)) }
 {
     let end = cell.at + u64::from(cell.head.offset);
     let mut at = cell.at + u64::from(name_end(&cell.head));
@@ -173,15 +168,14 @@ fn listed_at<F: Flash>(
     at: u64,
     end: u64,
 ) -> Result<Listed, FlashFault>
-    requires reach { Reaches region end paged.old.device }
-    requires order { at ≤ end }
+    requires { Reaches region end paged.old.device }
 
-    ensures passes { HasPassed region at at paged.old paged.new result }
+    ensures passes { Passes region at at (refusals result) paged.old paged.new }
     ensures few { end < at + 8 → (result ≡ Ok Listed.End) × (paged.new ≡ paged.old) }
     ensures attribute { IfOk result (IsListedAttribute at end) }
     ensures listed { ReadsAs paged.old region result (λ x. next_attribute (slice_range x at end)) }
 {
-    if end - at < 8 {
+    if end.saturating_sub(at) < 8 {
         return Ok(Listed::End);
     }
     let mut bytes = [0; 8];

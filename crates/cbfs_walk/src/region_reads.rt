@@ -2,10 +2,11 @@
 ghost use Rattle.std.specs.Prelude.{◌≡◌, ◌+◌, ◌≤◌, length, slice_range, IfOk};
 ghost use Rattle.std.specs.Borrow.{sem};
 ghost use Rattle.std.specs.Io.BufRead.{Rests};
+ghost use Rattle.flash_device.specs.Device.{refusals};
 ghost use Rattle.flash_device.specs.Pages.{OnHonestIn};
 ghost use Rattle.flash_device.specs.Regions.{Reaches};
 ghost use Rattle.flash_device.specs.contracts.paged.Paged.{the_row};
-ghost use Rattle.cbfs_walk.specs.Walks.{HasPassed, ReadsIn};
+ghost use Rattle.cbfs_walk.specs.Walks.{Passes, ReadsIn};
 
 use flash_device::{Flash, FlashFault, Paged};
 use flash_map::Region;
@@ -39,7 +40,7 @@ pub fn piece_in<F: Flash>(
     requires short { n ≤ 256 }
 
     ensures* passes { sem 𝓛 (Rests (the_row F.row F.Flash) paged.entry (λ new.
-        HasPassed region at at paged.old new result)) }
+        Passes region at at (refusals result) paged.old new)) }
     ensures size { IfOk result (λ bytes. length bytes.now ≡ n) }
     ensures read { OnHonestIn paged.old.device region (λ x.
         IfOk result (λ bytes. bytes.now ≡ slice_range x at (at + n))) }

@@ -1,13 +1,16 @@
 //! The search by name.
-ghost use Rattle.std.specs.Prelude.{◌≡◌, ◌<◌, ◌&&◌, not, false, IsTrue, IfOk, Ok, Some};
+ghost use Rattle.std.specs.Prelude.{◌≡◌, ◌<◌, ◌⊎◌, ◌&&◌, not, false, IsErrOf, IsTrue, IfOk, ◌+◌, ◌/◌};
 ghost use Rattle.std.specs.Str.{bytes_eq};
 ghost use Rattle.flash_format.specs.Head.{is_free};
 ghost use Rattle.flash_format.specs.Components.{cell_name, component_at};
-ghost use Rattle.flash_device.specs.Pages.{HasAnswered, OnHonestIn, HasReadBy, AnswersAs, IfFound};
+ghost use Rattle.flash_device.specs.Pages.{HasAnswered, OnHonestIn, HasReadBy, IfFound, HasRead};
+ghost use Rattle.std.specs.Option.{option_map};
+ghost use Rattle.std.specs.Result.{result_map_both};
 ghost use Rattle.flash_device.specs.Regions.{LiesOn};
 ghost use Rattle.cbfs_walk.specs.Cells.{IsCellOn, IsCellIn, PassesChecks, cell_in};
 ghost use Rattle.cbfs_walk.specs.Walks.{StandsIn, ReadsCellAs, by_device};
-ghost use Rattle.cbfs_walk.specs.Search.{component_in, found_cell, find_reads};
+ghost use Rattle.cbfs_walk.specs.Search.{component_in};
+ghost use Rattle.cbfs_walk.specs.declared.cell.Cell.{Cell};
 
 use crate::cell::Cell;
 use crate::names::name_is;
@@ -24,15 +27,14 @@ pub fn find<F: Flash>(
 ) -> Result<Option<Cell>, WalkFault>
     requires { LiesOn region paged.old.device }
 
-    ensures after { HasReadBy by_device (find_reads region.size result) paged.old paged.new result }
-    ensures cell { IfFound result (IsCellIn region.size) }
-    ensures component { IfFound result (λ cell. is_free cell.head ≡ false) }
+    ensures after { HasReadBy by_device (region.size / 16 + 2) paged.old paged.new result }
+    ensures found { IfFound result (λ c. HasRead ((c.at + c.span) / 16) 0 paged.old paged.new) }
+    ensures cell { IfFound result (λ c. IsCellIn region.size c × (is_free c.head ≡ false)) }
 
-    ensures answer { AnswersAs paged.old region WalkFault.Device result
-        (λ x. found_cell (component_in x name.now)) }
+    ensures answer { OnHonestIn paged.old.device region (λ x. IsErrOf result WalkFault.Device
+        ⊎ (component_in x name.now ≡ result_map_both (option_map (λ (c : Cell).
+        component_at c.at (cell_in x c))) (λ fault. fault) result)) }
     ensures stands { OnHonestIn paged.old.device region (λ x. IfFound result (StandsIn x)) }
-    ensures first { OnHonestIn paged.old.device region (λ x. IfFound result (λ cell.
-        component_in x name.now ≡ Ok (Some (component_at cell.at (cell_in x cell))))) }
 {
     let mut walk = Walk::new(region);
     loop {

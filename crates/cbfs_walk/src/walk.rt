@@ -1,10 +1,12 @@
 //! The walk over cells.
 ghost use Rattle.std.specs.Prelude.{◌≡◌, ◌⊎◌, ◌*◌, ◌/◌, ◌%◌, ◌≤◌, Some, None, IsSome, IfSome, IsErrOf, drop};
-ghost use Rattle.flash_format.specs.Entry.{front, entry};
-ghost use Rattle.flash_device.specs.Pages.{OnHonestIn, HasReadBy, AnswersAs};
+ghost use Rattle.flash_format.specs.Entry as entries;
+ghost use Rattle.flash_format.specs.Entry.{front, entry, damaged};
+ghost use Rattle.flash_device.specs.Pages.{OnHonestIn, HasReadBy};
+ghost use Rattle.std.specs.Option.{option_map_or};
 ghost use Rattle.flash_device.specs.Regions.{LiesOn, Reaches};
 ghost use Rattle.cbfs_walk.specs.Cells.{IsCellOn, PassesChecks, content_start};
-ghost use Rattle.cbfs_walk.specs.Walks.{by_device, walk_of, walk_after, answer_at, entry_or, GivesCell, reads_at, ReadsIn};
+ghost use Rattle.cbfs_walk.specs.Walks.{by_device, walk_after, answer_at, GivesCell, reads_at, ReadsIn};
 ghost use Rattle.cbfs_walk.specs.Shapes.{has_bad_size};
 
 use crate::attribute_walk::are_well_formed;
@@ -63,21 +65,21 @@ pub struct Walk {
 impl Model for Walk {
     ghost use Rattle.std.specs.Prelude.{◌≡◌, ◌*◌, ◌%◌, ◌≤◌, Some};
     ghost use Rattle.std.specs.Option.{ForSome};
-    ghost use Rattle.cbfs_walk.specs.Walks.{Walking, walk_of, walk_after};
+    ghost use Rattle.cbfs_walk.specs.Walks.{Walking, walk_after};
 
     ghost Value = { Walking };
 
     ghost view = { λ w. record { region = w.region; at = w.at; steps = w.steps; ended = w.ended } };
 
     ghost invariant = { λ w. (w.at ≤ w.region.size) × (w.at % 64 ≡ 0) × (64 * w.steps ≤ w.at)
-        × ForSome w.ended (λ answer. (walk_after (walk_of w.region) answer).ended ≡ Some answer) };
+        × ForSome w.ended (λ answer. (v : Walking) → (walk_after v answer).ended ≡ Some answer) };
 }
 
 impl Walk {
     /// Starts a walk without a read. `next` borrows the device per call, so a caller can read
     /// between calls.
     pub fn new(region: Region) -> Walk
-        ensures { result ≡ walk_of region }
+        ensures { result ≡ record { region = region; at = 0; steps = 0; ended = None } }
     {
         Walk {
             region,
@@ -139,7 +141,8 @@ fn answer_at<F: Flash>(paged: &mut Paged<F>, region: Region, at: u64) -> Result<
 
     ensures cost { HasReadBy by_device (reads_at region.size at result) paged.old paged.new result }
     ensures cell { GivesCell region.size at result }
-    ensures answer { AnswersAs paged.old region WalkFault.Device result (λ x. answer_at x at) }
+    ensures answer { OnHonestIn paged.old.device region
+        (λ x. IsErrOf result WalkFault.Device ⊎ (result ≡ answer_at x at)) }
 {
     if has_bad_size(region.size()) {
         return Err(WalkFault::RegionShape);
@@ -196,7 +199,7 @@ fn damage_in<F: Flash>(
 
     ensures { ReadsIn region cell.now.at (content_start cell.now) paged.old paged.new result
         (λ x damage. front (drop cell.now.at x) ≡ Some cell.now.head
-        → entry_or damage cell.now.span ≡ entry (drop cell.now.at x)) }
+        → option_map_or damaged damage (entries.cell cell.now.span) ≡ entry (drop cell.now.at x)) }
 {
     if cell.head.is_free() {
         return Ok(None);

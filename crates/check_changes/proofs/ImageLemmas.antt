@@ -4,9 +4,14 @@ use Rattle.std.specs.Prelude.{Result, IsErrAnd}
 use Rattle.check_changes.specs.declared.images.Images.{Images}
 use Rattle.check_changes.specs.declared.fault.ChangeFault.{ChangeFault}
 use Rattle.check_changes.specs.Images.{by_old, by_new}
-use Rattle.check_changes.specs.Images.{HasReadBoth, HasReadFor, OnBoth}
+use Rattle.flash_device.specs.Pages.{HasRead}
+use Rattle.check_changes.specs.Images.{HasReadFor, OnBoth}
 
 module _ {F G : Type 0} where
+  -- the images after at most m and n reads, a and b of them refused
+  abbrev pub HasReadBoth : (m n a b : ℕ) (before after : Images F G) → Type 0
+  HasReadBoth m n a b before after = HasRead m a before.old_image after.old_image × HasRead n b before.new_image after.new_image
+
   pub both-none : (m n : ℕ) (images : Images F G) → HasReadBoth m n 0 0 images images
   both-none m n images = grind arith
 

@@ -8,7 +8,8 @@ use Rattle.check_findings.specs.declared.image.finding.ImageFinding.{ImageFindin
 use Rattle.check_findings.specs.ImageFindings.{region_area, region_areas, sum_sizes}
 use Rattle.check_changes.specs.declared.images.Images.{Images}
 use Rattle.check_changes.specs.declared.regions.change.RegionChange.{RegionChange}
-use Rattle.check_changes.specs.Images.{HasReadBoth, OnBoth, lengths}
+use Rattle.check_changes.specs.Images.{OnBoth, lengths}
+use Rattle.check_changes.proofs.ImageLemmas.{HasReadBoth}
 use Rattle.check_changes.specs.Regions.{region_changes_in, region_changes}
 use Rattle.check_changes.proofs.ImageLemmas.{both-then, both-within, OnBoth-before}
 

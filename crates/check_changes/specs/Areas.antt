@@ -20,13 +20,33 @@ use Rattle.check_changes.specs.declared.areas.change.MapChange.TheVariants as ma
 use Rattle.check_changes.specs.declared.areas.pairs.AreaPair.{AreaPair}
 use Rattle.check_changes.specs.declared.images.Both.{Both}
 use Rattle.check_changes.specs.Images.{lengths_of}
-use Rattle.check_changes.specs.Blocks.{blocks_of, count_below, differs}
+use Rattle.std.specs.Prelude.{zero, suc, ◌/◌, take, drop, max}
+use Rattle.std.specs.Int.{from_bool}
+
+-- ---- blocks of 4096 bytes, a size that this project defines
+
+-- the number of blocks of n bytes
+abbrev pub blocks_of : ℕ → ℕ
+blocks_of n = (n + 4095) / 4096
+
+-- the blocks of this number, of up to 4096 bytes, differ
+abbrev pub differs : List ℕ → List ℕ → ℕ → Bool
+differs x y n = not (bytes_eq (take 4096 (drop (4096 * n) x)) (take 4096 (drop (4096 * n) y)))
+
+-- how many numbers below n pass a test
+abbrev pub count_below : (ℕ → Bool) → ℕ → ℕ
+count_below test zero = 0
+count_below test (suc n) = count_below test n + from_bool (test n)
+
+-- the number of different blocks
+unfoldable pub different_blocks : List ℕ → List ℕ → ℕ
+different_blocks x y = count_below (differs x y) (blocks_of (max (length x) (length y)))
+
+-- ---- the flash map
 
 -- a difference with the old number, if the new number is another
 abbrev pub if_changed : {D : Type 0} → ℕ → ℕ → (ℕ → D) → List D
 if_changed old new what = only_if (not (old == new)) (what old)
-
--- ---- the flash map
 
 abbrev pub map_changes : Option FoundMap → Option FoundMap → List MapChange
 map_changes old None = []

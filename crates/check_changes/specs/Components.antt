@@ -1,14 +1,14 @@
 -- Changes of components. This project defines their choice and order.
 use Rattle.std.specs.Prelude.{ℕ, Bool, not, false, ◌&&◌, List, [], ◌∷◌, ◌++◌, length, slice_range, map, is_none, Option, Some, ◌==◌, if◌then◌else◌}
 use Rattle.std.specs.Bool.{then_some}
-use Rattle.std.specs.List.{find, flat_map}
+use Rattle.std.specs.List.{find, flat_map, sum_by}
 use Rattle.std.specs.Option.{option_map_or, option_to_list}
 use Rattle.std.specs.Str.{bytes_eq}
-use Rattle.flash_format.specs.Head.{head_of}
+use Rattle.flash_format.specs.Head.{head_of, is_free}
 use Rattle.flash_format.specs.Components.{Component, components}
 use Rattle.cbfs_walk.specs.Cells.{attributes_start, content_start}
 use Rattle.cbfs_walk.specs.Hashes.{content_at}
-use Rattle.cbfs_walk.specs.Shapes.{shape_fault, refused_or}
+use Rattle.cbfs_walk.specs.Shapes.{shape_fault}
 use Rattle.cbfs_walk.specs.declared.cell.Cell.{Cell}
 use Rattle.check_findings.specs.Lists.{only_if}
 use Rattle.check_changes.specs.Areas.{if_changed}
@@ -16,16 +16,16 @@ use Rattle.check_changes.specs.declared.components.change.ComponentDifference.{C
 use Rattle.check_changes.specs.declared.components.change.ComponentDifference.TheVariants.{Added, Removed, «Type», Length, Content, Attributes, MovedFrom}
 use Rattle.check_changes.specs.declared.components.change.ComponentChange.{ComponentChange}
 use Rattle.check_changes.specs.declared.components.listing.Listed.{Listed}
-use Rattle.check_changes.specs.declared.images.Both.{Both}
+use Rattle.std.specs.Prelude.{◌≡◌, option_copied}
+use Rattle.std.specs.Borrow.{Bor}
+use Rattle.std.specs.HashMap.{HashMap, get_by}
+use Rattle.cbfs_walk.specs.Cells.{IsCellIn}
 
--- a component by its name and cell
-abbrev pub listed_of : Component → Listed
-listed_of c = let h = head_of c.bytes in
-    record { name = c.name; cell = record { at = c.at; head = h; span = length c.bytes } }
-
--- the components of a region, up to a damage; none without a valid shape
+-- the components of a region by name and cell, up to a damage; none without a valid shape
 unfoldable pub listed_in : List ℕ → List Listed
-listed_in x = refused_or (λ fault. []) (shape_fault x) (map listed_of (components x))
+listed_in x = option_map_or (λ fault. []) (shape_fault x) (map (λ (c : Component). record
+    { name = c.name; cell = record { at = c.at; head = head_of c.bytes; span = length c.bytes } })
+    (components x))
 
 abbrev pub first_of : List ℕ → List Listed → Option Listed
 first_of name all = find (λ l. bytes_eq name l.name) all
@@ -49,21 +49,36 @@ abbrev pub component_change : Listed → ComponentDifference → ComponentChange
 component_change l what = record { at = l.cell.at; name = l.name; what = what }
 
 -- the changes of a new component from its first old namesake, if no namesake precedes it
-abbrev pub new_changes : List ℕ → List ℕ → Both (List Listed) → Listed → List ComponentChange
-new_changes x y lists l = if is_first_of lists.new l then map (component_change l)
+abbrev pub new_changes : List ℕ → List ℕ → List Listed → List Listed → Listed → List ComponentChange
+new_changes x y olds news l = if is_first_of news l then map (component_change l)
     (option_map_or (λ old. option_to_list (difference x y old.cell l.cell)
-    ++ if_changed old.cell.at l.cell.at MovedFrom) (first_of l.name lists.old) (Added ∷ [])) else []
+    ++ if_changed old.cell.at l.cell.at MovedFrom) (first_of l.name olds) (Added ∷ [])) else []
 
 -- the removal of an old component without a new namesake
-abbrev pub removal_of : Both (List Listed) → Listed → List ComponentChange
-removal_of lists l = only_if
-    (is_none (first_of l.name lists.new) && is_first_of lists.old l) (component_change l Removed)
+abbrev pub removal_of : List Listed → List Listed → Listed → List ComponentChange
+removal_of olds news l =
+    only_if (is_none (first_of l.name news) && is_first_of olds l) (component_change l Removed)
 
 -- changes in the order of the new region, then removals in the order of the old region
-unfoldable pub changes_between : List ℕ → List ℕ → Both (List Listed) → List ComponentChange
-changes_between x y lists =
-    flat_map (new_changes x y lists) lists.new ++ flat_map (removal_of lists) lists.old
+unfoldable pub changes_between : List ℕ → List ℕ → List Listed → List Listed → List ComponentChange
+changes_between x y olds news =
+    flat_map (new_changes x y olds news) news ++ flat_map (removal_of olds news) olds
 
 -- the changes from region x to region y
 abbrev pub component_changes : List ℕ → List ℕ → List ComponentChange
-component_changes x y = changes_between x y (record { old = listed_in x; new = listed_in y })
+component_changes x y = changes_between x y (listed_in x) (listed_in y)
+
+-- ---- components from a walk
+
+-- a component's cell in a region of this size
+abbrev pub IsListedIn : ℕ → Listed → Type 0
+IsListedIn size l = IsCellIn size l.cell × (is_free l.cell.head ≡ false)
+
+-- the bytes of all cells
+abbrev pub spans : List Listed → ℕ
+spans all = sum_by (λ l. l.cell.span) all
+
+-- the map has exactly the first component of each name
+abbrev pub Notes : {S : Type 0} → HashMap (Bor (List ℕ)) (Bor Listed) S → List Listed → Type 0
+Notes first all = (name : List ℕ)
+    → option_copied (get_by (λ k. bytes_eq name k.now) first) ≡ first_of name all

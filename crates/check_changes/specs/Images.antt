@@ -53,14 +53,11 @@ module _ {F G : Type 0} where
   abbrev pub OnBothIn : Images F G → Both Range → (List ℕ → List ℕ → Type 0) → Type 0
   OnBothIn i r P = OnBoth i (λ x y. P (bytes_in r.old x) (bytes_in r.new y))
 
-  -- the images after at most m and n reads, a and b of them refused
-  pub record HasReadBoth (m n a b : ℕ) (before after : Images F G) : Type 0 where
-    pub of_old : HasRead m a before.old_image after.old_image
-    pub of_new : HasRead n b before.new_image after.new_image
-
-  -- the same; the result names the device that refused a read
+  -- images j after at most m and n reads of images i; the result names the device that refused a
+  -- read
   abbrev pub HasReadFor : {T : Type 0} (m n : ℕ) (i j : Images F G) → Result T ChangeFault → Type 0
-  HasReadFor m n i j r = HasReadBoth m n (fault_count by_old r) (fault_count by_new r) i j
+  HasReadFor m n i j r = HasRead m (fault_count by_old r) i.old_image j.old_image
+      × HasRead n (fault_count by_new r) i.new_image j.new_image
 
   -- the same with a common bound
   abbrev pub HasCompared : {T : Type 0} (n : ℕ) (i j : Images F G) → Result T ChangeFault → Type 0

@@ -1,12 +1,10 @@
 -- A law about changes of areas.
-use Rattle.std.specs.Prelude.{◌≡◌, ◌≢◌, ℕ, ◌+◌, ◌<◌, ◌≤◌, Bool, true, false, ◌&&◌, List, Contains, IsTrue, length, slice_index, nat_lt, nat_le, Some}
-use Rattle.std.specs.List.{list_any}
+use Rattle.std.specs.Prelude.{◌≡◌, ◌≢◌, ℕ, ◌+◌, ◌<◌, ◌≤◌, Bool, true, false, ◌&&◌, List, length, slice_index, nat_lt, nat_le}
 use Rattle.flash_map.specs.declared.areas.NumberedArea.{NumberedArea}
 use Rattle.flash_map.specs.Areas.{area_end}
 use Rattle.check_changes.specs.declared.areas.change.AreaChange.{AreaChange}
 use Rattle.check_changes.specs.declared.areas.change.AreaDifference.{AreaDifference}
 use Rattle.check_changes.specs.declared.areas.change.AreaDifference.TheVariants.{Differs, NotCompared}
-use Rattle.check_changes.specs.Areas.{pairs, area_changes}
 
 -- different outside smaller areas, or not compared
 abbrev pub is_unequal : AreaDifference → Bool
@@ -25,10 +23,3 @@ pub record DifferAt (x y : List ℕ) (old new : NumberedArea) (i : ℕ) : Type 0
   pub in_new : area_end new.area ≤ length y
   pub within : i < new.area.size
   pub differ : slice_index x (old.area.offset + i) ≢ slice_index y (new.area.offset + i)
-
--- If namesakes differ in a byte, an area with the byte is reported.
-abbrev pub DifferencesAreReported : Type 0
-DifferencesAreReported =
-    (x y : List ℕ) (olds news : List NumberedArea) (old new : NumberedArea) (i : ℕ)
-    → Contains (pairs olds news) (record { old = Some old; new = new }) → DifferAt x y old new i
-    → IsTrue (list_any (reports (new.area.offset + i)) (area_changes x olds y news))

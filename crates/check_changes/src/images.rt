@@ -1,7 +1,7 @@
 //! The two images.
 ghost use Rattle.std.specs.Prelude.{◌≡◌, ◌+◌, ◌*◌, ◌^◌, ◌<◌, ◌≤◌, min, Some, IfSome};
 ghost use Rattle.check_changes.specs.Areas.{compared, left_after};
-ghost use Rattle.check_changes.specs.Blocks.{differs};
+ghost use Rattle.check_changes.specs.Areas.{differs};
 ghost use Rattle.check_changes.specs.Images.{HasCompared, LieOn, OnBothIn, lengths};
 ghost use Rattle.flash_device.specs.Pages.{Returns};
 
@@ -47,8 +47,7 @@ impl<F: Flash, G: Flash> Images<F, G> {
     /// Returns the lengths of the images. Sums of offsets don't overflow.
     pub fn lengths(&self) -> Lengths
         ensures lengths { result ≡ lengths self.now }
-        ensures old { result.old < 2 ^ 32 }
-        ensures new { result.new < 2 ^ 32 }
+        ensures small { (result.old < 2 ^ 32) × (result.new < 2 ^ 32) }
     {
         Lengths {
             old: self.old_image.len(),

@@ -10,12 +10,13 @@ use Rattle.std.specs.Cmp.Lexicographic.{slice_cmp}
 use Rattle.std.specs.BTreeMap.{get, get_by}
 use lib.Chars.{codes}
 use Rattle.check_findings.specs.Lists.{only_if}
+use Rattle.flash_format.specs.Entry.{front}
 use Rattle.flash_format.specs.Flashmap.{is_area, text_of}
 use Rattle.flash_device.specs.Regions.{Range, bytes_in}
 use Rattle.flash_map.specs.declared.areas.NumberedArea.{NumberedArea}
 use Rattle.check_findings.specs.MapFindings.{map_findings}
 use Rattle.flash_map.specs.Areas.{area_end, has_name, image_areas}
-use Rattle.check_findings.specs.RegionFindings.{begins_with_entry, region_findings}
+use Rattle.check_findings.specs.RegionFindings.{region_findings}
 use Rattle.check_findings.specs.declared.image.finding.ImageFinding.{ImageFinding}
 use Rattle.check_findings.specs.declared.image.finding.ImageFinding.TheVariants.{Map, Region}
 use Rattle.check_findings.specs.declared.image.finding.ImageFinding.TheVariants.{NotChecked, NoArea}
@@ -35,23 +36,16 @@ names_in names = map (λ n. n.now) names
 abbrev pub has_one_of : List (List ℕ) → NumberedArea → Bool
 has_one_of names a = list_any (λ name. is_area name a.area) names
 
--- the given names and the default region
-abbrev pub expected_names : List (List ℕ) → List (List ℕ) → List (List ℕ)
-expected_names names expected = (names ++ codes "COREBOOT" ∷ []) ++ expected
-
--- the area begins at `at`, and has room for a header and fewer than `size` bytes
-abbrev pub begins_at : ℕ → ℕ → NumberedArea → Bool
-begins_at at size a = a.area.offset == at && (nat_le 24 a.area.size && nat_lt a.area.size size)
-
--- a smaller area has the same offset, and so the same entry
+-- a smaller area with room for a header has the same offset, and so the same entry
 abbrev pub has_smaller : List NumberedArea → NumberedArea → Bool
-has_smaller areas a = list_any (begins_at a.area.offset a.area.size) areas
+has_smaller areas a = list_any (λ (b : NumberedArea). b.area.offset == a.area.offset
+    && (nat_le 24 b.area.size && nat_lt b.area.size a.area.size)) areas
 
 -- the area lies inside the image, and is expected, or begins with an entry and isn't above a
 -- smaller one
 abbrev pub is_wanted : List ℕ → (NumberedArea → Bool) → (NumberedArea → Bool) → NumberedArea → Bool
 is_wanted image expects has_smaller a = nat_le (area_end a.area) (length image)
-    && (expects a || (not (has_smaller a) && begins_with_entry (bytes_of image a)))
+    && (expects a || (not (has_smaller a) && is_some (front (bytes_of image a))))
 
 abbrev pub wanted_areas : List ℕ → (NumberedArea → Bool) → List NumberedArea → List NumberedArea
 wanted_areas image expects areas = filter (is_wanted image expects (has_smaller areas)) areas
@@ -78,10 +72,10 @@ areas_findings image expects left areas = scan left_after (area_finding image ex
 abbrev pub missing_name : List NumberedArea → ℕ × List ℕ → List ImageFinding
 missing_name areas n = only_if (is_none (find (has_name n.1) areas)) (NoArea n.0)
 
--- of the map, regions, and names without an area
+-- of the map, regions, and names without an area; the default region is expected too
 unfoldable pub image_findings : List ℕ → List (List ℕ) → List (List ℕ) → List ImageFinding
 image_findings image names expected = let areas = image_areas image in
-    let all = has_one_of (expected_names names expected) in map Map (map_findings image)
+    let all = has_one_of (names ++ codes "COREBOOT" ∷ expected) in map Map (map_findings image)
     ++ areas_findings image all (2 * length image) (wanted_areas image all areas)
     ++ flat_map (missing_name areas) (enumerate_from 0 names)
 

@@ -1,11 +1,10 @@
 -- Laws about findings.
 use Rattle.std.specs.Prelude.{◌≡◌, ◌≢◌, Bool, true, false, ℕ, ◌+◌, ◌<◌, ◌≤◌, ◌⊎◌, All, Contains}
-use Rattle.std.specs.Prelude.{IsOkAnd, IsSomeAnd, List, length, None, Ok, Some}
+use Rattle.std.specs.Prelude.{◌-◌, slice_range, IsSomeAnd, List, length, None, Ok, Some}
 use Rattle.std.specs.List.{find, list_any}
 use Rattle.std.specs.Str.{is_utf8}
 use lib.Chars.{codes}
 use Rattle.flash_format.specs.declared.digest.Digest.{Digest}
-use Rattle.flash_format.specs.declared.flashmap.Area.{Area}
 use Rattle.flash_format.specs.declared.head.DamageKind.{DamageKind}
 use Rattle.flash_format.specs.Components.{Component, components}
 use Rattle.flash_format.specs.Cut.{cut, damage, tail}
@@ -21,23 +20,14 @@ use Rattle.cbfs_walk.specs.Shapes.{shape_fault}
 use Rattle.cbfs_walk.specs.declared.hashes.HashState.TheVariants.{Invalid}
 use Rattle.cbfs_walk.specs.CellReadings.{place_after}
 use Rattle.check_findings.specs.MapFindings.{holds_map, namesake}
-use Rattle.check_findings.specs.RegionFindings.{component_content}
-use Rattle.check_findings.specs.RegionFindings.{is_filled, region_findings, tail_bytes}
+use Rattle.check_findings.specs.RegionFindings.{is_filled, region_findings}
 use Rattle.check_findings.specs.ImageFindings.{bytes_of, image_findings, range_of}
-use Rattle.check_findings.specs.Needs.{Wish, is_met}
 use Rattle.check_findings.specs.ImageFindings.{region_areas}
 use Rattle.check_findings.specs.Verdicts.{is_bad, is_bad_region}
 
 -- ---- flash maps without findings
 
-abbrev pub Holds : Area → Area → Type 0
-Holds a b = (a.offset ≤ b.offset) × (area_end b ≤ area_end a)
-
--- the areas are disjoint, or one contains the other
-abbrev pub Nest : Area → Area → Type 0
-Nest a b = ((area_end a ≤ b.offset) ⊎ (area_end b ≤ a.offset)) ⊎ (Holds a b ⊎ Holds b a)
-
--- the areas of the map
+-- The areas of the map; an area ends before a later one begins, or contains it.
 pub record IsSound (image : List ℕ) (map : FoundMap) (areas : List NumberedArea) : Type 0 where
   pub found : found_in image ≡ Some map
   pub size : map.head.size ≡ length image
@@ -45,14 +35,15 @@ pub record IsSound (image : List ℕ) (map : FoundMap) (areas : List NumberedAre
   pub inside : All (λ a. (0 < a.area.size) × (area_end a.area ≤ length image)) areas
   pub text : All (λ a. is_utf8 (text_of a.area.name) ≡ true) areas
   pub named : All (λ a. namesake a areas ≡ Some a) areas
-  pub nested : (a b : NumberedArea) → Contains areas a → Contains areas b → Nest a.area b.area
+  pub nested : (a b : NumberedArea) → Contains areas a → Contains areas b → a.area.offset
+      < b.area.offset → (area_end a.area ≤ b.area.offset) ⊎ (area_end b.area ≤ area_end a.area)
   pub held : IsSomeAnd (find (has_name (codes "FMAP")) areas) (λ a. holds_map map a ≡ true)
 
 -- ---- regions
 
 -- each byte of the tail is 0xff or 0x00, except the region's last four
 abbrev pub IsBlankTail : ℕ → List ℕ → Type 0
-IsBlankTail at x = All (λ b. is_filled b ≡ false) (tail_bytes at x)
+IsBlankTail at x = All (λ b. is_filled b ≡ false) (slice_range x at (length x - 4))
 
 -- ---- regions and images without bad findings
 
@@ -70,18 +61,12 @@ pub record IsWhole (x : List ℕ) : Type 0 where
   pub blank : (cut x).end ≡ tail → IsBlankTail (place_after 0 (cut x).cells) x
   pub found : (c : Component) → Contains (components x) c → component_in x c.name ≡ Ok (Some c)
 
-pub record IsFit (image : List ℕ) (a : NumberedArea) : Type 0 where
-  pub reached : region_of image (text_of a.area.name) ≡ Ok (range_of a)
-  pub whole : IsWhole (bytes_of image a)
+-- its name finds the area, which is a whole region
+abbrev pub IsFit : List ℕ → NumberedArea → Type 0
+IsFit x a = (region_of x (text_of a.area.name) ≡ Ok (range_of a)) × IsWhole (bytes_of x a)
 
 -- P holds for each checked area of an image without bad findings
 abbrev pub InFitImages : (List ℕ → NumberedArea → Type 0) → Type 0
 InFitImages P = (needs : Bool) (image : List ℕ) (names expected : List (List ℕ))
     → let all = image_findings image names expected in
     list_any (is_bad needs) all ≡ false → All (P image) (region_areas all)
-
--- a search in the first checked area of the name finds the component at the position
-abbrev pub IsMet : List ℕ → List NumberedArea → Wish → Type 0
-IsMet image areas wish = IsSomeAnd (find (has_name wish.area) areas)
-    (λ a. IsOkAnd (component_in (bytes_of image a) wish.name) (λ found. IsSomeAnd found
-    (λ c. is_met wish.place (component_content c) a.area.size ≡ true)))

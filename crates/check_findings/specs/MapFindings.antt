@@ -61,10 +61,9 @@ map_area_findings map areas = let area = find (has_name (codes "FMAP")) areas in
 
 -- of a map, the next map and the areas, in an image of n bytes
 abbrev pub findings_of : ℕ → FoundMap → Option FoundMap → List NumberedArea → List MapFinding
-findings_of n map next areas = Map map
-    ∷ option_to_list (option_map OtherMap next) ++ only_if (not (map.head.size == n)) OtherSize
-    ++ flat_map (area_findings n) areas ++ flat_map (name_findings areas) areas
-    ++ overlap_findings areas ++ map_area_findings map areas
+findings_of n map next areas = Map map ∷ option_to_list (option_map OtherMap next)
+    ++ only_if (not (map.head.size == n)) OtherSize ++ flat_map (area_findings n) areas
+    ++ flat_map (name_findings areas) areas ++ overlap_findings areas ++ map_area_findings map areas
 
 unfoldable pub map_findings : List ℕ → List MapFinding
 map_findings image = option_map_or (λ (map : FoundMap). findings_of (length image) map

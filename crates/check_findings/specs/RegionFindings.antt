@@ -2,19 +2,20 @@
 use Rattle.std.specs.Prelude.{ℕ, ◌+◌, ◌-◌, ◌*◌, ◌/◌, Bool, false, not, ◌||◌}
 use Rattle.std.specs.Prelude.{List, [], ◌∷◌, ◌++◌, drop, filter, length, map, max, slice_range}
 use Rattle.std.specs.Prelude.{Option, Some, None, nat_le, is_some, ◌==◌, if◌then◌else◌}
-use Rattle.std.specs.List.{flat_map, list_any, position_from, range_with_len, scan, sum_by}
+use Rattle.std.specs.List.{filter_map, flat_map, fold, position_from, range_with_len, scan, slice_get}
+use Rattle.std.specs.Bool.{then_some}
 use Rattle.std.specs.Option.{option_map_or}
 use Rattle.std.specs.Str.{bytes_eq}
 use Rattle.flash_format.specs.Head.{head_of, is_free}
 use Rattle.flash_format.specs.Made.{algorithm}
 use Rattle.flash_format.specs.Entry.{front}
 use Rattle.flash_format.specs.Cut.{End, complete, tail, damage, cut}
-use Rattle.flash_format.specs.Components.{Component, component_at, components_from}
+use Rattle.flash_format.specs.Components.{Component, component_at}
 use Rattle.flash_format.specs.Components.{packing}
 use Rattle.cbfs_walk.specs.Hashes.{hash_state}
 use Rattle.cbfs_walk.specs.declared.hashes.HashState.{HashState}
 use Rattle.cbfs_walk.specs.declared.hashes.HashState.TheVariants as states
-use Rattle.cbfs_walk.specs.Shapes.{shape_fault, refused_or}
+use Rattle.cbfs_walk.specs.Shapes.{shape_fault}
 use Rattle.cbfs_walk.specs.CellReadings.{place_after}
 use Rattle.cbfs_walk.specs.declared.walk.WalkFault.{WalkFault}
 use Rattle.cbfs_walk.specs.declared.walk.WalkFault.TheVariants as walk
@@ -39,13 +40,10 @@ component_content c = let h = head_of c.bytes in let code = packing c.attributes
     let hash = hash_finding (hash_state c.attributes c.content) in
     record { start = c.at + h.offset; kind = h.kind; len = h.len; compression = code; hash = hash }
 
-abbrev pub component_finding : Bool → Component → RegionFinding
-component_finding shadowed c = Found c.at c.name shadowed (component_content c)
-
 -- of an entry; an empty entry of type 0 is a deleted component
 abbrev pub cell_findings : ℕ → List ℕ → List RegionFinding
 cell_findings at x = if is_free (head_of x) then only_if ((head_of x).kind == 0) (Deleted at)
-    else component_finding false (component_at at x) ∷ []
+    else let c = component_at at x in Found c.at c.name false (component_content c) ∷ []
 
 -- of entries from this offset on
 unfoldable pub cells_findings : ℕ → List (List ℕ) → List RegionFinding
@@ -53,30 +51,19 @@ cells_findings at cells = flat_map (λ l. l) (scan (λ at x. at + length x) cell
 
 -- ---- the end of the entries
 
-abbrev pub begins_with_entry : List ℕ → Bool
-begins_with_entry x = is_some (front x)
-
 -- a byte is neither erased nor cleared
 abbrev pub is_filled : ℕ → Bool
 is_filled b = not (b == 0xff || b == 0x00)
 
--- the tail at this offset, without the region's last four bytes
-abbrev pub tail_bytes : ℕ → List ℕ → List ℕ
-tail_bytes at x = slice_range x at (length x - 4)
-
--- the offset of the tail's first filled byte
+-- the offset of the tail's first filled byte, except the region's last four bytes
 abbrev pub first_filled : ℕ → List ℕ → Option ℕ
-first_filled at x = position_from is_filled at (tail_bytes at x)
+first_filled at x = position_from is_filled at (slice_range x at (length x - 4))
 
--- of the entries at n offsets in steps of 64
-abbrev pub entries_findings : ℕ → ℕ → List ℕ → List RegionFinding
-entries_findings n at x = map findings.TailEntry
-    (filter (λ p. begins_with_entry (drop p x)) (map (λ i. at + 64 * i) (range_with_len 0 n)))
-
--- of the tail, its first filled byte, and entries; a blank tail has no entries
+-- of the tail, its first filled byte, and entries in steps of 64; a blank tail has no entries
 unfoldable pub tail_findings : ℕ → List ℕ → List RegionFinding
 tail_findings at x = findings.Tail at ∷ option_map_or (λ place. findings.TailFilled place
-    ∷ entries_findings ((length x - at) / 64) at x) (first_filled at x) []
+    ∷ map findings.TailEntry (filter (λ p. is_some (front (drop p x)))
+    (map (λ i. at + 64 * i) (range_with_len 0 ((length x - at) / 64))))) (first_filled at x) []
 
 -- of the end of the entries
 abbrev pub end_findings : List ℕ → ℕ → End → List RegionFinding
@@ -92,57 +79,49 @@ shape_findings _ = []
 
 -- ---- counts
 
--- the usable bytes of an empty run: four less at the end of the region
-abbrev pub usable : ℕ → ℕ → ℕ → ℕ
-usable size start end = end - start - (if end == size then 4 else 0)
-
--- the most usable bytes of an empty run; the first run begins at `start`, the list at `at`
-unfoldable pub largest_room : ℕ → ℕ → ℕ → List (List ℕ) → ℕ
-largest_room size start at [] = usable size start at
-largest_room size start at (x ∷ cells) =
-    let end = at + length x in if is_free (head_of x) then largest_room size start end cells
-    else max (usable size start at) (largest_room size end end cells)
-
--- no counts, before the first entry of a region of this size
-abbrev pub nothing : ℕ → Count
-nothing size = record { size = size; components = 0; free = 0; start = 0; room = 0 }
+-- the most usable bytes of an empty run, if the entries end here: all but the region's last four
+abbrev pub usable_room : Count → ℕ
+usable_room n = max n.room (n.at - n.start - (if n.at == n.size then 4 else 0))
 
 -- after an entry of this length
-abbrev pub count_after : Count → Bool → ℕ → ℕ → Count
-count_after n free at len = let room = max n.room (usable n.size n.start at) in
-    if free then record n { free = n.free + len }
-    else record n { components = n.components + 1; room = room; start = at + len }
+abbrev pub count_after : Count → Bool → ℕ → Count
+count_after n free len = let end = n.at + len in let room = usable_room n in
+    if free then record n { at = end; free = n.free + len }
+    else record n { at = end; components = n.components + 1; room = room; start = end }
 
--- of these counts, and cells from `at` on. In `room` bytes, 28 bytes hold the header and a name of
--- at most 3 bytes with its NUL.
-abbrev pub count_findings : Count → ℕ → List (List ℕ) → List RegionFinding
-count_findings n at cells = let room = max n.room (largest_room n.size n.start at cells) in
-    findings.Components (n.components + length (components_from at cells))
-    ∷ findings.FreeBytes (n.free + sum_by length (filter (λ x. is_free (head_of x)) cells))
-    ∷ findings.LargestContent (if nat_le 28 room then Some (room - 28) else None) ∷ []
+-- after these entries of a region of this size
+abbrev pub entry_counts : ℕ → List (List ℕ) → Count
+entry_counts size = fold (λ n x. count_after n (is_free (head_of x)) (length x))
+    (record { size = size; at = 0; components = 0; free = 0; start = 0; room = 0 })
+
+-- In the room, 28 bytes hold the header and a name of at most 3 bytes with its NUL.
+abbrev pub count_findings : Count → List RegionFinding
+count_findings n = findings.Components n.components ∷ findings.FreeBytes n.free
+    ∷ findings.LargestContent (then_some (nat_le 28 (usable_room n)) (usable_room n - 28)) ∷ []
 
 -- ---- the region
 
 -- a bad shape alone, or the findings of the entries, of their end, and of the counts
 unfoldable pub walk_findings : List ℕ → List RegionFinding
-walk_findings x = refused_or shape_findings (shape_fault x) (cells_findings 0 (cut x).cells
+walk_findings x = option_map_or shape_findings (shape_fault x) (cells_findings 0 (cut x).cells
     ++ (end_findings x (place_after 0 (cut x).cells) (cut x).end
-    ++ count_findings (nothing (length x)) 0 (cut x).cells))
+    ++ count_findings (entry_counts (length x) (cut x).cells)))
 
 -- ---- shadowed components
 
-abbrev pub is_named : List ℕ → RegionFinding → Bool
-is_named name (Found at other is content) = bytes_eq name other
-is_named name _ = false
+abbrev pub content_named : List ℕ → RegionFinding → Option Content
+content_named name (Found at other is c) = if bytes_eq other name then Some c else None
+content_named name _ = None
+
+-- the first content of this name
+abbrev pub first_content : List ℕ → List RegionFinding → Option Content
+first_content name findings = slice_get (filter_map (content_named name) findings) 0
 
 -- a component is shadowed if an earlier component has its name
 abbrev pub marked : List RegionFinding → RegionFinding → RegionFinding
-marked earlier (Found at name is c) = Found at name (is || list_any (is_named name) earlier) c
+marked earlier (Found at name is c) = Found at name (is || is_some (first_content name earlier)) c
 marked earlier other = other
-
-unfoldable pub all_marked : List RegionFinding → List RegionFinding → List RegionFinding
-all_marked earlier all = scan (λ earlier finding. finding ∷ earlier) marked earlier all
 
 -- of the walk, with marks
 unfoldable pub region_findings : List ℕ → List RegionFinding
-region_findings x = all_marked [] (walk_findings x)
+region_findings x = scan (λ earlier finding. finding ∷ earlier) marked [] (walk_findings x)

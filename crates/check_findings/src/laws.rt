@@ -1,19 +1,24 @@
 //! Laws about findings, as contracts of functions without effect.
-ghost use Rattle.std.specs.Prelude.{◌≡◌, ◌↔◌, ℕ, List, [], ◌∷◌, Contains, None, Ok, Some, true};
+ghost use Rattle.std.specs.Prelude.{◌≡◌, ◌↔◌, ℕ, List, [], ◌∷◌, Contains, IsOkAnd, IsSomeAnd, None, Ok, Some, length, true};
+ghost use Rattle.std.specs.List.{filter, find, sum_by};
+ghost use Rattle.flash_format.specs.Cut.{cut};
+ghost use Rattle.flash_format.specs.Head.{head_of, is_free};
 ghost use Rattle.flash_format.specs.Components.{Component, components};
 ghost use Rattle.cbfs_walk.specs.Search.{component_in};
 ghost use Rattle.cbfs_walk.specs.Shapes.{shape_fault};
 ghost use Rattle.flash_map.specs.declared.search.FoundMap.{FoundMap};
-ghost use Rattle.flash_map.specs.Areas.{map_areas};
+ghost use Rattle.flash_map.specs.Areas.{has_name, map_areas};
 ghost use Rattle.check_findings.specs.declared.map.finding.MapFinding.TheVariants.{Map};
 ghost use Rattle.check_findings.specs.declared.region.finding.RegionFinding.TheVariants.{Tail};
+ghost use Rattle.check_findings.specs.declared.region.finding.RegionFinding.TheVariants as findings;
 ghost use Rattle.check_findings.specs.MapFindings.{map_findings};
-ghost use Rattle.check_findings.specs.RegionFindings.{component_finding, region_findings};
-ghost use Rattle.check_findings.specs.RegionFindings.{tail_findings};
-ghost use Rattle.check_findings.specs.ImageFindings.{image_findings};
+ghost use Rattle.check_findings.specs.RegionFindings.{component_content, region_findings};
+ghost use Rattle.check_findings.specs.RegionFindings.{entry_counts, tail_findings};
+ghost use Rattle.check_findings.specs.ImageFindings.{bytes_of, image_findings};
 ghost use Rattle.check_findings.specs.ImageFindings.{region_areas};
-ghost use Rattle.check_findings.specs.Needs.{Wish, unmet};
-ghost use Rattle.check_findings.specs.Laws.{InFitImages, IsBlankTail, IsMet, IsSound};
+ghost use Rattle.check_findings.specs.Needs.{is_met, unmet};
+ghost use Rattle.check_findings.specs.declared.image.needs.Need.{Need};
+ghost use Rattle.check_findings.specs.Laws.{InFitImages, IsBlankTail, IsSound};
 ghost use Rattle.check_findings.specs.Laws.{InFitRegions, IsFit, IsWhole};
 
 /// If a map has no finding but its position, it has the image's size, and no later map exists. Each
@@ -27,7 +32,7 @@ pub fn clean_maps_are_sound()
 /// In a region of a good size with a first entry, a search finds each unshadowed component by name.
 pub fn unshadowed_components_are_found()
     ensures { (x : List ℕ) (c : Component) → shape_fault x ≡ None → Contains (components x) c →
-        ¬ Contains (region_findings x) (component_finding true c) →
+        ¬ Contains (region_findings x) (findings.Component c.at c.name true (component_content c)) →
         component_in x c.name ≡ Ok (Some c) }
 {}
 
@@ -35,6 +40,14 @@ pub fn unshadowed_components_are_found()
 /// 0xff or 0x00.
 pub fn blank_tails_are_known()
     ensures { (at : ℕ) (x : List ℕ) → IsBlankTail at x ↔ (tail_findings at x ≡ Tail at ∷ []) }
+{}
+
+/// The counts of a region's entries are the number of its components and the bytes of its free
+/// cells.
+pub fn counts_are_of_the_entries()
+    ensures { (x : List ℕ) → let n = entry_counts (length x) (cut x).cells in
+        (n.components ≡ length (components x)) × (n.free ≡ sum_by length
+        (filter (λ c. is_free (head_of c)) (cut x).cells)) }
 {}
 
 /// A region without bad findings has a good size, a first entry, no damaged entry, matching digests
@@ -51,7 +64,9 @@ pub fn fit_images_are_whole()
 
 /// If the findings meet a need, a search in its area finds its component at the required position.
 pub fn needs_are_there()
-    ensures { (image : List ℕ) (names expected : List (List ℕ)) (wish : Wish) →
-        let all = image_findings image names expected in
-        unmet all wish ≡ None → IsMet image (region_areas all) wish }
+    ensures { (image : List ℕ) (names expected : List (List ℕ)) (need : Need) →
+        let all = image_findings image names expected in unmet all need ≡ None
+        → IsSomeAnd (find (has_name need.area.now) (region_areas all)) (λ a. IsOkAnd
+        (component_in (bytes_of image a) need.name.now) (λ found. IsSomeAnd found
+        (λ c. is_met need.place (component_content c) a.area.size ≡ true))) }
 {}

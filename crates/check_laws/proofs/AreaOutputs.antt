@@ -1,15 +1,26 @@
 -- The output of commands on whole regions.
 use Rattle.std.proofs.Common.{◌≡◌, ◌≢◌, ℕ, Bool, List, None, Ok, refl}
+use Rattle.std.specs.Prelude.{Contains}
+use Rattle.flash_format.specs.Components.{Component, components}
+use Rattle.flash_format.specs.Flashmap.{text_of}
+use Rattle.check_findings.specs.ImageFindings.{bytes_of}
 use Rattle.flash_format.specs.declared.head.DamageKind.{DamageKind}
 use Rattle.flash_format.specs.Cut.{End, complete, tail, damage, cut}
 use Rattle.flash_map.specs.declared.areas.NumberedArea.{NumberedArea}
 use Rattle.cbfs_walk.specs.Search.{not_found}
 use Rattle.cbfs_walk.specs.CellReadings.{place_after}
 use Rattle.check_findings.specs.Laws.{IsFit, IsWhole}
-use Rattle.cbfs_commands.specs.Outcomes.{print_region}
-use Rattle.cbfs_commands.specs.Printouts.{shows}
+use Rattle.cbfs_commands.specs.Outcomes.{extract_region, print_region, printed_component, printed_in}
+use Rattle.cbfs_commands.specs.Outcomes.{shows}
 use Rattle.cbfs_commands.specs.Rows.{rows_from}
-use Rattle.check_laws.specs.Laws.{IsExtracted, IsListed}
+
+abbrev pub IsListed : List ℕ → NumberedArea → Type 0
+IsListed image a = (verbose : Bool) → printed_in image (text_of a.area.name)
+    (λ x. print_region x verbose) ≡ shows (rows_from verbose 0 (cut (bytes_of image a)).cells)
+
+abbrev pub IsExtracted : List ℕ → NumberedArea → Type 0
+IsExtracted image a = (c : Component) → Contains (components (bytes_of image a)) c
+    → printed_in image (text_of a.area.name) (λ x. extract_region x c.name) ≡ printed_component c
 
 undamaged : (at : ℕ) (end : End) → ((kind : DamageKind) → end ≢ damage kind) → not_found at end ≡ Ok None
 undamaged at complete whole = refl
@@ -21,7 +32,7 @@ unfolding print_region
 whole_region x verbose whole = rw (whole.shaped, undamaged (place_after 0 (cut x).cells) (cut x).end whole.undamaged) refl
 
 pub listed_area : (image : List ℕ) (a : NumberedArea) → IsFit image a → IsListed image a
-listed_area image a fit verbose = rw fit.reached (whole_region _ verbose fit.whole)
+listed_area image a fit verbose = rw fit.0 (whole_region _ verbose fit.1)
 
 pub extracted_area : (image : List ℕ) (a : NumberedArea) → IsFit image a → IsExtracted image a
-extracted_area image a fit c there = rw (fit.reached, fit.whole.found c there) refl
+extracted_area image a fit c there = rw (fit.0, fit.1.found c there) refl

@@ -1,6 +1,6 @@
 -- The largest reported content is the longest content with a first place.
-use Rattle.std.proofs.Common.{◌≡◌, ℕ, ◌+◌, ◌-◌, ◌≤◌, ◌⊎◌, inl, inr, zero, suc, Bool, false, List, [], ◌∷◌, ◌++◌, length, Option, Some, None, Contains, refl, sym, ap, subst, ◌∙◌, arith}
-use Rattle.std.specs.Prelude.{◌||◌, is_some, max, nat_le}
+use Rattle.std.proofs.Common.{◌≡◌, ℕ, ◌+◌, ◌-◌, ◌≤◌, ◌⊎◌, inl, inr, zero, suc, Bool, true, false, cond, List, [], ◌∷◌, ◌++◌, length, Option, Some, None, Contains, refl, sym, ap, subst, ◌∙◌, arith}
+use Rattle.std.specs.Prelude.{◌==◌, ◌||◌, is_some, max, nat_le}
 use Rattle.std.specs.List.{cons_option, filter_map, slice_get}
 use Rattle.std.proofs.lemmas.Bool.{le-leb, leb-true}
 use Rattle.std.proofs.lemmas.Bool.Decides.{nat_tests}
@@ -10,15 +10,31 @@ use Rattle.cbfs_walk.specs.Shapes.{shape_fault}
 use Rattle.cbfs_walk.specs.CellReadings.{place_after}
 use Rattle.cbfs_edit.specs.Places.{first_place, place_in}
 use Rattle.cbfs_edit.specs.Removals.{by_rows}
-use Rattle.cbfs_edit.specs.Runs.{add_run, runs, runs_from}
+use Rattle.cbfs_edit.specs.Places.{add_run, runs, runs_from}
 use Rattle.cbfs_edit.specs.declared.group.CellRange.{CellRange}
 use Rattle.cbfs_edit.specs.declared.place.Place.{Place}
-use Rattle.check_findings.specs.RegionFindings.{largest_room, usable}
-use Rattle.check_findings.specs.RegionFindings.{all_marked, cells_findings, count_findings, end_findings, marked, nothing, region_findings, walk_findings}
+use Rattle.std.specs.List.{fold}
+use Rattle.flash_format.specs.Head.{head_of, is_free}
+use Rattle.check_findings.specs.declared.region.count.Count.{Count}
+use Rattle.check_findings.specs.RegionFindings.{cells_findings, count_after, count_findings, end_findings, entry_counts, marked, region_findings, usable_room, walk_findings}
 use Rattle.check_findings.specs.declared.region.finding.RegionFinding.{RegionFinding}
 use Rattle.check_findings.specs.declared.region.finding.RegionFinding.TheVariants.{Component, LargestContent}
 use Rattle.check_findings.proofs.RegionLemmas.Parts.{IsIn, cell_part, end_part, of_cells, of_end}
-use Rattle.check_laws.specs.Laws.{LargestContentIsTaken, IsTaken, IsWithinLargest, content_of}
+use Rattle.cbfs_edit.specs.declared.place.Wanted.{Wanted}
+use Rattle.cbfs_edit.specs.declared.place.Spot.TheVariants.{First}
+use Rattle.std.specs.Prelude.{◌↔◌}
+use Rattle.check_findings.proofs.RegionLemmas.PartNames.{all_marked}
+
+abbrev content_of : ℕ → Wanted
+content_of n = record { metadata_len = 28; len = n; spot = First }
+
+-- `add` has a place for n bytes, the first with room
+abbrev IsTaken : List ℕ → ℕ → Type 0
+IsTaken x n = is_some (first_place (content_of n) (length x) (runs x)) ≡ true
+
+-- the largest reported content has at least n bytes
+abbrev IsWithinLargest : List ℕ → ℕ → Type 0
+IsWithinLargest x n = (largest : ℕ) × Contains (region_findings x) (LargestContent (Some largest)) × (n ≤ largest)
 
 module _ (size n : ℕ) where
   abbrev place_of : CellRange → Option Place
@@ -27,36 +43,42 @@ module _ (size n : ℕ) where
   abbrev has_place : List CellRange → Bool
   has_place all = is_some (slice_get (filter_map place_of all) 0)
 
+  abbrev usable : ℕ → ℕ → ℕ
+  usable start end = end - start - cond (end == size) 4 0
+
   abbrev enough : ℕ → Bool
   enough room = nat_le (28 + n) room
 
-  in_run : (start end : ℕ) → is_some (place_of (record { start = start; end = end })) ≡ enough (usable size start end)
+  in_run : (start end : ℕ) → is_some (place_of (record { start = start; end = end })) ≡ enough (usable start end)
   in_run start end = grind (arith, nat_tests)
 
   first_or : (o : Option Place) (later : List Place) → is_some (slice_get (cons_option o later) 0) ≡ (is_some o || is_some (slice_get later 0))
   first_or None later = refl
   first_or (Some place) later = refl
 
-  no_run : (start end : ℕ) → end ≤ start → enough (usable size start end) ≡ false
+  no_run : (start end : ℕ) → end ≤ start → enough (usable start end) ≡ false
   no_run start end over = grind (arith, nat_tests)
 
-  run_or : (start end : ℕ) (later : List CellRange) → has_place (add_run start end later) ≡ (enough (usable size start end) || has_place later)
+  run_or : (start end : ℕ) (later : List CellRange) → has_place (add_run start end later) ≡ (enough (usable start end) || has_place later)
   run_or start end later = grind (arith, nat_tests, in_run, no_run, first_or)
 
   enough_max : (a b : ℕ) → enough (max a b) ≡ (enough a || enough b)
   enough_max a b = grind (arith, nat_tests)
 
+  count_all : Count → List (List ℕ) → Count
+  count_all = fold (λ (c : Count) x. count_after c (is_free (head_of x)) (length x))
+
   -- a run has a place if the content fits the most usable bytes of a run
-  among : (start at : ℕ) (cells : List (List ℕ)) → has_place (runs_from start at cells) ≡ enough (largest_room size start at cells)
-  unfolding by_rows largest_room
-  among start at [] = grind (arith, nat_tests, run_or start at [])
-  among start at (x ∷ cells) =
-      let end = at + length x in
-      let longer = among start end cells in
-      let later = among end end cells in
-      let closed = run_or start at (runs_from end end cells) in
-      let most = enough_max (usable size start at) (largest_room size end end cells) in
-      grind (arith, nat_tests, longer, later, closed, most)
+  among : (c : Count) (cells : List (List ℕ)) → c.size ≡ size → (enough c.room || has_place (runs_from c.start c.at cells)) ≡ enough (usable_room (count_all c cells))
+  unfolding by_rows count_all
+  among c [] same = let most = enough_max c.room (usable c.start c.at) in grind (arith, nat_tests, run_or c.start c.at [], most, same)
+  among c (x ∷ cells) same =
+      let end = c.at + length x in
+      let longer = among (count_after c true (length x)) cells same in
+      let later = among (count_after c false (length x)) cells same in
+      let closed = run_or c.start c.at (runs_from end end cells) in
+      let most = enough_max c.room (usable c.start c.at) in
+      grind (arith, nat_tests, longer, later, closed, most, same)
 
 -- marks change no other finding than a component
 module _ (m : ℕ) where
@@ -78,7 +100,7 @@ module _ (m : ℕ) where
 
 module _ (x : List ℕ) (good : shape_fault x ≡ None) where
   abbrev room : ℕ
-  room = max 0 (largest_room (length x) 0 0 (cut x).cells)
+  room = usable_room (entry_counts (length x) (cut x).cells)
 
   of_all : List RegionFinding
   of_all = cells_findings 0 (cut x).cells
@@ -86,8 +108,8 @@ module _ (x : List ℕ) (good : shape_fault x ≡ None) where
   last : List RegionFinding
   last = end_findings x (place_after 0 (cut x).cells) (cut x).end
 
-  whole : region_findings x ≡ all_marked [] (of_all ++ (last ++ count_findings (nothing (length x)) 0 (cut x).cells))
-  unfolding region_findings walk_findings of_all last
+  whole : region_findings x ≡ all_marked [] (of_all ++ (last ++ count_findings (entry_counts (length x) (cut x).cells)))
+  unfolding all_marked region_findings walk_findings of_all last
   whole = rw good refl
 
   reported : 28 ≤ room → Contains (region_findings x) (LargestContent (Some (room - 28)))
@@ -96,7 +118,7 @@ module _ (x : List ℕ) (good : shape_fault x ≡ None) where
       (stays (room - 28) [] _ (Contains-append_right of_all _ _ (Contains-append_right last _ _ (2, omega arith, rw (le-leb 28 room fits) refl))))
 
   -- the length and 28 bytes are the room
-  by_counts : (m : ℕ) → Contains (count_findings (nothing (length x)) 0 (cut x).cells) (LargestContent (Some m)) → 28 + m ≡ room
+  by_counts : (m : ℕ) → Contains (count_findings (entry_counts (length x) (cut x).cells)) (LargestContent (Some m)) → 28 + m ≡ room
   by_counts m (zero, below, is) = absurd cc
   by_counts m (suc zero, below, is) = absurd cc
   by_counts m (suc (suc zero), below, is) = grind (arith, nat_tests)
@@ -106,24 +128,25 @@ module _ (x : List ℕ) (good : shape_fault x ≡ None) where
   unfolding of_all last
   found m has = go (Contains-append_cases of_all _ _ (was_there m [] _ (subst (λ l. Contains l (LargestContent (Some m))) whole has)))
     where
-      later : Contains last (LargestContent (Some m)) ⊎ Contains (count_findings (nothing (length x)) 0 (cut x).cells) (LargestContent (Some m)) → 28 + m ≡ room
+      later : Contains last (LargestContent (Some m)) ⊎ Contains (count_findings (entry_counts (length x) (cut x).cells)) (LargestContent (Some m)) → 28 + m ≡ room
       later (inl there) = absurd (let is : IsIn end_part (LargestContent (Some m)) = All-contains (IsIn end_part) last (LargestContent (Some m)) (of_end x (place_after 0 (cut x).cells) (cut x).end) there in cc)
       later (inr there) = by_counts m there
 
-      go : Contains of_all (LargestContent (Some m)) ⊎ Contains (last ++ count_findings (nothing (length x)) 0 (cut x).cells) (LargestContent (Some m)) → 28 + m ≡ room
+      go : Contains of_all (LargestContent (Some m)) ⊎ Contains (last ++ count_findings (entry_counts (length x) (cut x).cells)) (LargestContent (Some m)) → 28 + m ≡ room
       go (inl there) = absurd (let is : IsIn cell_part (LargestContent (Some m)) = All-contains (IsIn cell_part) of_all (LargestContent (Some m)) (of_cells 0 (cut x).cells) there in cc)
       go (inr there) = later (Contains-append_cases last _ _ there)
 
   is_taken : (n : ℕ) → is_some (first_place (content_of n) (length x) (runs x)) ≡ nat_le (28 + n) room
-  is_taken n = among (length x) n 0 0 (cut x).cells ∙ ap (nat_le (28 + n)) {x = largest_room (length x) 0 0 (cut x).cells} {y = room} (omega arith)
+  unfolding count_all
+  is_taken n = let all = among (length x) n (entry_counts (length x) []) (cut x).cells refl in grind (arith, nat_tests, all)
 
   taken : (n : ℕ) → IsTaken x n → IsWithinLargest x n
   taken n is =
       let fits : 28 + n ≤ room = leb-true (28 + n) room (sym (is_taken n) ∙ is) in
-      record { largest = room - 28; reported = reported (omega (arith, fits)); enough = omega (arith, fits) }
+      (room - 28, reported (omega (arith, fits)), omega (arith, fits))
 
   within : (n : ℕ) → IsWithinLargest x n → IsTaken x n
-  within n is = is_taken n ∙ le-leb (28 + n) room (omega (arith, found is.largest is.reported, is.enough))
+  within n (largest, is_reported, enough) = is_taken n ∙ le-leb (28 + n) room (omega (arith, found largest is_reported, enough))
 
-pub largest_content : LargestContentIsTaken
+pub largest_content : (x : List ℕ) (n : ℕ) → shape_fault x ≡ None → IsTaken x n ↔ IsWithinLargest x n
 largest_content x n good = (taken x good n, within x good n)

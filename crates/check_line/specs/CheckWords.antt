@@ -1,23 +1,24 @@
 -- The arguments of cbfscheck by clap's definitions, and their requests.
 use Rattle.std.specs.Prelude.{ℕ, Bool, true, false, not, List, [], ◌∷◌, length, map, take, ◌<◌}
 use Rattle.std.specs.Prelude.{◌≤◌, ◌==◌, ◌&&◌, ◌||◌, ◌≡◌, ◌≢◌, ◌⊎◌, ⊤, Option, Some, None, is_some}
-use Rattle.std.specs.Prelude.{is_none, option_map, Result, Ok, Err, MatchOption, if◌then◌else◌}
+use Rattle.std.specs.Prelude.{is_none, option_and_then, option_map, Result, Ok, Err, MatchOption, if◌then◌else◌}
 use Rattle.std.specs.Prelude.{find, take_while, filter_map, slice_get, nat_eq, nat_lt}
 use Rattle.std.specs.Borrow.{Bor}
-use Rattle.std.specs.List.{list_any, slice_split, starts_with}
+use Rattle.std.specs.List.{after_first, before_first, list_any, slice_split, starts_with}
 use Rattle.std.specs.Option.{option_copied, option_map_or, option_or}
+use Rattle.std.specs.Path.{rsplit_once}
 use Rattle.std.specs.Str.{bytes_eq}
 use Prim.Native.String.{String}
 use lib.Chars.{codes}
-use Rattle.clap.specs.Words.{App, IsAmong, Row, Rule, fault_of, first_of, found_of}
-use Rattle.clap.specs.Words.{matches_of, new_rule, rows_of}
+use Rattle.flash_format.specs.Numbers.{number_of}
+use Rattle.clap.specs.Words.{App, IsAmong, Row, Rule, fault_of, first_of, matches_of, new_rule}
 use Rattle.clap.specs.Simple.{new_shape}
 use Rattle.clap.specs.declared.builder.action.ArgAction.TheVariants.{SetTrue}
 use Rattle.clap.specs.declared.error.kind.ErrorKind.{ErrorKind}
 use Rattle.clap.specs.declared.error.kind.ErrorKind.TheVariants as reason
-use Rattle.clap.specs.declared.parser.matches.ArgMatches.{ArgMatches}
 use Rattle.check_findings.specs.Needs.{wish_of}
-use Rattle.check_line.specs.Needs.{need_in}
+use Rattle.check_findings.specs.declared.image.needs.NeededPlace.{NeededPlace}
+use Rattle.check_findings.specs.declared.image.needs.NeededPlace.TheVariants.{Any, At, End}
 use Rattle.check_line.specs.declared.fault.LineFault.{LineFault}
 use Rattle.check_line.specs.declared.fault.LineFault.TheVariants.{Word, NoImage, NoNewImage, Memory}
 use Rattle.check_line.specs.declared.fault.WordFault.{WordFault}
@@ -31,10 +32,6 @@ Words = List (Bor (List ℕ))
 
 abbrev pub texts : Words → List (List ℕ)
 texts words = map (λ (word : Bor (List ℕ)). word.now) words
-
--- `-C VALUE`
-abbrev pub short_option : ℕ → List ℕ → Rule
-short_option c id = record (new_rule id) { short = Some c }
 
 -- `--NAME VALUE`
 abbrev pub long_option : List ℕ → Rule
@@ -50,13 +47,33 @@ check_words = record {
   top = record (new_shape (codes "cbfscheck")) {
     no_binary_name = true;
     rules = new_rule (codes "image") ∷ new_rule (codes "new")
-        ∷ short_option 114 (codes "areas") ∷ flag (short_option 118 (codes "verbose"))
+        ∷ record (new_rule (codes "areas")) { short = Some 114 }
+        ∷ flag (record (new_rule (codes "verbose")) { short = Some 118 })
         ∷ flag (long_option (codes "json")) ∷ flag (long_option (codes "list"))
         ∷ long_option (codes "keep") ∷ flag (long_option (codes "keep-preserved"))
         ∷ flag (long_option (codes "all-hashed")) ∷ long_option (codes "need") ∷ [];
   };
   subs = [];
 }
+
+-- ---- the required component of `--need`: AREA:NAME, or AREA:NAME@OFFSET
+
+-- `end`, or a number
+abbrev pub needed_place : List ℕ → Option NeededPlace
+needed_place offset = if bytes_eq offset (codes "end") then Some End
+    else option_map At (number_of offset)
+
+-- a place only after an `@` (64)
+abbrev pub named_in : List ℕ → Option (List ℕ × NeededPlace)
+named_in text = option_map_or (λ parts. option_map (λ place. (parts.0, place))
+    (needed_place parts.1)) (rsplit_once 64 text) (Some (text, Any))
+
+-- The area ends at the first colon (58); without a colon, the name is empty. Area and name aren't
+-- empty.
+abbrev pub need_in : List ℕ → Option (List ℕ × List ℕ × NeededPlace)
+need_in text = let area = before_first (λ b. b == 58) text in option_and_then
+    (λ named. if length named.0 == 0 || length area == 0 then None
+    else Some (area, named.0, named.1)) (named_in (after_first (λ b. b == 58) text))
 
 -- ---- the options
 
@@ -130,12 +147,6 @@ abbrev pub Spares : ErrorKind → Words → Type 0
 Spares kind words = IsAccepted words
     ⊎ ((other : ErrorKind) × (other ≢ kind) × IsRefusedFor other words)
 
--- clap's matches, or the kind of its error
-abbrev pub IsParsed : Words → Result ArgMatches ErrorKind → Type 0
-IsParsed words (Ok matches) = IsAccepted words
-    × (rows_of (found_of matches) ≡ matches_of check_words (texts words))
-IsParsed words (Err kind) = (kind ≡ reason.OutOfMemory) ⊎ IsRefusedFor kind words
-
 -- Earlier arguments alone aren't refused for this reason. With this argument, and any number of
 -- later ones, they are.
 pub record IsWrong (kind : ErrorKind) (words : Words) (word : Bor (List ℕ)) : Type 0 where
@@ -154,18 +165,11 @@ word_fault kind word = if starts_with nat_eq word (codes "-") && nat_lt 1 (lengt
 
 -- ---- the result
 
-abbrev pub is_request : Bor (List ℕ) → Bool
-is_request word = bytes_eq word.now (codes "-h") || bytes_eq word.now (codes "--help")
-    || bytes_eq word.now (codes "--version")
-
 -- the first argument for the help or the version, before `--`, which ends the options
 abbrev pub request_in : Words → Option (Bor (List ℕ))
-request_in words = find is_request (take_while (λ word. not (bytes_eq word.now (codes "--"))) words)
-
--- by clap's matches
-abbrev pub IsInvocation : List Row → Invocation → Type 0
-IsInvocation rows (Check line) = IsLineOf rows line
-IsInvocation rows asked = ⊥
+request_in words =
+    find (λ word. list_any (bytes_eq word.now) (map codes ("-h" ∷ "--help" ∷ "--version" ∷ [])))
+    (take_while (λ word. not (bytes_eq word.now (codes "--"))) words)
 
 -- for arguments refused by clap, or with help as the result
 abbrev pub IsRefusal : Words → Result Invocation LineFault → Type 0
@@ -178,6 +182,7 @@ IsRefusal words result = ⊥
 -- for the arguments after the program's name: by clap's definitions, or the requested text
 abbrev pub Answers : Words → Result Invocation LineFault → Type 0
 Answers words result = let rows = matches_of check_words (texts words) in
-    MatchOption (request_in words) ((IsAccepted words
-    × Gives (complaint_in rows) (IsInvocation rows) result) ⊎ IsRefusal words result)
+    MatchOption (request_in words) ((IsAccepted words × Gives (complaint_in rows)
+    (λ asked. (line : CheckLine) × (asked ≡ Check line) × IsLineOf rows line) result)
+    ⊎ IsRefusal words result)
     (λ word. result ≡ Ok (if bytes_eq word.now (codes "--version") then Version else Help))

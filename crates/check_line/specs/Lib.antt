@@ -1,2 +1,1 @@
 pub mod CheckWords
-pub mod Needs

@@ -5,9 +5,8 @@ ghost use Rattle.std.specs.Option.{option_copied};
 ghost use Rattle.std.specs.List.{list_any};
 ghost use Rattle.clap.specs.Words.{first_of, found_of, rows_of};
 ghost use Rattle.check_findings.specs.Needs.{wish_of};
-ghost use Rattle.check_line.specs.CheckWords.{Gives, IsInvocation, bad_areas, bad_need, complaint_in};
-ghost use Rattle.check_line.specs.CheckWords.{is_set, parts_of, texts};
-ghost use Rattle.check_line.specs.Needs.{need_in};
+ghost use Rattle.check_line.specs.CheckWords.{Gives, IsLineOf, bad_areas, bad_need, complaint_in};
+ghost use Rattle.check_line.specs.CheckWords.{is_set, need_in, parts_of, texts};
 
 use crate::fault::{LineFault, WordFault};
 use crate::need::need_of;
@@ -119,10 +118,10 @@ fn is_set(matches: &ArgMatches<'_>, id: &str) -> bool
     text(matches, id).is_some_and(|text| text == "true")
 }
 
-/// Returns the request of clap's matches. Refuses missing images and bad lists.
-pub fn line_of<'a>(alloc: Global, matches: &ArgMatches<'a>) -> Result<Invocation<'a>, LineFault<'a>>
+/// Returns the check of clap's matches. Refuses missing images and bad lists.
+pub fn line_of<'a>(alloc: Global, matches: &ArgMatches<'a>) -> Result<CheckLine<'a>, LineFault<'a>>
     ensures { Gives (complaint_in (rows_of (found_of matches.now)))
-        (IsInvocation (rows_of (found_of matches.now))) result }
+        (IsLineOf (rows_of (found_of matches.now))) result }
 {
     let (new_image, keep) = (text(matches, "new"), text(matches, "keep"));
     let keeps_preserved = is_set(matches, "keep-preserved");
@@ -132,7 +131,7 @@ pub fn line_of<'a>(alloc: Global, matches: &ArgMatches<'a>) -> Result<Invocation
     if (keep.is_some() || keeps_preserved) && new_image.is_none() {
         return Err(LineFault::NoNewImage);
     }
-    Ok(Invocation::Check(CheckLine {
+    Ok(CheckLine {
         image,
         new_image,
         areas: names_given(alloc, text(matches, "areas"))?,
@@ -143,5 +142,5 @@ pub fn line_of<'a>(alloc: Global, matches: &ArgMatches<'a>) -> Result<Invocation
         keeps_preserved,
         needs_hashes: is_set(matches, "all-hashed"),
         needs: needs_given(alloc, text(matches, "need"))?,
-    }))
+    })
 }

@@ -3,7 +3,7 @@
 ghost use Rattle.std.specs.Path.{rsplit_once};
 ghost use Rattle.std.specs.Prelude.{◌≡◌, option_map};
 ghost use Rattle.check_findings.specs.Needs.{wish_of};
-ghost use Rattle.check_line.specs.Needs.{named_in, need_in, needed_place};
+ghost use Rattle.check_line.specs.CheckWords.{named_in, need_in, needed_place};
 
 use check_findings::{Need, NeededPlace};
 use flash_format::read_number;

@@ -1,8 +1,10 @@
 //! Parses the arguments, and finds the wrong argument.
 
-ghost use Rattle.std.specs.Prelude.{◌≡◌, IfOk, MatchBool};
-ghost use Rattle.check_line.specs.CheckWords.{Answers, IsWrong, IsParsed, IsRefusedFor, Spares};
-ghost use Rattle.check_line.specs.CheckWords.{request_in, word_fault};
+ghost use Rattle.std.specs.Prelude.{◌≡◌, ◌⊎◌, IfOk, MatchBool, MatchResult};
+ghost use Rattle.clap.specs.Words.{found_of, matches_of, rows_of};
+ghost use Rattle.clap.specs.declared.error.kind.ErrorKind.TheVariants.{OutOfMemory};
+ghost use Rattle.check_line.specs.CheckWords.{Answers, IsAccepted, IsRefusedFor, IsWrong, Spares};
+ghost use Rattle.check_line.specs.CheckWords.{check_words, request_in, texts, word_fault};
 
 use crate::fault::{LineFault, WordFault};
 use crate::line::{Invocation, line_of};
@@ -24,7 +26,9 @@ fn request_in<'a>(words: &'a [&'a str]) -> Option<&'a str>
 
 /// Returns clap's matches, or the kind of its error.
 fn parse<'a>(alloc: Global, words: &'a [&'a str]) -> Result<ArgMatches<'a>, ErrorKind>
-    ensures { IsParsed words.entry.now result }
+    ensures { MatchResult result (λ matches. IsAccepted words.entry.now
+        × (rows_of (found_of matches) ≡ matches_of check_words (texts words.entry.now)))
+        (λ kind. (kind ≡ OutOfMemory) ⊎ IsRefusedFor kind words.entry.now) }
 {
     let Ok(command) = whole_command(alloc) else {
         return Err(ErrorKind::OutOfMemory);
@@ -86,7 +90,7 @@ pub fn read_check<'a>(alloc: Global, words: &'a [&'a str]) -> Result<Invocation<
         None => {}
     }
     match parse(alloc, words) {
-        Ok(matches) => line_of(alloc, &matches),
+        Ok(matches) => Ok(Invocation::Check(line_of(alloc, &matches)?)),
         Err(ErrorKind::OutOfMemory) => Err(LineFault::Memory),
         Err(ErrorKind::DisplayHelp) => Ok(Invocation::Help),
         Err(kind) => {

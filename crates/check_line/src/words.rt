@@ -2,17 +2,10 @@
 
 ghost use Rattle.std.specs.Prelude.{◌≡◌, IfOk, false};
 ghost use Rattle.clap.specs.Words.{app_of, rule_of};
-ghost use Rattle.check_line.specs.CheckWords.{check_words, flag, long_option, short_option};
+ghost use Rattle.check_line.specs.CheckWords.{check_words, flag, long_option};
 
 use clap::{Arg, ArgAction, Command};
 use std::alloc::{AllocError, Global};
-
-fn short<'a>(alloc: Global, letter: char, id: &'a str) -> Arg<'a>
-    ensures rule { rule_of result ≡ short_option letter id.entry.now }
-    ensures local { result.global ≡ false }
-{
-    Arg::new(alloc, id).short(letter)
-}
 
 fn long<'a>(alloc: Global, name: &'a str) -> Arg<'a>
     ensures rule { rule_of result ≡ long_option name.entry.now }
@@ -35,8 +28,8 @@ pub fn whole_command<'a>(alloc: Global) -> Result<Command<'a>, AllocError>
     let arguments = vec![in alloc;
         Arg::new(alloc, "image"),
         Arg::new(alloc, "new"),
-        short(alloc, 'r', "areas"),
-        flag(short(alloc, 'v', "verbose")),
+        Arg::new(alloc, "areas").short('r'),
+        flag(Arg::new(alloc, "verbose").short('v')),
         flag(long(alloc, "json")),
         flag(long(alloc, "list")),
         long(alloc, "keep"),

@@ -7,7 +7,7 @@ use Rattle.std.proofs.lemmas.Bool.Decides.{nat_tests}
 use Rattle.std.proofs.lemmas.List.Folds.{list_any-append}
 use Rattle.std.proofs.lemmas.List.Sums.{sum_by-cons}
 use Rattle.check_report.specs.declared.rows.row.Verdict.TheVariants.{Bad}
-use Rattle.check_report.specs.Rows.Rows.{SeenRow, has_verdict, is_like, rows_by, verdict_word}
+use Rattle.check_report.specs.Rows.{SeenRow, has_verdict, is_like, rows_by, verdict_word}
 use Rattle.check_findings.specs.Lists.{only_if}
 use Rattle.check_report.proofs.RowCounts.{same_verdict}
 

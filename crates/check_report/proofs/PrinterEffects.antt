@@ -8,9 +8,9 @@ use Rattle.std.proofs.lemmas.List.Sums.{fold-append}
 use Rattle.std.proofs.lemmas.Grind.{flat_map-append}
 use Rattle.flash_device.specs.declared.sink.Sink.{Ghosts as SinkOf}
 use Rattle.check_report.specs.declared.rows.printer.Printer.{Printer}
-use Rattle.check_report.specs.Rows.Fields.{Line}
-use Rattle.check_report.specs.Rows.Reports.{follows_after, parts}
-use Rattle.check_report.specs.Rows.Effects.{HasPrinted, PrintsLines}
+use Rattle.check_report.specs.Fields.{Line}
+use Rattle.check_report.specs.Reports.{follows_after, parts}
+use Rattle.check_report.specs.Effects.{HasPrinted, PrintsLines}
 use Rattle.check_report.proofs.ReportParts.{no_parts, parts_append}
 
 pub printed_both : {W : Type 0} (sink : SinkOf W) (old mid new : Printer W) (b : Bool) (xs ys : List Line)

@@ -17,9 +17,9 @@ use Rattle.check_report.specs.declared.request.Files.{Files}
 use Rattle.check_report.specs.declared.rows.kinds.Counts.{Counts}
 use Rattle.check_report.specs.declared.rows.form.Form.{Form}
 use Rattle.check_report.specs.declared.rows.form.Form.TheVariants as forms
-use Rattle.check_report.specs.Rows.Fields.{Line, SeenField, line_json, line_text, members}
-use Rattle.check_report.specs.Rows.Reports.{count_fields, document, ending, first_fields, follows_after, heading, lines_field, member_tokens, part, parts, start_tokens}
-use Rattle.check_report.specs.Rows.Rows.{summary}
+use Rattle.check_report.specs.Fields.{Line, SeenField, line_json, line_text, members}
+use Rattle.check_report.specs.Reports.{count_fields, document, ending, first_fields, follows_after, heading, lines_field, member_tokens, part, parts, start_tokens}
+use Rattle.check_report.specs.Rows.{summary}
 use Rattle.check_report.proofs.Tokens.{fields_tokens, object_tokens}
 
 -- a value just ended after these tokens

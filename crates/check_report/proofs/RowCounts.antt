@@ -9,7 +9,7 @@ use Rattle.std.proofs.lemmas.List.Sums.{sum_by-append, sum_by-cons}
 use Rattle.std.proofs.lemmas.Slice.Eq.{bytes_eq-Decides}
 use Rattle.std.proofs.Math.Seq.{drop-cons}
 use Rattle.check_report.specs.declared.rows.kinds.Kind.{Kind}
-use Rattle.check_report.specs.Rows.Rows.{SeenKind, SeenRow, has_verdict, is_like, kind_in, kinds_of, rows_by, seen_kind, verdict_word}
+use Rattle.check_report.specs.Rows.{SeenKind, SeenRow, has_verdict, is_like, kind_in, kinds_of, rows_by, seen_kind, verdict_word}
 use Rattle.check_findings.specs.Lists.{only_if}
 
 abbrev pub is_of : SeenKind → SeenRow → Bool

@@ -14,14 +14,14 @@ use Rattle.check_report.specs.declared.rows.kinds.Counts.{Counts}
 use Rattle.check_report.specs.declared.rows.printer.Printer.{Printer}
 use Rattle.check_report.specs.declared.rows.writer.RowWriter.{RowWriter}
 use Rattle.check_report.specs.declared.rows.row.Verdict.TheVariants.{Bad}
-use Rattle.check_report.specs.Rows.Rows.{SeenRow, counts_of, has_bad, has_verdict, is_like, kinds_of, more_of, report_lines, row_line, seen_kind, shown_rows}
+use Rattle.check_report.specs.Rows.{SeenRow, counts_of, has_bad, has_verdict, is_like, kinds_of, more_of, report_lines, row_line, seen_kind, shown_rows}
 use Rattle.check_findings.specs.Lists.{only_if}
-use Rattle.check_report.specs.Rows.Reports.{ending, follows_after, heading, parts}
+use Rattle.check_report.specs.Reports.{ending, follows_after, heading, parts}
 use Rattle.check_report.specs.Reports.{inspection_rows, listed, report}
 use Rattle.check_report.specs.declared.request.Request.{Request}
 use Rattle.check_report.specs.declared.inspection.Inspection.{Inspection}
 use Rattle.flash_device.specs.Pages.{Returns}
-use Rattle.check_report.specs.Rows.Effects.{Adds, Ends, HasPrinted, HasWritten, PrintsLines}
+use Rattle.check_report.specs.Effects.{Adds, Ends, HasPrinted, HasWritten, PrintsLines}
 use Rattle.check_report.proofs.RowCounts.{push_by, some_bad}
 use Rattle.check_report.proofs.PrinterEffects.{printed_both}
 use Rattle.check_report.proofs.ReportParts.{no_parts, whole}

@@ -9,8 +9,8 @@ use Rattle.std.proofs.lemmas.Str.{is_utf8-from_IsUtf8, IsUtf8-from_is_utf8}
 use Rattle.json.specs.Json.{Json, array, member, object}
 use Rattle.json.specs.Token.{Token, begin_object, begin_array, end_array, end_object, key}
 use Rattle.json.specs.Tree.{json_tokens, items_tokens, members_tokens}
-use Rattle.check_report.specs.Rows.Fields.{Line, SeenField, items, line_json, members, name_json, number_json}
-use Rattle.check_report.specs.Rows.Reports.{lines_field, member_tokens, start_tokens}
+use Rattle.check_report.specs.Fields.{Line, SeenField, items, line_json, members, name_json, number_json}
+use Rattle.check_report.specs.Reports.{lines_field, member_tokens, start_tokens}
 
 members_tokens-members : (fs : List SeenField) → members_tokens (members fs) ≡ flat_map member_tokens fs ++ end_object ∷ []
 members_tokens-members [] = refl

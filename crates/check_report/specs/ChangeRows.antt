@@ -2,12 +2,9 @@
 use Rattle.std.specs.Prelude.{ℕ, Bool, not, List, [], ◌∷◌, ◌++◌}
 use Rattle.std.specs.Prelude.{map, nat_lt}
 use Rattle.std.specs.Prelude.{◌==◌, if◌then◌else◌}
-use Rattle.std.specs.List.{list_any}
 use Prim.Native.String.{String}
 use Rattle.check_changes.specs.declared.regions.change.RegionChange.{RegionChange}
 use Rattle.check_changes.specs.declared.regions.change.RegionChange.TheVariants as regions
-use Rattle.flash_map.specs.declared.areas.NumberedArea.{NumberedArea}
-use Rattle.flash_map.specs.Areas.{has_name}
 use Rattle.check_changes.specs.declared.areas.change.MapChange.{MapChange}
 use Rattle.check_changes.specs.declared.areas.change.MapChange.TheVariants as maps
 use Rattle.check_changes.specs.declared.areas.change.AreaChange.{AreaChange}
@@ -23,10 +20,8 @@ use Rattle.check_changes.specs.declared.components.change.ComponentDifference.Th
 use Rattle.check_findings.specs.ImageFindings.{has_one_of}
 use Rattle.check_findings.specs.Lists.{only_if}
 use Rattle.check_report.specs.declared.rows.row.Verdict.TheVariants.{Bad, Change}
-use Rattle.check_report.specs.FindingRows.{missing_row}
-use Rattle.check_report.specs.Rows.Fields.{name_value}
-use Rattle.check_report.specs.Rows.Rows.{SeenRow, area_name, at_component, of_area, row}
-use Rattle.check_report.specs.Rows.Rows.{with_count, with_number}
+use Rattle.check_report.specs.Rows.{SeenRow, area_name, at_component, of_area, row}
+use Rattle.check_report.specs.Rows.{with_count, with_number}
 
 -- a row of a change, which is bad in a kept area
 abbrev pub change : Bool → String → String → SeenRow
@@ -87,7 +82,3 @@ map_change_row maps.NoOldMap = row Change "no-old-map" "the old image has no fla
 map_change_row (maps.MovedFrom at) = with_number at (row Change "map-moved" "flashmap moved from")
 map_change_row (maps.BaseFrom n) = with_number n (row Change "map-base" "base address changed from")
 map_change_row maps.NameChanged = row Change "map-name" "name of the flashmap changed"
-
--- the row of a kept name without an area
-abbrev pub missing_if : List NumberedArea → List ℕ → List SeenRow
-missing_if all name = only_if (not (list_any (has_name name) all)) (missing_row (name_value name))

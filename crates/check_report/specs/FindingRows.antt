@@ -31,7 +31,7 @@ use Rattle.check_findings.specs.declared.image.finding.ImageFinding.{ImageFindin
 use Rattle.check_findings.specs.declared.image.finding.ImageFinding.TheVariants.{Map, Region}
 use Rattle.check_findings.specs.declared.image.finding.ImageFinding.TheVariants.{NotChecked}
 use Rattle.check_findings.specs.declared.image.finding.ImageFinding.TheVariants.{NoArea}
-use Rattle.check_findings.specs.Needs.{unmet, wish_of}
+use Rattle.check_findings.specs.Needs.{unmet}
 use Rattle.check_findings.specs.declared.image.needs.Need.{Need}
 use Rattle.check_findings.specs.declared.image.needs.NeedFinding.{NeedFinding}
 use Rattle.check_findings.specs.declared.image.needs.NeedFinding.TheVariants.{Missing, Elsewhere}
@@ -39,11 +39,11 @@ use Rattle.check_findings.specs.Lists.{only_if}
 use Rattle.check_findings.specs.Verdicts.{is_bad_hash}
 use Rattle.check_report.specs.declared.request.Asked.{Asked}
 use Rattle.check_report.specs.declared.rows.field.Value.TheVariants.{Dash}
-use Rattle.check_report.specs.Rows.Fields.{SeenValue, name_value, seen_value}
+use Rattle.check_report.specs.Fields.{SeenValue, name_value, seen_value}
 use Rattle.check_report.specs.declared.rows.row.Verdict.TheVariants.{Bad, Remark}
-use Rattle.check_report.specs.Rows.Rows.{SeenRow, area_name, at_component, of_area}
-use Rattle.check_report.specs.Rows.Rows.{of_component, row, row_at, row_of, with_count}
-use Rattle.check_report.specs.Rows.Rows.{in_area, with_field, with_number, with_other}
+use Rattle.check_report.specs.Rows.{SeenRow, area_name, at_component, of_area}
+use Rattle.check_report.specs.Rows.{of_component, row, row_at, row_of, with_count}
+use Rattle.check_report.specs.Rows.{in_area, with_field, with_number, with_other}
 
 -- ---- the flash map; positions count from the image's start
 
@@ -151,4 +151,4 @@ need_row (Elsewhere at) = row_at at (row Bad "need-elsewhere" "needed component 
 abbrev pub need_rows : List ImageFinding → List Need → List SeenRow
 need_rows findings needs = flat_map (λ need. option_map_or
     (λ finding. of_component need.area.now need.name.now (need_row finding) ∷ [])
-    (unmet findings (wish_of need)) []) needs
+    (unmet findings need) []) needs

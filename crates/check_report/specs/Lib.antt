@@ -1,6 +1,6 @@
+pub mod Fields
 pub mod Rows
-pub mod Reports
-pub mod Changes
 pub mod FindingRows
 pub mod ChangeRows
-pub mod Laws
+pub mod Reports
+pub mod Effects

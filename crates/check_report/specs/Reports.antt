@@ -1,7 +1,11 @@
--- The components and the rows of a report. This project defines their choice and order.
+-- A report: a list of components on request, rows, and counts. JSON is one document (RFC 8259).
+-- This project defines the choice and order of components and rows.
 use Rattle.std.specs.Prelude.{ℕ, List, [], ◌∷◌, ◌++◌, map, is_none, if◌then◌else◌, Option, false}
-use Rattle.std.specs.List.{flat_map}
-use Rattle.std.specs.Option.{option_map_or}
+use Rattle.std.specs.Prelude.{◌&&◌, ◌%◌, filter, nat_le, not, Bool, true, fold, ◌≡◌, None}
+use Rattle.std.specs.Prelude.{IsSomeAnd}
+use Rattle.std.specs.Prelude.{MatchOption, length}
+use Rattle.std.specs.List.{flat_map, list_any}
+use Rattle.std.specs.Option.{option_map_or, option_copied}
 use lib.Chars.{codes}
 use Rattle.flash_format.specs.Texts.{printed_compression, printed_type, line_feed}
 use Rattle.flash_map.specs.declared.areas.NumberedArea.{NumberedArea}
@@ -10,22 +14,88 @@ use Rattle.check_findings.specs.declared.region.finding.RegionFinding.{RegionFin
 use Rattle.check_findings.specs.declared.region.finding.RegionFinding.TheVariants.{Component}
 use Rattle.check_findings.specs.declared.image.finding.ImageFinding.{ImageFinding}
 use Rattle.check_findings.specs.declared.image.finding.ImageFinding.TheVariants.{Region}
-use Rattle.check_report.specs.declared.rows.field.Value.TheVariants.{Count, Offset}
-use Rattle.check_report.specs.Rows.Fields.{Line, SeenField, name_value, seen_value, text_value}
-use Rattle.check_report.specs.Rows.Fields.{line_text}
-use Rattle.check_report.specs.Rows.Rows.{SeenRow, area_name, counts_of, report_lines, summary}
-use Rattle.check_report.specs.FindingRows.{finding_rows, hash_words, need_rows}
+use Rattle.check_report.specs.declared.rows.field.Value.TheVariants.{Count, Offset, Absent}
+use Rattle.check_report.specs.Fields.{Line, SeenField, name_value, seen_value, text_value}
+use Rattle.check_report.specs.Fields.{line_text, items, json_value, line_json, members}
+use Rattle.check_report.specs.Rows.{SeenRow, area_name, counts_of, report_lines, summary}
+use Rattle.check_report.specs.Rows.{names_in}
+use Rattle.check_report.specs.FindingRows.{finding_rows, hash_words, missing_row, need_rows}
+use Rattle.flash_map.specs.Areas.{has_name}
+use Rattle.check_findings.specs.Lists.{only_if}
 use Rattle.check_report.specs.ChangeRows.{area_change_rows, image_rows, map_change_row}
-use Rattle.check_report.specs.ChangeRows.{missing_if, region_change_rows}
-use Rattle.check_report.specs.Rows.Rows.{names_in}
-use Rattle.std.specs.Prelude.{◌&&◌, ◌%◌, filter, nat_le}
+use Rattle.check_report.specs.ChangeRows.{region_change_rows}
 use Rattle.check_report.specs.declared.request.Request.{Request}
 use Rattle.check_report.specs.declared.inspection.Changes.{Changes}
 use Rattle.check_report.specs.declared.inspection.Inspection.{Inspection}
 use Rattle.check_report.specs.declared.inspection.OldImage.{OldImage}
 use Rattle.std.specs.Bool.{then_some}
-use Rattle.check_report.specs.Rows.Reports.{document, part}
 use Rattle.json.specs.Tree.{json_tokens}
+use Rattle.json.specs.Json.{Json, array, object}
+use Rattle.json.specs.Token.{Token, begin_array, begin_object, end_array, end_object, key}
+use Rattle.json.specs.Print.{print_from}
+use Rattle.check_report.specs.declared.request.Files.{Files}
+use Rattle.check_report.specs.declared.rows.kinds.Counts.{Counts}
+use Rattle.check_report.specs.declared.rows.form.Form.{Form}
+use Rattle.check_report.specs.declared.rows.form.Form.TheVariants as forms
+use Rattle.flash_map.specs.Fmap.{found_in}
+use Rattle.flash_map.specs.Areas.{image_areas}
+use Rattle.check_findings.specs.ImageFindings.{cbfs_areas, image_findings}
+use Rattle.check_changes.specs.Areas.{area_changes, map_changes}
+use Rattle.check_changes.specs.Areas.{different_blocks}
+use Rattle.check_changes.specs.Regions.{region_changes}
+
+abbrev pub count_fields : Counts → List SeenField
+count_fields c = (codes "bad", seen_value (Count c.bad))
+    ∷ (codes "remarks", seen_value (Count c.remarks))
+    ∷ (codes "changes", seen_value (Count c.changes)) ∷ []
+
+abbrev pub lines_field : List ℕ → List Line → SeenField
+lines_field name lines = (name, json_value (array (items (map line_json lines))))
+
+-- the fields before the rows
+abbrev pub first_fields : Files → Option (List Line) → List SeenField
+first_fields files list = (codes "format", seen_value (Count 1))
+    ∷ (codes "image", text_value files.image.now)
+    ∷ (codes "old", option_map_or text_value (option_copied files.old) (seen_value Absent))
+    ∷ option_map_or (λ lines. lines_field (codes "components") lines ∷ []) list []
+
+abbrev pub document : Files → Option (List Line) → List Line → Counts → Json
+document files list rows counts = object (members
+    (first_fields files list ++ lines_field (codes "rows") rows ∷ count_fields counts))
+
+-- a part of a report in either form: text, or tokens after another value or not
+abbrev pub part : Form → Bool → List ℕ → List Token → List ℕ
+part forms.Text follows text tokens = text
+part forms.Json follows text tokens = print_from follows tokens
+
+-- ---- its parts
+
+-- the tokens of a field with a JSON value
+abbrev pub member_tokens : SeenField → List Token
+member_tokens field = option_map_or (λ j. key field.0 ∷ json_tokens j) field.1.json []
+
+-- an object up to its first array
+abbrev pub start_tokens : List SeenField → List ℕ → List Token
+start_tokens fs name = begin_object ∷ flat_map member_tokens fs ++ key name ∷ begin_array ∷ []
+
+-- the part before the rows
+abbrev pub heading : Form → Files → Option (List Line) → List ℕ
+heading form files list = part form false (option_map_or (flat_map line_text) list [])
+    (start_tokens (first_fields files list) (codes "rows"))
+
+abbrev pub parts : Form → Bool → List Line → List ℕ
+parts form follows lines =
+    part form follows (flat_map line_text lines) (flat_map json_tokens (map line_json lines))
+
+-- after a line, the next line follows another line
+abbrev pub follows_after : Bool → List Line → Bool
+follows_after follows lines = fold (λ _ _. true) follows lines
+
+abbrev pub ending : Form → Counts → List ℕ
+ending form counts = part form false (summary counts)
+    (end_array ∷ flat_map member_tokens (count_fields counts) ++ end_object ∷ []) ++ line_feed
+
+-- ---- the choice of components and rows
 
 abbrev pub component_fields : List ℕ → ℕ → List ℕ → Content → List SeenField
 component_fields area at name content = (codes "area", name_value area)
@@ -50,9 +120,6 @@ listed request i = then_some request.asked.lists (flat_map components_in i.findi
 
 -- ---- rows
 
-abbrev pub need_areas : Request → List (List ℕ)
-need_areas request = map (λ n. n.area.now) request.needs.now
-
 -- the areas for a comparison: the new areas if the old image has no map
 abbrev pub areas_or : OldImage → List NumberedArea → List NumberedArea
 areas_or old news = if is_none old.map.found then news else old.map.areas.items
@@ -68,7 +135,8 @@ module _ (request : Request) (c : Changes) where
 
   -- rows of the given names without an area
   abbrev pub missing_rows : List SeenRow
-  missing_rows = flat_map (missing_if both_areas) (names_in request.kept.now)
+  missing_rows = flat_map (λ name. only_if (not (list_any (has_name name) both_areas))
+      (missing_row (name_value name))) (names_in request.kept.now)
 
   -- rows of the images, their maps, areas and components, and of missing areas
   abbrev pub change_rows : List SeenRow
@@ -80,8 +148,7 @@ module _ (request : Request) (c : Changes) where
 
 -- rows of findings, unmet needs and changes
 abbrev pub inspection_rows : Request → Inspection → List SeenRow
-inspection_rows request i =
-    (finding_rows request.asked request.areas.now i.findings.items
+inspection_rows request i = (finding_rows request.asked request.areas.now i.findings.items
     ++ need_rows i.findings.items request.needs.now)
     ++ option_map_or (change_rows request) i.changes []
 
@@ -92,3 +159,28 @@ report request i = let list = listed request i in let rows = inspection_rows req
     part request.form false (option_map_or (flat_map line_text) list [] ++ flat_map line_text lines
     ++ summary (counts_of rows)) (json_tokens (document request.files list lines (counts_of rows)))
     ++ line_feed
+
+-- ---- the result of a check, on honest devices
+
+-- the changes from x to y, by the findings of y
+pub record AreChanges (x y : List ℕ) (findings : List ImageFinding) (c : Changes) : Type 0 where
+  pub old_map : c.old.map.found ≡ found_in x
+  pub old_areas : c.old.map.areas.items ≡ image_areas x
+  pub old_regions : c.old.regions.items ≡ cbfs_areas x (image_areas x)
+  pub new_areas : c.new_areas.items ≡ image_areas y
+  pub old_len : c.comparison.old_len ≡ length x
+  pub new_len : c.comparison.new_len ≡ length y
+  pub blocks : c.comparison.blocks ≡ different_blocks x y
+  pub map : c.comparison.map.items ≡ map_changes (found_in x) (found_in y)
+  pub areas : c.comparison.areas.items
+      ≡ area_changes x (areas_or c.old (image_areas y)) y (image_areas y)
+  pub regions : c.comparison.regions.items
+      ≡ region_changes x (areas_or c.old (image_areas y)) y findings
+
+-- the check of y, after an old image or alone; the regions of the old image are expected in y
+pub record Checks (r : Request) (old : Option (List ℕ)) (y : List ℕ) (i : Inspection) : Type 0 where
+  pub findings : i.findings.items ≡ image_findings y (names_in r.areas.now)
+      (map (λ need. need.area.now) r.needs.now
+      ++ option_map_or (λ x. map area_name (cbfs_areas x (image_areas x))) old [])
+  pub changes : MatchOption old (i.changes ≡ None)
+      (λ x. IsSomeAnd i.changes (AreChanges x y i.findings.items))

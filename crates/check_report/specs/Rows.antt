@@ -1,4 +1,146 @@
-pub mod Fields
-pub mod Rows
-pub mod Reports
-pub mod Effects
+-- Rows, their lines and their limits.
+use Rattle.std.specs.Prelude.{ℕ, ◌-◌, ◌==◌, nat_lt, List, [], ◌∷◌, ◌++◌, Bool, ◌&&◌, ◌||◌}
+use Rattle.std.specs.Prelude.{count_by, map, if◌then◌else◌}
+use Rattle.flash_format.specs.Flashmap.{text_of}
+use Rattle.flash_map.specs.declared.areas.NumberedArea.{NumberedArea}
+use Rattle.std.specs.List.{flat_map, list_any}
+use Rattle.std.specs.Fmt.{decimal}
+use Rattle.std.specs.Str.{bytes_eq}
+use Rattle.json.specs.Json.{string}
+use Prim.Native.String.{String}
+use lib.Chars.{codes}
+use Rattle.check_report.specs.declared.rows.field.Value.TheVariants.{Absent, Dash, Count, Offset}
+pub use Rattle.check_findings.specs.ImageFindings.{names_in}
+use Rattle.check_findings.specs.Lists.{only_if}
+use Rattle.check_report.specs.declared.rows.kinds.Kind.{Kind}
+use Rattle.check_report.specs.declared.rows.row.Verdict.{Verdict}
+use Rattle.check_report.specs.declared.rows.row.Verdict.TheVariants as verdicts
+use Rattle.check_report.specs.declared.rows.row.Row.{Row}
+use Rattle.check_report.specs.declared.rows.kinds.Counts.{Counts}
+use Rattle.check_report.specs.Fields.{Line, SeenValue, json_value, name_value}
+use Rattle.check_report.specs.Fields.{seen_value, text_value}
+use Rattle.check_report.specs.Fields.{SeenField}
+
+abbrev pub verdict_word : Verdict → List ℕ
+verdict_word verdicts.Bad = codes "bad"
+verdict_word verdicts.Remark = codes "remark"
+verdict_word verdicts.Change = codes "change"
+
+-- a row: its verdict, its code and the fields after them
+pub record SeenRow : Type 0 where
+  pub verdict : Verdict
+  pub code : List ℕ
+  pub fields : List SeenField
+
+-- the fields of a row of the whole image
+abbrev pub plain_fields : List ℕ → List SeenField
+plain_fields what = (codes "area", seen_value Dash) ∷ (codes "component", seen_value Dash)
+    ∷ (codes "position", seen_value Dash) ∷ (codes "what", text_value what)
+    ∷ (codes "value", seen_value Absent) ∷ (codes "other", seen_value Absent) ∷ []
+
+-- a row of the whole image
+abbrev pub row_of : Verdict → List ℕ → List ℕ → SeenRow
+row_of verdict code what = record { verdict = verdict; code = code; fields = plain_fields what }
+
+abbrev pub row : Verdict → String → String → SeenRow
+row verdict code what = row_of verdict (codes code) (codes what)
+
+-- the row with another value of a field
+abbrev pub with_field : String → SeenValue → SeenRow → SeenRow
+with_field key value r =
+    record r { fields = map (λ f. (f.0, if bytes_eq f.0 (codes key) then value else f.1)) r.fields }
+
+abbrev pub seen_row : Row → SeenRow
+seen_row row = with_field "area" (seen_value row.area)
+    (with_field "component" (seen_value row.component)
+    (with_field "position" (seen_value row.position)
+    (with_field "value" (seen_value row.detail) (with_field "other" (seen_value row.other)
+    (row_of row.verdict row.code.now row.what.now)))))
+
+abbrev pub row_at : ℕ → SeenRow → SeenRow
+row_at position row = with_field "position" (seen_value (Offset position)) row
+
+abbrev pub in_area : List ℕ → SeenRow → SeenRow
+in_area name row = with_field "area" (name_value name) row
+
+abbrev pub area_name : NumberedArea → List ℕ
+area_name a = text_of a.area.name
+
+-- a row of an area, at its start
+abbrev pub of_area : NumberedArea → SeenRow → SeenRow
+of_area a row = row_at a.area.offset (in_area (area_name a) row)
+
+abbrev pub of_component : List ℕ → List ℕ → SeenRow → SeenRow
+of_component area name row = in_area area (with_field "component" (name_value name) row)
+
+abbrev pub at_component : List ℕ → ℕ → List ℕ → SeenRow → SeenRow
+at_component area at name row = row_at at (of_component area name row)
+
+abbrev pub with_count : ℕ → SeenRow → SeenRow
+with_count n row = with_field "value" (seen_value (Count n)) row
+
+abbrev pub with_number : ℕ → SeenRow → SeenRow
+with_number n row = with_field "value" (seen_value (Offset n)) row
+
+abbrev pub with_other : NumberedArea → SeenRow → SeenRow
+with_other a row = with_field "other" (name_value (area_name a)) row
+
+abbrev pub row_fields : SeenRow → List SeenField
+row_fields row = (codes "verdict", json_value (string (verdict_word row.verdict)))
+    ∷ (codes "code", json_value (string row.code)) ∷ row.fields
+
+abbrev pub row_line : SeenRow → Line
+row_line row = record { head = verdict_word row.verdict; fields = row_fields row }
+
+abbrev pub has_verdict : Verdict → SeenRow → Bool
+has_verdict verdict row = bytes_eq (verdict_word verdict) (verdict_word row.verdict)
+
+abbrev pub has_bad : List SeenRow → Bool
+has_bad rows = list_any (has_verdict verdicts.Bad) rows
+
+abbrev pub counts_of : List SeenRow → Counts
+counts_of rows = let n = λ (verdict : Verdict). count_by (has_verdict verdict) rows in
+    record { bad = n verdicts.Bad; remarks = n verdicts.Remark; changes = n verdicts.Change }
+
+-- the line after all rows
+unfoldable pub summary : Counts → List ℕ
+summary counts = decimal counts.bad ++ codes " bad, " ++ decimal counts.remarks
+    ++ codes " remarks, " ++ decimal counts.changes ++ codes " changes"
+
+-- ---- at most 16 rows of a kind, which is a verdict and a code
+
+abbrev pub is_like : SeenRow → SeenRow → Bool
+is_like row other = has_verdict row.verdict other && bytes_eq row.code other.code
+
+-- the rows for which the number of earlier rows of their kind fits, after the rows before
+abbrev pub rows_by : (ℕ → Bool) → List SeenRow → List SeenRow → List SeenRow
+rows_by fits before [] = []
+rows_by fits before (row ∷ rows) =
+    only_if (fits (count_by (is_like row) before)) row ++ rows_by fits (before ++ row ∷ []) rows
+
+-- all rows, or at most 16 of a kind
+abbrev pub shown_rows : Bool → List SeenRow → List SeenRow
+shown_rows is_verbose rows = rows_by (λ n. is_verbose || nat_lt n 16) [] rows
+
+-- a kind, and the number of its rows
+abbrev pub SeenKind : Type 0
+SeenKind = record { verdict : Verdict; code : List ℕ; count : ℕ }
+
+abbrev pub seen_kind : Kind → SeenKind
+seen_kind kind = record { verdict = kind.verdict; code = kind.code.now; count = kind.count }
+
+abbrev pub kind_in : List SeenRow → SeenRow → SeenKind
+kind_in rows r = record { verdict = r.verdict; code = r.code; count = count_by (is_like r) rows }
+
+-- the kinds, in the order of their first rows
+abbrev pub kinds_of : List SeenRow → List SeenKind
+kinds_of rows = map (kind_in rows) (rows_by (λ n. n == 0) [] rows)
+
+-- the row for the hidden rows of a kind
+abbrev pub more_of : SeenKind → List SeenRow
+more_of kind = only_if (nat_lt 16 kind.count)
+    (with_count (kind.count - 16) (row_of kind.verdict kind.code (codes "more of these")))
+
+abbrev pub report_lines : Bool → List SeenRow → List Line
+report_lines is_verbose rows = map row_line
+    (shown_rows is_verbose rows ++ flat_map more_of (if is_verbose then [] else kinds_of rows))

@@ -1,6 +1,6 @@
 //! Rows of changed maps and areas.
 ghost use Rattle.std.specs.Prelude.{◌≡◌, option_map, option_to_list};
-ghost use Rattle.check_report.specs.Rows.Rows.{names_in, of_area, seen_row};
+ghost use Rattle.check_report.specs.Rows.{names_in, of_area, seen_row};
 ghost use Rattle.check_report.specs.ChangeRows as of;
 
 use crate::kept::{change_verdict, is_kept};

@@ -1,7 +1,7 @@
 //! The check of a new image.
-ghost use Rattle.std.specs.Prelude.{◌+◌, ◌*◌, ◌/◌, IfOk};
+ghost use Rattle.std.specs.Prelude.{◌+◌, ◌*◌, ◌/◌, IfOk, Some};
 ghost use Rattle.check_changes.specs.Images.{HasReadFor, OnBoth, lengths};
-ghost use Rattle.check_report.specs.Changes.{IsInspectedChange};
+ghost use Rattle.check_report.specs.Reports.{Checks};
 
 use crate::inspection::{Changes, Comparison, Inspection, OldImage};
 use crate::names::{need_areas, with_areas};
@@ -26,7 +26,7 @@ pub fn inspect_change<F: Flash, G: Flash>(
         (3 * (lengths images.old).new + 72) images.old images.new result }
 
     // On honest devices.
-    ensures checked { OnBoth images.old (λ x y. IfOk result (IsInspectedChange request.entry x y)) }
+    ensures checked { OnBoth images.old (λ x y. IfOk result (Checks request.entry (Some x) y)) }
 {
     let old_image = &mut images.old_image;
     let map = image_map(alloc, old_image).map_err(ChangeFault::of_old)?;

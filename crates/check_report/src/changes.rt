@@ -1,8 +1,8 @@
 //! The rows of changes.
 ghost use Rattle.std.specs.Prelude.{◌≡◌, map};
 ghost use Rattle.std.specs.List.{flat_map};
-ghost use Rattle.check_report.specs.Rows.Rows.{names_in, at_component, seen_row};
-ghost use Rattle.check_report.specs.Rows.Effects.{Adds};
+ghost use Rattle.check_report.specs.Rows.{names_in, at_component, seen_row};
+ghost use Rattle.check_report.specs.Effects.{Adds};
 ghost use Rattle.check_report.specs.ChangeRows as of;
 
 use crate::areas::{area_change_row, map_change_row, not_compared_row};

@@ -2,9 +2,9 @@
 ghost use Rattle.std.specs.Prelude.{◌≡◌, slice_get};
 ghost use Rattle.std.specs.Option.{option_map_or};
 ghost use Rattle.check_report.specs.declared.rows.field.Value.TheVariants.{Dash};
-ghost use Rattle.check_report.specs.Rows.Fields.{name_value, seen_value};
-ghost use Rattle.check_report.specs.Rows.Rows.{seen_row};
-ghost use Rattle.check_report.specs.Rows.Effects.{Adds};
+ghost use Rattle.check_report.specs.Fields.{name_value, seen_value};
+ghost use Rattle.check_report.specs.Rows.{seen_row};
+ghost use Rattle.check_report.specs.Effects.{Adds};
 ghost use Rattle.check_findings.specs.declared.map.finding.MapFinding.TheVariants.{MapAreaMisses};
 ghost use Rattle.check_report.specs.FindingRows as of;
 

@@ -3,7 +3,7 @@ ghost use Rattle.std.specs.Prelude.{◌≡◌, None, IfOk};
 ghost use Rattle.flash_device.specs.Device.{fault_count, call_limit};
 ghost use Rattle.flash_device.specs.Pages.{OnHonest, HasReadBy};
 ghost use Rattle.check_changes.specs.Images.{by_new, by_old};
-ghost use Rattle.check_report.specs.Changes.{IsInspected};
+ghost use Rattle.check_report.specs.Reports.{Checks};
 
 use crate::inspection::Inspection;
 use crate::names::need_areas;
@@ -27,7 +27,7 @@ pub fn inspect_image<F: Flash>(
     ensures side { fault_count by_old result ≡ 0 }
 
     // On an honest device.
-    ensures checked { OnHonest paged.old.device (λ x. IfOk result (IsInspected request.entry x)) }
+    ensures checked { OnHonest paged.old.device (λ x. IfOk result (Checks request.entry None x)) }
 {
     let expected = need_areas(alloc, request.needs)?;
     let checked = check_image(alloc, keys, paged, request.areas, &expected);

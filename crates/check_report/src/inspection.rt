@@ -5,9 +5,9 @@ ghost use Rattle.flash_device.specs.Device.{fault_count};
 ghost use Rattle.check_report.specs.Reports.{areas_or, change_rows, inspection_rows, listed};
 ghost use Rattle.check_report.specs.Reports.{report};
 ghost use Rattle.flash_device.specs.Pages.{Returns};
-ghost use Rattle.check_report.specs.Rows.Reports.{heading};
-ghost use Rattle.check_report.specs.Rows.Rows.{has_bad};
-ghost use Rattle.check_report.specs.Rows.Effects.{Adds, Prints, by_sink};
+ghost use Rattle.check_report.specs.Reports.{heading};
+ghost use Rattle.check_report.specs.Rows.{has_bad};
+ghost use Rattle.check_report.specs.Effects.{Adds, Prints, by_sink};
 
 use crate::changes::{add_area_changes, add_image_changes, add_map_changes, add_region_changes};
 use crate::fault::WriteFault;

@@ -3,8 +3,8 @@ ghost use Rattle.std.specs.Prelude.{◌≡◌, ◌++◌, if◌then◌else◌};
 ghost use Rattle.std.specs.List.{list_any};
 ghost use Rattle.flash_map.specs.Areas.{has_name};
 ghost use Rattle.check_findings.specs.ImageFindings.{has_one_of};
-ghost use Rattle.check_report.specs.Rows.Rows.{names_in};
-ghost use Rattle.check_report.specs.Rows.Effects.{Adds};
+ghost use Rattle.check_report.specs.Rows.{names_in};
+ghost use Rattle.check_report.specs.Effects.{Adds};
 ghost use Rattle.check_report.specs.Reports.{missing_rows};
 ghost use Rattle.check_report.specs.declared.rows.row.Verdict.TheVariants.{Bad, Change};
 

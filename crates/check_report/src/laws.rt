@@ -1,8 +1,17 @@
 //! Laws about rows, as the contract of a function without effect.
-ghost use Rattle.check_report.specs.Laws.{RowsTellWhatIsBad};
+ghost use Rattle.std.specs.Prelude.{◌≡◌, ℕ, List, false};
+ghost use Rattle.std.specs.Borrow.{Bor};
+ghost use Rattle.std.specs.List.{list_any};
+ghost use Rattle.check_findings.specs.declared.image.finding.ImageFinding.{ImageFinding};
+ghost use Rattle.check_findings.specs.Verdicts.{is_bad};
+ghost use Rattle.check_report.specs.declared.request.Asked.{Asked};
+ghost use Rattle.check_report.specs.Rows.{SeenRow, has_bad, shown_rows};
+ghost use Rattle.check_report.specs.FindingRows.{finding_rows};
 
 /// A row of the findings is bad exactly if a finding is bad, and a shown row exactly if a row is
 /// bad.
 pub fn rows_tell_what_is_bad()
-    ensures { RowsTellWhatIsBad }
+    ensures findings { (asked : Asked) (names : List (Bor (List ℕ))) (found : List ImageFinding)
+        → has_bad (finding_rows asked names found) ≡ list_any (is_bad asked.needs_hashes) found }
+    ensures limits { (rows : List SeenRow) → has_bad (shown_rows false rows) ≡ has_bad rows }
 {}

@@ -3,8 +3,8 @@ ghost use Rattle.std.specs.Prelude.{◌≡◌, map};
 ghost use Rattle.std.specs.List.{flat_map};
 ghost use Rattle.check_report.specs.Reports.{component_fields, component_lines};
 ghost use Rattle.check_report.specs.Reports.{components_in};
-ghost use Rattle.check_report.specs.Rows.Fields.{seen_field};
-ghost use Rattle.check_report.specs.Rows.Effects.{PrintsLines};
+ghost use Rattle.check_report.specs.Fields.{seen_field};
+ghost use Rattle.check_report.specs.Effects.{PrintsLines};
 
 use crate::fault::WriteFault;
 use crate::region::hash_words;

@@ -1,7 +1,7 @@
 //! Lists of area names.
 ghost use Rattle.std.specs.Prelude.{◌≡◌, ◌++◌, ◌&&◌, ◌%◌, map, nat_le, IfOk};
 ghost use Rattle.check_report.specs.Reports.{kept_names};
-ghost use Rattle.check_report.specs.Rows.Rows.{area_name, names_in};
+ghost use Rattle.check_report.specs.Rows.{area_name, names_in};
 
 use crate::inspection::Changes;
 use crate::request::Request;

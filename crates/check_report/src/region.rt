@@ -1,7 +1,7 @@
 //! Rows of a region's findings.
 ghost use Rattle.std.specs.Prelude.{◌≡◌, option_map};
-ghost use Rattle.check_report.specs.Rows.Rows.{seen_row};
-ghost use Rattle.check_report.specs.Rows.Effects.{Adds};
+ghost use Rattle.check_report.specs.Rows.{seen_row};
+ghost use Rattle.check_report.specs.Effects.{Adds};
 ghost use Rattle.check_report.specs.FindingRows as of;
 ghost use Rattle.check_report.specs.FindingRows.{component_rows, region_rows};
 

@@ -1,16 +1,16 @@
 -- Copies, piece by piece: calls, and bytes put, filled or copied.
-use Rattle.std.proofs.Common.{replicate, ◌≡◌, ℕ, ◌+◌, ◌-◌, ◌/◌, ◌%◌, ◌<◌, ◌≤◌, ◌++◌, List, Option, None, Some, length, take, drop, sym, ap, subst, ◌∙◌, arith, append_assoc}
+use Rattle.std.proofs.Common.{refl, IsTrue, replicate, ◌≡◌, ℕ, ◌+◌, ◌-◌, ◌/◌, ◌%◌, ◌<◌, ◌≤◌, ◌++◌, List, Option, None, Some, length, take, drop, sym, ap, subst, ◌∙◌, arith, append_assoc}
 use Rattle.std.specs.Prelude.{slice_range, Result, Ok, Err, OnErr}
 use Rattle.std.specs.Io.KnownBytes.{Appends, Keeps}
 use Rattle.std.proofs.KnownBytes.{Appends-trans}
 use Rattle.std.proofs.Math.Seq.{take-add}
-use Rattle.std.proofs.lemmas.List.{drop-drop, take-take, length-take-le, take-replicate, drop-replicate}
-use Rattle.flash_device.specs.Device.{overwritten, FirstWritten, Device, Calls}
-use Rattle.flash_device.proofs.BytesLemmas.{slice_range_is, length-slice_range}
+use Rattle.std.proofs.lemmas.List.{drop-drop, take-take, length-take-le, take-replicate, drop-replicate, length-replicate}
+use Rattle.flash_device.specs.Device.{overwritten, FirstWritten, SameOutside, Device, Calls}
+use Rattle.flash_device.proofs.BytesLemmas.{SameOutside-overwritten, slice_range_is, length-slice_range, written-torn}
 use Rattle.flash_device.proofs.DeviceLemmas.{Calls-then, Calls-at_most}
-use Rattle.flash_device.specs.Pages.{Pages, HasRead}
+use Rattle.flash_device.specs.Pages.{Pages, HasFilled, HasRead}
 use Rattle.flash_device.proofs.WindowLemmas.{HasRead-then, HasRead-within}
-use Rattle.flash_device.specs.Output.{AppendsPart, AppendsPieces}
+use Rattle.flash_device.specs.Device.{AppendsPart}
 
 -- a call for each piece of 4096 bytes, or a shorter last piece
 pub Calls-piece : (done n refused : ℕ) (old mid new : Device) → done < n → done % 4096 ≡ 0 → Calls ((done + 4095) / 4096) 0 old mid → Calls 1 refused mid new → Calls ((n + 4095) / 4096) refused old new
@@ -49,17 +49,6 @@ Appends-keeps (Some x) None c xs so_far kept = absurd so_far
 Appends-keeps (Some x) (Some y) None xs so_far kept = absurd kept
 Appends-keeps (Some x) (Some y) (Some z) xs so_far kept = kept ∙ so_far
 
--- whole pieces are a prefix
-pub AppendsPieces-kept : (a b c : Option (List ℕ)) (xs : List ℕ) (at done n : ℕ) → done < n → at + n ≤ length xs → done % 4096 ≡ 0 → Appends a b (slice_range xs at (at + done)) → Keeps b c → AppendsPieces a c (slice_range xs at (at + n))
-AppendsPieces-kept a b c xs at done n left within whole so_far kept =
-    let front : slice_range xs at (at + done) ≡ take done (slice_range xs at (at + n)) =
-    slice_range_is xs at done ∙ sym (take-take done n (drop at xs) (omega arith)) ∙ ap (take done) (sym (slice_range_is xs at n)) in (
-      done,
-      rw (length-slice_range xs at n within) left,
-      whole,
-      rw front at (Appends-keeps a b c _ so_far kept),
-    )
-
 pub OnErr-from : {T E P : Type 0} (result : Result T E) → P → OnErr result P
 OnErr-from (Ok x) p = tt
 OnErr-from (Err e) p = p
@@ -84,3 +73,10 @@ shown-more Saw seen content piece done size is saw =
     let joined : (seen ++ take done content) ++ piece ≡ seen ++ take (done + size) content =
     append_assoc seen (take done content) piece ∙ ap (λ (l : List ℕ). seen ++ (take done content ++ l)) is ∙ ap (λ (l : List ℕ). seen ++ l) (sym (take-add done size content)) in
     subst (λ (l : List ℕ). Saw l) joined saw
+
+-- a fill changes only its range
+pub filled-outside : {T E : Type 0} (at n byte : ℕ) (old new : Device) (result : Result T E) → at ≤ length old.content → HasFilled at n byte old new result → IsTrue old.honest → SameOutside at n old.content new.content
+filled-outside at n byte old new (Ok value) inside fill h = rw (fill.filled h) (SameOutside-overwritten old.content at n (replicate n byte) (omega (arith, length-replicate n byte)) inside)
+filled-outside at n byte old new (Err fault) inside fill h =
+    let part = fill.part h in
+    rw (length-replicate n byte) at (written-torn old.content _ new.content at part.done part.torn (replicate n byte) part.within inside refl part.same)

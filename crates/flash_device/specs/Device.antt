@@ -1,5 +1,7 @@
 -- Devices and sources, and the effects of calls.
-use Rattle.std.specs.Prelude.{◌≡◌, ℕ, ◌+◌, ◌*◌, ◌<◌, ◌≤◌, List, ◌++◌, length, take, drop, ◌⊎◌, Bool, slice_range, IsTrue, OnOk, Result, Ok, Err}
+use Rattle.std.specs.Prelude.{◌≡◌, ℕ, ◌+◌, ◌*◌, ◌<◌, ◌≤◌, List, ◌++◌, length, take, drop, ◌⊎◌, Bool, slice_range, IsTrue, OnOk, Result, Ok, Err, Option}
+use Rattle.std.specs.Io.KnownBytes.{Appends}
+use Rattle.flash_device.specs.declared.counter.Number.{Number, Zero, More'}
 
 abbrev pub overwritten : List ℕ → ℕ → List ℕ → List ℕ
 overwritten old at bytes = take at old ++ (bytes ++ drop (at + length bytes) old)
@@ -85,6 +87,11 @@ pub record Reads (n refused : ℕ) (old new : Device) : Type 0 where
   pub calls : Calls n refused old new
   pub unchanged : IsTrue old.honest → new.content ≡ old.content
 
-pub record Memory : Type 0 where
-  pub content : List ℕ
-  pub calls : ℕ
+-- a proper prefix is appended
+abbrev pub AppendsPart : Option (List ℕ) → Option (List ℕ) → List ℕ → Type 0
+AppendsPart old new bs = (n : ℕ) × (n < length bs) × Appends old new (take n bs)
+
+-- the value of a counter of size 0
+abbrev pub count_of : Number → ℕ
+count_of Zero = 0
+count_of (More' n shape before) = count_of before + n

@@ -1,5 +1,5 @@
 -- Buffered devices, and the effects of their calls.
-use Rattle.std.specs.Prelude.{◌≡◌, ◌+◌, ◌-◌, ◌≤◌, ℕ, List, length, take, min, Result, IsTrue, IsOk, OnOk, OnErr, IfOk, slice_range, ◌/◌, ◌<◌, Option, replicate, IsErrOf, IfSome, ◌⊎◌}
+use Rattle.std.specs.Prelude.{◌≡◌, ◌+◌, ◌-◌, ◌≤◌, ℕ, List, length, take, min, Result, IsTrue, IsOk, OnOk, OnErr, IfOk, slice_range, ◌/◌, ◌<◌, Option, replicate, IsErrOf, IfSome}
 use Rattle.std.specs.Global.{Vec}
 use Rattle.std.specs.Borrow.{Bor}
 use Rattle.flash_device.specs.Device.{SameOutside, Device, Calls, Reads, refusals, overwritten, FirstWritten, PartWritten, fault_count}
@@ -7,7 +7,7 @@ use Rattle.flash_device.specs.Regions.{Range, bytes_in}
 use Rattle.flash_device.specs.declared.paged.Buffered.{Buffered}
 use Rattle.flash_device.specs.declared.paged.Buffered.TheVariants as code
 use Rattle.std.specs.Io.KnownBytes.{Appends}
-use Rattle.flash_device.specs.Output.{AppendsPart}
+use Rattle.flash_device.specs.Device.{AppendsPart}
 use Rattle.flash_device.specs.declared.paged.CopyFault.{CopyFault}
 use Rattle.flash_device.specs.declared.paged.CopyFault.TheVariants as causes
 use Rattle.flash_device.specs.declared.paged.CopyInFault.{CopyInFault}
@@ -51,12 +51,6 @@ pub record Pages (F : Type 0) : Type 0 where
 abbrev pub ReadsAs : {F T E : Type 0} → Pages F → Range → Result T E → (List ℕ → T) → Type 0
 ReadsAs old region result value = OnHonestIn old.device region (λ x. Returns result (value x))
 
--- on an honest device, the result is a function of the region's bytes, or the device's fault
-abbrev pub AnswersAs : {F T E : Type 0} → Pages F → Range → E → Result T E
-    → (List ℕ → Result T E) → Type 0
-AnswersAs old region fault result answer =
-    OnHonestIn old.device region (λ x. IsErrOf result fault ⊎ (result ≡ answer x))
-
 abbrev pub held_in : List ℕ → Buffered → Held
 held_in buffer code.Nothing = Nothing
 held_in buffer (code.Window at size) = Window at (take size buffer)
@@ -77,17 +71,8 @@ abbrev pub Covers : Held → ℕ → ℕ → Type 0
 Covers (Window from bytes) at n = (from ≤ at) × (at + n ≤ from + length bytes)
 Covers _ at n = ⊥
 
-abbrev pub HasPiece : Held → (List ℕ → Type 0) → Type 0
-HasPiece (Piece bytes) P = P bytes
-HasPiece _ P = ⊥
-
-abbrev pub without_piece : Held → Held
-without_piece (Piece bytes) = Nothing
-without_piece held = held
-
 -- at most n reads, with the given faults
-pub record HasRead {F : Type 0} (n refused : ℕ)
-    (old new : Pages F) : Type 0 where
+pub record HasRead {F : Type 0} (n refused : ℕ) (old new : Pages F) : Type 0 where
   pub device : Reads n refused old.device new.device
   pub window : IsTrueTo old.device old.held → IsTrueTo new.device new.held
 
@@ -149,7 +134,6 @@ pub record HasFilled {T E : Type 0} (at n byte : ℕ) (old new : Device)
       → OnOk result (new.content ≡ overwritten old.content at (replicate n byte))
   pub part : IsTrue old.honest
       → OnErr result (PartWritten at (replicate n byte) old.content new.content)
-  pub outside : IsTrue old.honest → SameOutside at n old.content new.content
 
 -- A copy of a source's first n bytes. `copied`, `stopped` and `part` are for an honest device and
 -- source, `outside` for an honest device.
@@ -172,7 +156,7 @@ pub record HasCopiedOut {F W T : Type 0} (sink : SinkOf W) (most at n : ℕ) (ol
     (out out_now : W) (result : Result T CopyFault) : Type 0 where
   pub read : HasRead most (fault_count by_device result) old new
   pub free : Covers old.held at n → new ≡ old
-  pub no_piece : without_piece new.held ≡ new.held
+  pub no_piece : (bytes : List ℕ) → new.held ≡ Piece bytes → ⊥
   pub dropped : IsErrOf result causes.Device → new.held ≡ Nothing
   pub faults : sink.faults out ≤ sink.faults out_now
   pub output : IsErrOf result causes.Output → sink.faults out < sink.faults out_now

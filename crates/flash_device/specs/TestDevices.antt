@@ -1,5 +1,5 @@
 -- Devices and sources with injected faults.
-use Rattle.std.specs.Prelude.{◌≡◌, ℕ, ◌+◌, ◌-◌, ◌<◌, Bool, false, List, take, Result, IsTrue, IsErr}
+use Rattle.std.specs.Prelude.{◌≡◌, ℕ, ◌+◌, ◌-◌, ◌<◌, false, List, take, Result, IsTrue, IsErr}
 use Rattle.flash_device.specs.declared.fail_at.FailAt.{FailAt}
 use Rattle.flash_device.specs.Device.{overwritten, Device, refusals}
 
@@ -15,12 +15,8 @@ refused_once f = record f { calls = f.calls + 1; faults = f.faults + 1 }
 -- device. Later writes have no effect.
 pub record RefusedWrite {F : Type 0} (facts : F → Device) (at : ℕ) (bytes : List ℕ)
     (old new : FailAt F) : Type 0 where
-  pub first : IsTrue old.tears → new ≡ record old {
-    device = new.device;
-    tears = false;
-    calls = old.calls + 1;
-    faults = new.faults;
-  }
+  pub first : IsTrue old.tears → new ≡ record old
+      { device = new.device; tears = false; calls = old.calls + 1; faults = new.faults }
   pub written : IsTrue old.tears → IsTrue (facts old.device).honest
       → (facts new.device).faults ≡ (facts old.device).faults
       → (facts new.device).content ≡ overwritten (facts old.device).content at (take old.part bytes)
@@ -29,9 +25,7 @@ pub record RefusedWrite {F : Type 0} (facts : F → Device) (at : ℕ) (bytes : 
 -- A passed call has the other device's result; any other fails with the given effect.
 pub record PassedOrRefused {F T E : Type 0} (facts : F → Device) (old new : FailAt F)
     (result : Result T E) (Refused : Type 0) : Type 0 where
-  pub counted : 0 < old.left
-      → new ≡ record old { device = new.device; left = old.left - 1; calls = old.calls + 1 }
-  pub faults : 0 < old.left
-      → (facts new.device).faults ≡ (facts old.device).faults + refusals result
-  pub refused : old.left ≡ 0 → IsErr result
-  pub left : old.left ≡ 0 → Refused
+  pub passed : 0 < old.left
+      → (new ≡ record old { device = new.device; left = old.left - 1; calls = old.calls + 1 })
+      × ((facts new.device).faults ≡ (facts old.device).faults + refusals result)
+  pub refused : old.left ≡ 0 → IsErr result × Refused

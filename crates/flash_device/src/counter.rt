@@ -19,7 +19,7 @@ pub struct Counter {
 
 impl Model for Counter {
     ghost use Rattle.std.specs.Prelude.{ℕ};
-    ghost use Rattle.flash_device.specs.Numbers.{count_of};
+    ghost use Rattle.flash_device.specs.Device.{count_of};
 
     ghost Value = { ℕ };
 

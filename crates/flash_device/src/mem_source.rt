@@ -3,33 +3,22 @@ ghost use Rattle.std.specs.Prelude.{◌≡◌, ◌+◌, ◌^◌, ◌<◌, length
 
 use crate::counter::Counter;
 use crate::source::{Source, SourceFault};
-use std::marker::Model;
 
 /// An honest source without faults, over fewer than 2^32 bytes.
 #[derive(Drop)]
 pub struct MemSource<'a> {
-    bytes: &'a [u8],
-    calls: Counter,
-}
-
-impl<'a> Model for MemSource<'a> {
-    ghost use Rattle.std.specs.Prelude.{◌^◌, ◌<◌, length};
-    ghost use Rattle.flash_device.specs.Device.{Memory};
-
-    ghost Value = { Memory };
-
-    ghost view = { λ m. record { content = m.bytes.now; calls = m.calls } };
-
-    ghost invariant = { λ m. length m.bytes.now < 2 ^ 32 };
+    pub content: &'a [u8],
+    pub calls: Counter,
+    ghost small: { length content.now < 2 ^ 32 },
 }
 
 impl<'a> MemSource<'a> {
     pub fn new(bytes: &'a [u8]) -> MemSource<'a>
         requires { length bytes.now < 2 ^ 32 }
-        ensures { result ≡ record { content = bytes.now; calls = 0 } }
+        ensures { (result.content.now ≡ bytes.now) × (result.calls ≡ 0) }
     {
         MemSource {
-            bytes,
+            content: bytes,
             calls: Counter::new(),
         }
     }
@@ -37,17 +26,17 @@ impl<'a> MemSource<'a> {
 
 impl<'a> Source for MemSource<'a> {
     ghost facts = { λ m.
-        record { content = m.content; calls = m.calls; faults = 0; honest = true } };
+        record { content = m.content.now; calls = m.calls; faults = 0; honest = true } };
 
     fn len(&self) -> u64 {
-        self.bytes.len() as u64
+        self.content.len() as u64
     }
 
     fn read_at(&mut self, at: u64, out: &mut [u8]) -> Result<(), SourceFault> {
         self.calls.tick();
         let start = at as usize;
         let end = start + out.len();
-        out.copy_from_slice(&self.bytes[start..end]);
+        out.copy_from_slice(&self.content[start..end]);
         Ok(())
     }
 }

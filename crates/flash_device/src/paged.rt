@@ -1,9 +1,8 @@
 //! Buffered devices.
-ghost use Rattle.std.specs.Prelude.{◌≡◌, ℕ, List, ◌++◌, ◌+◌, ◌/◌, ◌^◌, ◌<◌, ◌≤◌, ◌↔◌, length, take, IsTrue, OnOk, IfOk, IsErrOf, slice_range, replicate};
+ghost use Rattle.std.specs.Prelude.{◌≡◌, ℕ, List, ◌++◌, ◌+◌, ◌/◌, ◌%◌, ◌^◌, ◌<◌, ◌≤◌, ◌↔◌, length, take, IsTrue, OnOk, IfOk, IsErrOf, slice_range, replicate};
 ghost use Rattle.flash_device.specs.Device.{IsPiece, OneCall, OneRead, OneWrite, OneCommit, refusals};
 ghost use Rattle.flash_device.specs.Pages.{HasFilled, HasCopiedIn, HasCopiedOut, as_copy, OnHonest};
-ghost use Rattle.flash_device.specs.Output.{AppendsPieces};
-ghost use Rattle.std.specs.Io.KnownBytes.{Keeps};
+ghost use Rattle.std.specs.Io.KnownBytes.{Appends, Keeps};
 
 use crate::flash::{COMMIT_LENGTH, Flash, FlashFault, PIECE};
 use crate::sink::{Sink, SinkFault, put_all};
@@ -128,9 +127,8 @@ impl<F: Flash> Paged<F> {
       OnHonest,
       HasSeen,
       HasPulled,
-      HasPiece,
+      Piece,
       Covers,
-      without_piece,
     };
     ghost use Rattle.flash_device.specs.contracts.paged.Paged.{the_row};
 
@@ -168,14 +166,6 @@ impl<F: Flash> Paged<F> {
     {
         let Paged { device, .. } = self;
         device
-    }
-
-    fn forget_piece(&mut self)
-        ensures { self.new ≡ record self.old { held = without_piece self.old.held } }
-    {
-        if let Buffered::Piece { .. } = self.held {
-            self.held = Buffered::Nothing;
-        }
     }
 
     /// Reads up to 4096 bytes.
@@ -276,11 +266,11 @@ impl<F: Flash> Paged<F> {
 
     /// Writes the piece. After a fault, the range is unspecified.
     pub fn push(&mut self, at: u64) -> Result<(), FlashFault>
-        requires { HasPiece self.old.held
-            (λ bytes. at + length bytes ≤ length self.old.device.content) }
+        requires { (bytes : List ℕ) × (self.old.held ≡ Piece bytes)
+            × (at + length bytes ≤ length self.old.device.content) }
 
-        ensures after { HasPiece self.old.held (λ bytes.
-            OneWrite at bytes self.old.device self.new.device result) }
+        ensures after { (bytes : List ℕ) → self.old.held ≡ Piece bytes
+            → OneWrite at bytes self.old.device self.new.device result }
         ensures same_piece { self.new.held ≡ self.old.held }
     {
         let size = match self.held {
@@ -354,11 +344,13 @@ impl<F: Flash> Paged<F> {
 
         ensures after { HasCopiedOut W.Sink
             ((n + 4095) / 4096) at n self.old self.new out.old out.new result }
-        ensures pieces { OnHonest self.old.device
-            (λ image. IsErrOf result CopyFault.Device → AppendsPieces
-            (W.contents out.old) (W.contents out.new) (slice_range image at (at + n))) }
+        ensures pieces { OnHonest self.old.device (λ image. IsErrOf result CopyFault.Device
+            → (k : ℕ) × (k < n) × (k % 4096 ≡ 0) × Appends
+            (W.contents out.old) (W.contents out.new) (slice_range image at (at + k))) }
     {
-        self.forget_piece();
+        if let Buffered::Piece { .. } = self.held {
+            self.held = Buffered::Nothing;
+        }
         let _len = self.len();
         let mut done = 0;
         while done < n {

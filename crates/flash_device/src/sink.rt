@@ -1,7 +1,7 @@
 //! Output of bytes.
 ghost use Rattle.std.specs.Prelude.{◌≡◌, ℕ, ◌+◌, ◌<◌, ◌≤◌, List, Option, length, take, OnOk, OnErr, IfOk, MatchResult};
 ghost use Rattle.std.specs.Io.KnownBytes.{Appends, Keeps};
-ghost use Rattle.flash_device.specs.Output.{AppendsPart};
+ghost use Rattle.flash_device.specs.Device.{AppendsPart};
 
 use crate::counter::Counter;
 use std::io::Write;

@@ -1,9 +1,12 @@
 -- The steps of an attribute list.
-use Rattle.std.proofs.Common.{◌≡◌, ℕ, zero, suc, pred, ◌≤◌, true, false, List, [], ◌∷◌, length, drop, Option, Some, None, refl, ap, ◌∙◌, arith}
+use Rattle.std.proofs.Common.{◌≡◌, ℕ, zero, suc, pred, ◌≤◌, Bool, true, false, List, [], ◌∷◌, length, drop, Option, Some, None, refl, ap, ◌∙◌, arith}
 use Rattle.std.specs.Option.{option_map}
 use Rattle.std.proofs.lemmas.Bool.Decides.{nat_tests}
 use Rattle.flash_format.proofs.Fronts.{drop-pred}
-use Rattle.flash_format.specs.Entry.{Attribute, attr_head_of, attribute, attributes, attributes_after, ends_list, is_malformed, least_len}
+use Rattle.flash_format.specs.Entry.{Attribute, attr_head_of, attribute, attributes, attributes_after, ends_list, has_bad_len, least_len}
+
+abbrev pub is_malformed : List ℕ → Bool
+is_malformed x = has_bad_len (attr_head_of x) (length x)
 
 -- the length of a valid attribute
 pub record IsAttributeLen (x : List ℕ) (len : ℕ) : Type 0 where

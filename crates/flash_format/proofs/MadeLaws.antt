@@ -1,6 +1,7 @@
 -- Made cells decode to their components.
 use Rattle.std.proofs.Common.{◌≡◌, ℕ, zero, suc, ◌+◌, ◌-◌, ◌%◌, ◌^◌, ◌<◌, ◌≤◌, Bool, true, false, List, [], ◌∷◌, ◌++◌, length, take, drop, replicate, Option, Some, None, Result, refl, sym, ap, ◌∙◌, arith, not, append_assoc, length-append, length-drop}
-use Rattle.std.specs.Prelude.{slice_range}
+use Rattle.std.specs.Prelude.{slice_range, IfSome}
+use Rattle.std.specs.Option.{option_map_or}
 use Rattle.std.specs.List.{list_any, before_first, prefix_len}
 use Rattle.std.proofs.lemmas.Bool.{le-ltb, ne_eqb, or_from, or_parts, or_right}
 use Rattle.std.proofs.lemmas.Bool.Decides.{nat_tests}
@@ -15,7 +16,7 @@ use Rattle.flash_format.specs.declared.digest.Digest.{Digest}
 use Rattle.flash_format.specs.declared.digest.Algorithm.{Algorithm}
 use Rattle.flash_format.specs.declared.digest.Algorithm.TheVariants.{Sha256, Sha512}
 use Rattle.flash_format.specs.Head.{head_of, head_at, head_bytes, round64}
-use Rattle.flash_format.specs.Made.{name_padding, padding, IsDigest, IsMade, KeepsFour, name_room, meta_length, algorithm_row, digest_bytes, hash_attribute, hash_contents, hash_bytes, hash_len, made_head, made_metadata, made, made_attributes}
+use Rattle.flash_format.specs.Made.{name_padding, padding, IsDigest, IsMade, name_room, meta_length, algorithm_row, digest_bytes, hash_attribute, hash_contents, hash_bytes, hash_len, made_head, made_metadata, made}
 use Rattle.flash_format.specs.Entry.{Attribute, attr_head_of, attributes, attributes_after, ends_list, HASH, cell, present, component, is_nul, name_end, name_field, is_terminated, attribute_field}
 use Rattle.flash_format.specs.Components.{component_at}
 use Rattle.flash_format.specs.Placings.{IsReadAs, made_component}
@@ -23,6 +24,13 @@ use Rattle.flash_format.proofs.AttributeSteps.{attributes_end, attributes_more}
 use Rattle.flash_format.proofs.EmptyEntryLaws.{length-head_bytes, head_in_front, checked_passes}
 use Rattle.flash_format.proofs.CutSteps.{head_is}
 use Rattle.flash_format.proofs.EntryLaws.{from_head, present_by, up}
+
+-- four bytes, if any
+abbrev pub KeepsFour : Option (List ℕ) → Type 0
+KeepsFour last = IfSome last (λ bytes. length bytes ≡ 4)
+
+abbrev pub made_attributes : Option Digest → List Attribute
+made_attributes digest = option_map_or (λ d. record { tag = HASH; contents = hash_contents d } ∷ []) digest []
 
 pub room_is_least : (k : ℕ) → (k < name_room k) × (name_room k % name_padding ≡ 0) × (name_room k ≤ k + name_padding)
 room_is_least k = (omega arith, omega arith, omega arith)

@@ -8,7 +8,7 @@ use Rattle.std.proofs.lemmas.List.Elements.{All-head, All-tail, All-weaker}
 use Rattle.byteorder.specs.Endian.{little_bytes}
 use Rattle.flash_format.specs.declared.flashmap.Area.{Area}
 use Rattle.flash_format.specs.declared.flashmap.FmapHead.{FmapHead}
-use Rattle.flash_format.specs.Flashmap.{area_bytes, area_of, areas_from, fmap_head_bytes, fmap_head_of, has_signature, is_map, is_map_name, is_valid_head, map_len, map_of}
+use Rattle.flash_format.specs.Flashmap.{area_bytes, area_of, areas_from, fmap_head_bytes, fmap_head_of, has_signature, is_map, is_map_name, is_valid_head, map_len, map_from}
 use Rattle.flash_format.specs.Laws.{IsReadAsMap, NoMapBelow}
 use Rattle.flash_format.proofs.Fronts.{area_of-take, fmap_head_of-take, has_signature-take}
 use Rattle.flash_format.proofs.MapLaws.{IsMapOf, map_lowest}
@@ -24,13 +24,13 @@ map_long x is = leb-true 56 (length x) (and_parts (nat_le 56 (length x)) (has_si
 one_place : (p q : ℕ) → (p < q → ⊥) → (q < p → ⊥) → p ≡ q
 one_place p q above below = ⊎_elim (λ lower. absurd (above lower)) (λ high. ⊎_elim (λ higher. absurd (below higher)) (λ low. omega (arith, high, low)) (cases_lt q p)) (cases_lt p q)
 
-pub lowest_found : (image : List ℕ) (q : ℕ) → is_map (drop q image) ≡ true → NoMapBelow image q → map_of image ≡ Some q
-lowest_found image q here none = go (map_of image) refl (map_lowest image)
+pub lowest_found : (image : List ℕ) (q : ℕ) → is_map (drop q image) ≡ true → NoMapBelow image q → map_from 0 image ≡ Some q
+lowest_found image q here none = go (map_from 0 image) refl (map_lowest image)
   where
     inside : q < length image
     inside = omega (arith, map_long (drop q image) here, length-drop q image)
 
-    go : (o : Option ℕ) → map_of image ≡ o → IsMapOf image o → map_of image ≡ Some q
+    go : (o : Option ℕ) → map_from 0 image ≡ o → IsMapOf image o → map_from 0 image ≡ Some q
     go None e nowhere = absurd (nowhere q inside here)
     go (Some p) e known = e ∙ ap (λ n. Some n) (one_place p q (λ (lower : p < q). none p lower known.0) (λ (higher : q < p). known.1 q higher here))
 

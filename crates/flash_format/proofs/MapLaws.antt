@@ -2,7 +2,7 @@
 use Rattle.std.proofs.lemmas.Bool.Decides.{nat_tests}
 use Rattle.std.proofs.Common.{◌≡◌, ℕ, zero, suc, ◌+◌, Bool, true, false, cond, List, [], ◌∷◌, length, drop, Option, Some, None, refl, sym, subst, ◌∙◌, arith}
 use Rattle.std.specs.Prelude.{MatchOption}
-use Rattle.flash_format.specs.Flashmap.{is_map, map_from, map_of}
+use Rattle.flash_format.specs.Flashmap.{is_map, map_from}
 use Rattle.flash_format.specs.Laws.{NoMapBelow}
 
 -- the lowest valid map; without a position, no map
@@ -42,5 +42,5 @@ unfolding map_from
 map_is at [] = λ k lt is. absurd (omega arith)
 map_is at (b ∷ x) = at_front at b x (is_map (b ∷ x)) refl (map_is (at + 1) x)
 
-pub map_lowest : (image : List ℕ) → IsMapOf image (map_of image)
+pub map_lowest : (image : List ℕ) → IsMapOf image (map_from 0 image)
 map_lowest image = grind (arith, nat_tests, map_is)

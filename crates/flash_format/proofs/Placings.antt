@@ -1,22 +1,26 @@
 -- A component in place of free cells: one more, and no other change.
 use Rattle.std.proofs.lemmas.Bool.Decides.{nat_tests}
-use Rattle.std.proofs.Common.{◌≡◌, ℕ, ◌+◌, ◌-◌, ◌%◌, ◌^◌, ◌<◌, ◌≤◌, false, cond, List, [], ◌∷◌, ◌++◌, length, Option, ◌∙◌, ap, subst, arith, All, append_assoc, length-append}
+use Rattle.std.proofs.Common.{◌≡◌, sym, ℕ, ◌+◌, ◌-◌, ◌%◌, ◌^◌, ◌<◌, ◌≤◌, false, cond, List, [], ◌∷◌, ◌++◌, length, Option, ◌∙◌, ap, subst, arith, All, append_assoc, length-append}
 use Rattle.std.specs.List.{concat}
 use Rattle.std.proofs.lemmas.List.{append-nil}
 use Rattle.std.proofs.lemmas.List.Elements.{All-nil, All-cons, All-append}
 use Rattle.flash_format.specs.Head.{head_of, is_free}
-use Rattle.flash_format.specs.Made.{empty_entry, KeepsFour}
-use Rattle.flash_format.specs.Cut.{IsCell}
+use Rattle.flash_format.specs.Made.{empty_entry}
+use Rattle.flash_format.specs.Cut.{Cut, cut, IsCell}
 use Rattle.flash_format.specs.Components.{Component, component_at, components_from}
 use Rattle.flash_format.specs.declared.digest.Digest.{Digest}
 use Rattle.flash_format.specs.Splices.{AllFree, CellsBetween, splice}
 use Rattle.flash_format.specs.Placings.{HasOneMore, IsReadAs, IsSpace, space_cells, made_component}
-use Rattle.flash_format.specs.Laws.{ComponentsArePlaced}
+use Rattle.flash_format.proofs.CutLaws.{cut_unique}
 use Rattle.flash_format.proofs.CutSteps.{cell_span}
 use Rattle.flash_format.proofs.CellLists.{components-append}
 use Rattle.flash_format.proofs.EmptyEntryLaws.{length-empty_header}
-use Rattle.flash_format.proofs.MadeLaws.{length-padding}
-use Rattle.flash_format.proofs.Splices.{concat-append, space_each, concat-space, components-free, length-concat-cells, cells-before, cells-group, splice-cut, splice-components, splice-end, group-components}
+use Rattle.flash_format.proofs.MadeLaws.{KeepsFour, length-padding}
+use Rattle.flash_format.proofs.Splices.{concat-append, space_each, concat-space, components-free, length-concat-cells, cells-before, cells-group, splice-cut, splice-components, group-components}
+
+-- the cut's end is the same
+pub one_more-end : (x : List ℕ) (start end : ℕ) (g : CellsBetween x start end) (cells : List (List ℕ)) (component : Component) (y : List ℕ) → HasOneMore x start end g cells component y → (cut y).end ≡ (cut x).end
+one_more-end x start end g cells component y more = ap (λ (c : Cut). c.end) (cut_unique y (g.before ++ cells ++ g.after) g.rest g.ending more.is_cut ∙ sym (ap (λ (c : Cut). record c { cells = g.before ++ cells ++ g.after }) (cut_unique x (g.before ++ g.group ++ g.after) g.rest g.ending g.is)))
 
 -- ---- free space
 
@@ -39,7 +43,7 @@ component_among start at a b x free_before free_after used place = simp (compone
 concat-three : (before bytes after : List ℕ) → concat (space_cells before ++ (bytes ∷ []) ++ space_cells after) ≡ before ++ (bytes ++ after)
 concat-three before bytes after = simp (concat-append, concat-space, append_assoc)
 
-pub placed : ComponentsArePlaced
+pub placed : (x : List ℕ) (start end : ℕ) (g : CellsBetween x start end) (before used after : List ℕ) → AllFree g.group → IsSpace (length before) before → IsSpace (length after) after → IsCell used → is_free (head_of used) ≡ false → length before % 64 ≡ 0 → start + length (before ++ (used ++ after)) ≡ end → end - start < 2 ^ 32 → HasOneMore x start end g (space_cells before ++ (used ∷ []) ++ space_cells after) (component_at (start + length before) used) (splice x start end (before ++ (used ++ after)))
 placed x start end g before used after free space_before space_after is_cell is_used aligned size small =
     let cells : List (List ℕ) = space_cells before ++ (used ∷ []) ++ space_cells after in
     let at = start + length before in
@@ -59,7 +63,6 @@ placed x start end g before used after free space_before space_after is_cell is_
     component_among start at (space_cells before) (space_cells after) used first.1 last.1 is_used (ap (λ (l : List ℕ). start + length l) (concat-space before)) in
     record {
       is_cut = rw joined at (splice-cut x start end g cells each long);
-      same_end = rw joined at (splice-end x start end g cells each long);
       old_components = rw (components-free start g.group free, append-nil) at (group-components x start end g);
       new_components = rw (joined, here, append_assoc (components_from 0 g.before)) at (splice-components x start end g cells each long);
     }

@@ -8,7 +8,8 @@ use Rattle.std.proofs.lemmas.Bool.Decides.{nat_tests}
 use Rattle.std.proofs.lemmas.Fmt.{decimal_injective, decimal_is_IsNumeral, digits_is_IsNumeral}
 use Rattle.std.proofs.lemmas.List.Folds.{list_all-append}
 use Rattle.flash_format.specs.Flashmap.{is_printing}
-use Rattle.flash_format.specs.Texts.{hexadecimal, is_field, printed_byte, printed_name}
+use Rattle.flash_format.specs.Texts.{hexadecimal, printed_byte, printed_name}
+use Rattle.flash_format.proofs.TypeLaws.{is_field}
 
 -- ---- fields
 

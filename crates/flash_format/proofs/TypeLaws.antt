@@ -3,8 +3,8 @@ use Rattle.std.proofs.Common.{◌≡◌, ℕ, Bool, true, false, nat_eq, nat_le,
 use Rattle.std.specs.List.{list_all}
 use Rattle.std.specs.Map.{lookup}
 use Rattle.std.proofs.lemmas.Bool.{eqb-true, and_parts}
-use Rattle.flash_format.specs.Texts.{is_field}
-use Rattle.flash_format.specs.TypeNames.{compression_table, name_of_compression, name_of_type, number_for, type_table, type_of_text}
+use lib.Chars.{codes}
+use Rattle.flash_format.specs.TypeNames.{name_of_compression, name_of_type, number_for, type_table, type_of_text}
 
 -- a test of all rows holds for a found row
 found_passes : (test : ℕ × List ℕ → Bool) (rows : List (ℕ × List ℕ)) (n : ℕ) (name : List ℕ) → list_all test rows ≡ true
@@ -24,11 +24,18 @@ pub read_back : (kind : ℕ) (name : List ℕ) → name_of_type kind ≡ Some na
 unfolding name_of_type type_of_text
 read_back kind name is = some_is kind _ (found_passes (λ row. is_some_of row.0 (type_of_text row.1)) type_table kind name refl is)
 
+abbrev pub compression_table : List (ℕ × List ℕ)
+compression_table = (0, codes "none") ∷ (1, codes "LZMA") ∷ (2, codes "LZ4") ∷ []
+
 pub compression_back : (n : ℕ) (name : List ℕ) → name_of_compression n ≡ Some name → number_for compression_table name ≡ Some n
 unfolding name_of_compression
 compression_back n name is = grind (arith, some_is, found_passes)
 
 -- ---- the names as fields
+
+-- a text between tabs: no byte below the blank
+abbrev pub is_field : List ℕ → Bool
+is_field text = list_all (nat_le 32) text
 
 -- a field which begins with a letter, unlike numbers
 abbrev pub is_word : List ℕ → Bool

@@ -1,5 +1,5 @@
 -- Components: all cells of a region except free cells.
-use Rattle.std.specs.Prelude.{ℕ, ◌+◌, Bool, not, List, [], ◌∷◌, length, slice_range, unwrap_or, ◌==◌, if◌then◌else◌}
+use Rattle.std.specs.Prelude.{ℕ, ◌+◌, List, [], ◌∷◌, length, slice_range, unwrap_or, if◌then◌else◌}
 use Rattle.std.specs.List.{before_first}
 use Rattle.std.specs.Option.{option_map_or}
 use Rattle.flash_format.specs.Head.{be32, head_of, is_free}
@@ -29,9 +29,6 @@ cell_content x = let h = head_of x in slice_range x h.offset (h.offset + h.len)
 -- the compression of the first compression attribute, or 0
 abbrev pub packing : List Attribute → ℕ
 packing all = option_map_or (be32 0) (data_of COMPRESSION all) 0
-
-abbrev pub is_packed : List Attribute → Bool
-is_packed all = not (packing all == 0)
 
 abbrev pub component_at : ℕ → List ℕ → Component
 component_at at x = let name = cell_name x in let kind = (head_of x).kind in

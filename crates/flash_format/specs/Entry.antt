@@ -40,9 +40,6 @@ ends_list x = nat_lt (length x) 8 || is_unused (attr_head_of x).tag
 abbrev pub has_bad_len : AttrHead → ℕ → Bool
 has_bad_len h left = nat_lt h.len (least_len h.tag) || nat_lt left h.len
 
-abbrev pub is_malformed : List ℕ → Bool
-is_malformed x = has_bad_len (attr_head_of x) (length x)
-
 abbrev pub attribute : List ℕ → Attribute
 attribute x = let h = attr_head_of x in record { tag = h.tag; contents = slice_range x 8 h.len }
 
@@ -51,7 +48,7 @@ unfoldable pub attributes_after : ℕ → List ℕ → Option (List Attribute)
 attributes_after skip [] = Some []
 attributes_after (suc skip) (b ∷ rest) = attributes_after skip rest
 attributes_after zero (b ∷ rest) = let x = b ∷ rest in
-    if ends_list x then Some [] else (if is_malformed x then None
+    if ends_list x then Some [] else (if has_bad_len (attr_head_of x) (length x) then None
     else option_map (◌∷◌ (attribute x)) (attributes_after (pred (attr_head_of x).len) rest))
 
 -- None for a malformed attribute

@@ -1,7 +1,7 @@
 -- Flash maps: a head and areas (`struct fmap` and `struct fmap_area` of FMAP 1.1), little-endian.
 -- This project's rules: the conditions of a valid map, and the choice of the lowest.
 use Rattle.std.specs.Prelude.{ℕ, zero, suc, ◌+◌, ◌*◌, Bool, ◌&&◌, List, [], ◌∷◌, ◌++◌, length, drop, slice_index, slice_range, Option, Some, None, nat_eq, nat_le, ◌==◌, if◌then◌else◌}
-use Rattle.std.specs.List.{starts_with, list_any, list_all, before_first, find}
+use Rattle.std.specs.List.{starts_with, list_any, list_all, before_first}
 use Rattle.byteorder.specs.Endian.{little_number, little_bytes}
 use Rattle.std.specs.Str.{bytes_eq}
 use lib.Chars.{codes}
@@ -69,19 +69,9 @@ unfoldable pub map_from : ℕ → List ℕ → Option ℕ
 map_from at [] = None
 map_from at (b ∷ x) = if is_map (b ∷ x) then Some at else map_from (at + 1) x
 
-abbrev pub map_of : List ℕ → Option ℕ
-map_of image = map_from 0 image
-
 unfoldable pub areas_from : ℕ → List ℕ → List Area
 areas_from zero x = []
 areas_from (suc n) x = area_of x ∷ areas_from n (drop area_len x)
 
-abbrev pub areas_at : List ℕ → ℕ → List Area
-areas_at image q = areas_from (fmap_head_of (drop q image)).nareas (drop (q + fmap_head_len) image)
-
 abbrev pub is_area : List ℕ → Area → Bool
 is_area name a = bytes_eq name (text_of a.name)
-
--- the first area with the name, in the map at q
-abbrev pub area_in : List ℕ → ℕ → List ℕ → Option Area
-area_in image q name = find (is_area name) (areas_at image q)

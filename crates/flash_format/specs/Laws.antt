@@ -1,16 +1,15 @@
 -- Laws of the definitions.
-use Rattle.std.specs.Prelude.{◌≡◌, ◌≢◌, ℕ, ◌+◌, ◌-◌, ◌%◌, ◌^◌, ◌<◌, ◌≤◌, true, false, List, [], ◌∷◌, ◌++◌, length, take, drop, map, All}
-use Rattle.std.specs.List.{concat}
+use Rattle.std.specs.Prelude.{◌≡◌, ◌≢◌, ℕ, ◌+◌, ◌%◌, ◌^◌, ◌<◌, ◌≤◌, true, List, ◌++◌, length, take, drop, map, All, nat_le}
+use Rattle.std.specs.List.{concat, list_all}
 use Rattle.flash_format.specs.Head.{head_of, is_free}
 use Rattle.flash_format.specs.Entry.{entry, cell}
 use Rattle.flash_format.specs.Cut.{cut, after, IsCell, IsCut}
-use Rattle.flash_format.specs.Components.{Component, component_at, components, components_from}
+use Rattle.flash_format.specs.Components.{Component, components, components_from}
 use Rattle.flash_format.specs.Splices.{AllFree, CellsBetween, splice}
-use Rattle.flash_format.specs.Placings.{IsSpace, HasOneMore, space_cells}
 use Rattle.flash_format.specs.Flashmap.{areas_from, fmap_head_len, fmap_head_of, is_map}
 use Rattle.flash_format.specs.declared.flashmap.Area.{Area}
 use Rattle.flash_format.specs.declared.flashmap.FmapHead.{FmapHead}
-use Rattle.flash_format.specs.Texts.{hexadecimal, is_field, printed_name}
+use Rattle.flash_format.specs.Texts.{hexadecimal, printed_name}
 
 -- a cell of span bytes at the start of x
 pub record EntriesAreReadAlike (x : List ℕ) (span : ℕ) : Type 0 where
@@ -48,16 +47,6 @@ pub record GroupsAreReplaced (x : List ℕ) (start end : ℕ) (g : CellsBetween 
   pub emptied : AllFree new → components (splice x start end (concat new))
       ≡ components_from 0 g.before ++ components_from end g.after
 
--- a used cell between free space, in place of free cells, adds exactly one component
-abbrev pub ComponentsArePlaced : Type 0
-ComponentsArePlaced = (x : List ℕ) (start end : ℕ) (g : CellsBetween x start end)
-    (before used after : List ℕ) → AllFree g.group → IsSpace (length before) before
-    → IsSpace (length after) after → IsCell used → is_free (head_of used) ≡ false
-    → length before % 64 ≡ 0 → start + length (before ++ (used ++ after)) ≡ end
-    → end - start < 2 ^ 32
-    → HasOneMore x start end g (space_cells before ++ (used ∷ []) ++ space_cells after)
-    (component_at (start + length before) used) (splice x start end (before ++ (used ++ after)))
-
 -- no valid map begins below q
 abbrev pub NoMapBelow : List ℕ → ℕ → Type 0
 NoMapBelow image q = (k : ℕ) → k < q → is_map (drop k image) ≢ true
@@ -67,9 +56,10 @@ pub record IsReadAsMap (h : FmapHead) (areas : List Area) (x : List ℕ) : Type 
   pub head : fmap_head_of x ≡ h
   pub all : areas_from h.nareas (drop fmap_head_len x) ≡ areas
 
--- different names, and different numbers of 64 bits, have different, valid texts
+-- Different names, and different numbers of 64 bits, have different texts, without a byte below the
+-- blank, as texts between tabs have to be.
 pub record PrintedTextsAreReadBack : Type 0 where
   pub names : (a b : List ℕ) → printed_name a ≡ printed_name b → a ≡ b
-  pub name_fields : (name : List ℕ) → is_field (printed_name name) ≡ true
+  pub name_fields : (name : List ℕ) → list_all (nat_le 32) (printed_name name) ≡ true
   pub numbers : (m n : ℕ) → m < 2 ^ 64 → n < 2 ^ 64 → hexadecimal m ≡ hexadecimal n → m ≡ n
-  pub number_fields : (n : ℕ) → n < 2 ^ 64 → is_field (hexadecimal n) ≡ true
+  pub number_fields : (n : ℕ) → n < 2 ^ 64 → list_all (nat_le 32) (hexadecimal n) ≡ true

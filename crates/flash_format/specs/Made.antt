@@ -15,7 +15,7 @@ use Rattle.flash_format.specs.declared.digest.Algorithm.TheVariants.{Sha256, Sha
 use Rattle.flash_format.specs.declared.digest.Digest.{Digest}
 use Rattle.flash_format.specs.declared.digest.Digest.TheVariants as digests
 use Rattle.flash_format.specs.declared.meta.Meta.{Meta}
-use Rattle.flash_format.specs.Entry.{Attribute, HASH, is_nul}
+use Rattle.flash_format.specs.Entry.{HASH, is_nul}
 
 -- the unit of a name field's length
 abbrev pub name_padding : ℕ
@@ -27,8 +27,7 @@ header_length = 24 + name_padding
 
 -- For a cell of the given size. With `kept`, the free space excludes the last four bytes.
 unfoldable pub empty_header : ℕ → Bool → List ℕ
-empty_header size kept = let n = size - header_length - (if kept then 4 else 0) in
-    head_bytes
+empty_header size kept = let n = size - header_length - (if kept then 4 else 0) in head_bytes
     (record { len = n; kind = 0xffffffff; attributes_offset = 0; offset = header_length })
     ++ replicate (header_length - 24) 0
 
@@ -59,11 +58,14 @@ abbrev pub algorithm_row : Algorithm → AlgorithmRow
 algorithm_row Sha256 = record { number = 2; len = 32; name = codes "sha256" }
 algorithm_row Sha512 = record { number = 3; len = 64; name = codes "sha512" }
 
+abbrev pub algorithms : List Algorithm
+algorithms = Sha256 ∷ Sha512 ∷ []
+
 abbrev pub algorithm_numbered : ℕ → Option Algorithm
-algorithm_numbered number = find (λ a. (algorithm_row a).number == number) (Sha256 ∷ Sha512 ∷ [])
+algorithm_numbered number = find (λ a. (algorithm_row a).number == number) algorithms
 
 abbrev pub algorithm_named : List ℕ → Option Algorithm
-algorithm_named name = find (λ a. bytes_eq (algorithm_row a).name name) (Sha256 ∷ Sha512 ∷ [])
+algorithm_named name = find (λ a. bytes_eq (algorithm_row a).name name) algorithms
 
 abbrev pub digest_with : Algorithm → List ℕ → Digest
 digest_with Sha256 bytes = digests.Sha256 bytes
@@ -76,9 +78,6 @@ algorithm (digests.Sha512 bytes) = Sha512
 abbrev pub digest_bytes : Digest → List ℕ
 digest_bytes (digests.Sha256 bytes) = bytes
 digest_bytes (digests.Sha512 bytes) = bytes
-
-abbrev pub digest_len : Digest → ℕ
-digest_len digest = (algorithm_row (algorithm digest)).len
 
 -- a hash attribute's contents: the algorithm's number and the digest
 abbrev pub hash_contents : Digest → List ℕ
@@ -93,18 +92,10 @@ hash_bytes digest = option_map_or hash_attribute digest []
 
 -- the attribute's length, or 0
 abbrev pub hash_len : Option Digest → ℕ
-hash_len digest = option_map_or (λ d. 12 + digest_len d) digest 0
-
-abbrev pub made_attributes : Option Digest → List Attribute
-made_attributes digest =
-    option_map_or (λ d. record { tag = HASH; contents = hash_contents d } ∷ []) digest []
+hash_len digest = option_map_or (λ d. 12 + (algorithm_row (algorithm d)).len) digest 0
 
 abbrev pub IsDigest : Option Digest → Type 0
-IsDigest digest = IfSome digest (λ d. length (digest_bytes d) ≡ digest_len d)
-
--- four bytes, if any
-abbrev pub KeepsFour : Option (List ℕ) → Type 0
-KeepsFour last = IfSome last (λ bytes. length bytes ≡ 4)
+IsDigest digest = IfSome digest (λ d. length (digest_bytes d) ≡ (algorithm_row (algorithm d)).len)
 
 -- ---- a component
 

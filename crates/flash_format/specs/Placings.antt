@@ -1,10 +1,11 @@
 -- The placement of a component in free cells.
 use Rattle.std.specs.Prelude.{◌≡◌, ℕ, ◌<◌, Bool, false, List, [], ◌∷◌, ◌++◌, length, Option}
+use Rattle.std.specs.Option.{option_map_or}
 use Rattle.flash_format.specs.declared.digest.Digest.{Digest}
-use Rattle.flash_format.specs.Made.{empty_header, made_attributes}
+use Rattle.flash_format.specs.Made.{empty_header, hash_contents}
 use Rattle.flash_format.specs.Head.{head_of, is_free}
-use Rattle.flash_format.specs.Entry.{cell, entry}
-use Rattle.flash_format.specs.Cut.{cut, IsCut}
+use Rattle.flash_format.specs.Entry.{HASH, cell, entry}
+use Rattle.flash_format.specs.Cut.{IsCut}
 use Rattle.flash_format.specs.Components.{Component, component_at, components_from, components}
 use Rattle.flash_format.specs.Splices.{CellsBetween}
 
@@ -18,7 +19,8 @@ space_cells [] = []
 space_cells (b ∷ bytes) = (b ∷ bytes) ∷ []
 
 abbrev pub made_component : ℕ → List ℕ → ℕ → Option Digest → List ℕ → List ℕ → Component
-made_component at name kind digest content x = let all = made_attributes digest in
+made_component at name kind digest content x = let all = option_map_or
+    (λ d. record { tag = HASH; contents = hash_contents d } ∷ []) digest [] in
     record { at = at; name = name; kind = kind; attributes = all; content = content; bytes = x }
 
 -- a cell of the given length, which decodes to the component
@@ -32,7 +34,6 @@ pub record IsReadAs (name : List ℕ) (kind : ℕ) (digest : Option Digest) (con
 pub record HasOneMore (x : List ℕ) (start end : ℕ) (g : CellsBetween x start end)
     (cells : List (List ℕ)) (component : Component) (y : List ℕ) : Type 0 where
   pub is_cut : IsCut y (g.before ++ cells ++ g.after) g.rest g.ending
-  pub same_end : (cut y).end ≡ (cut x).end
   pub old_components : components x ≡ components_from 0 g.before ++ components_from end g.after
   pub new_components : components y
       ≡ components_from 0 g.before ++ (component ∷ components_from end g.after)

@@ -1,6 +1,6 @@
 -- Names and numbers as printed: this project's own texts.
-use Rattle.std.specs.Prelude.{◌≡◌, ℕ, ◌+◌, ◌≤◌, ◌/◌, ◌%◌, Bool, false, not, nat_le, ◌&&◌, List, [], ◌∷◌, ◌++◌, ◌==◌, if◌then◌else◌, unwrap_or}
-use Rattle.std.specs.List.{flat_map, list_all}
+use Rattle.std.specs.Prelude.{◌≡◌, ℕ, ◌+◌, ◌≤◌, ◌/◌, ◌%◌, false, not, ◌&&◌, List, [], ◌∷◌, ◌++◌, ◌==◌, if◌then◌else◌, unwrap_or}
+use Rattle.std.specs.List.{flat_map}
 use Rattle.std.specs.Fmt.{digits, digit_glyph}
 use lib.Chars.{codes}
 use Rattle.arrayvec.specs.ArrayVec.{ArrayVec, array_vec_len}
@@ -31,10 +31,6 @@ tab = codes "\t"
 
 abbrev pub line_feed : List ℕ
 line_feed = codes "\n"
-
--- a text between tabs: no byte below the blank
-abbrev pub is_field : List ℕ → Bool
-is_field text = list_all (nat_le 32) text
 
 -- appended, with an upper bound of the added length
 pub record Pushes (old : ArrayVec ℕ) (text : List ℕ) (most : ℕ) (new : ArrayVec ℕ) : Type 0 where

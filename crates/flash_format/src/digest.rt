@@ -3,7 +3,7 @@
 ghost use Rattle.std.specs.Prelude.{◌≡◌, ◌≤◌, ◌*◌, length, take, drop};
 ghost use Rattle.hex.specs.Hex.{encode_lower};
 ghost use Rattle.flash_format.specs.Made.{algorithm_row, algorithm_named, algorithm_numbered};
-ghost use Rattle.flash_format.specs.Made.{algorithm, digest_bytes, digest_len, digest_with};
+ghost use Rattle.flash_format.specs.Made.{algorithm, digest_bytes, digest_with};
 
 /// A digest algorithm of FIPS 180-4.
 #[derive(Clone, Copy)]
@@ -102,7 +102,7 @@ impl Digest {
     /// Returns the bytes in FIPS 180-4's order.
     pub fn bytes(&self) -> &[u8]
         ensures value { result.now ≡ digest_bytes self.now }
-        ensures len { length result.now ≡ digest_len self.now }
+        ensures len { length result.now ≡ (algorithm_row (algorithm self.now)).len }
     {
         match self {
             Digest::Sha256(bytes) => bytes,
@@ -113,7 +113,7 @@ impl Digest {
 
 /// Writes lower-case digits to the front of `out`, and returns their number.
 pub fn digest_text(digest: &Digest, out: &mut [u8; 128]) -> usize
-    ensures count { result ≡ 2 * digest_len digest.now }
+    ensures count { result ≡ 2 * (algorithm_row (algorithm digest.now)).len }
     ensures text { take result out.new ≡ encode_lower (digest_bytes digest.now) }
     ensures after { drop result out.new ≡ drop result out.old }
 {

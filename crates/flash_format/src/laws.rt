@@ -1,17 +1,18 @@
 //! Laws of the definitions: contracts without code.
 
-ghost use Rattle.std.specs.Prelude.{◌≡◌, ℕ, ◌+◌, ◌++◌, ◌^◌, ◌%◌, ◌<◌, ◌≤◌, true, List, length, drop, All, MatchOption, Option, Some};
+ghost use Rattle.std.specs.Prelude.{◌≡◌, ℕ, ◌+◌, ◌-◌, ◌++◌, ◌^◌, ◌%◌, ◌<◌, ◌≤◌, true, false, List, [], ◌∷◌, length, drop, All, IfSome, MatchOption, Option, Some};
 ghost use Rattle.std.specs.List.{concat, flat_map};
 ghost use Rattle.flash_format.specs.declared.digest.Digest.{Digest};
-ghost use Rattle.flash_format.specs.Made.{name_padding, header_length, empty_entry, IsDigest, IsMade, KeepsFour, hash_len, made, made_metadata, meta_length, name_room};
+ghost use Rattle.flash_format.specs.Made.{name_padding, header_length, empty_entry, IsDigest, IsMade, hash_len, made, made_metadata, meta_length, name_room};
 ghost use Rattle.flash_format.specs.Head.{head_of, is_free, round64};
 ghost use Rattle.flash_format.specs.Entry.{cell, entry};
 ghost use Rattle.flash_format.specs.Cut.{End, cut, IsCell, IsCut};
-ghost use Rattle.flash_format.specs.Splices.{CellsBetween};
-ghost use Rattle.flash_format.specs.Placings.{IsReadAs, IsSpace};
+ghost use Rattle.flash_format.specs.Components.{component_at};
+ghost use Rattle.flash_format.specs.Splices.{AllFree, CellsBetween, splice};
+ghost use Rattle.flash_format.specs.Placings.{HasOneMore, IsReadAs, IsSpace, space_cells};
 ghost use Rattle.flash_format.specs.TypeNames.{name_of_type, type_of_text};
-ghost use Rattle.flash_format.specs.Flashmap.{fmap_head_len, fmap_head_of, fmap_head_bytes, area_len, area_of, area_bytes, is_map, is_map_name, map_of};
-ghost use Rattle.flash_format.specs.Laws.{EntriesAreReadAlike, CutsGoOn, GroupsAreReplaced, ComponentsArePlaced, NoMapBelow, IsReadAsMap, PrintedTextsAreReadBack};
+ghost use Rattle.flash_format.specs.Flashmap.{fmap_head_len, fmap_head_of, fmap_head_bytes, area_len, area_of, area_bytes, is_map, is_map_name, map_from};
+ghost use Rattle.flash_format.specs.Laws.{EntriesAreReadAlike, CutsGoOn, GroupsAreReplaced, NoMapBelow, IsReadAsMap, PrintedTextsAreReadBack};
 
 use crate::flashmap::{Area, FmapHead};
 use crate::head::HEADER_LENGTH;
@@ -61,7 +62,7 @@ pub fn made_cells_are_read_as_made()
         → let component = made_metadata name kind digest gap (length content) ++ content in
         IsReadAs name kind digest content (component ++ more) (round64 (length component)) }
     ensures len { (name : List ℕ) (kind : ℕ) (digest : Option Digest) (gap : ℕ) (content : List ℕ)
-        (last : Option (List ℕ)) → IsDigest digest → KeepsFour last
+        (last : Option (List ℕ)) → IsDigest digest → IfSome last (λ bytes. length bytes ≡ 4)
         → length (made name kind digest gap content last)
         ≡ round64 (meta_length (length name) (hash_len digest) + gap + length content) }
     ensures room { (k : ℕ)
@@ -70,14 +71,21 @@ pub fn made_cells_are_read_as_made()
 
 /// Proves that placing a component adds exactly one component, and changes no other.
 pub fn components_are_placed()
-    ensures placed { ComponentsArePlaced }
-    ensures empty_entries { (size : ℕ) (last : Option (List ℕ)) → 64 ≤ size → KeepsFour last
-        → IsSpace size (empty_entry size last) }
+    ensures placed { (x : List ℕ) (start end : ℕ) (g : CellsBetween x start end)
+        (before used after : List ℕ) → AllFree g.group → IsSpace (length before) before
+        → IsSpace (length after) after → IsCell used → is_free (head_of used) ≡ false
+        → length before % 64 ≡ 0 → start + length (before ++ (used ++ after)) ≡ end
+        → end - start < 2 ^ 32
+        → HasOneMore x start end g (space_cells before ++ (used ∷ []) ++ space_cells after)
+        (component_at (start + length before) used)
+        (splice x start end (before ++ (used ++ after))) }
+    ensures empty_entries { (size : ℕ) (last : Option (List ℕ)) → 64 ≤ size
+        → IfSome last (λ bytes. length bytes ≡ 4) → IsSpace size (empty_entry size last) }
 {}
 
 /// Proves that an image's map is the lowest valid map.
 pub fn maps_are_the_lowest()
-    ensures { (image : List ℕ) → MatchOption (map_of image) (NoMapBelow image (length image))
+    ensures { (image : List ℕ) → MatchOption (map_from 0 image) (NoMapBelow image (length image))
         (λ q. (is_map (drop q image) ≡ true) × NoMapBelow image q) }
 {}
 

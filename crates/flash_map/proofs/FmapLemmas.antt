@@ -10,13 +10,13 @@ use lib.Chars.{codes}
 use lib.Dec.{eqb}
 use Rattle.memchr.specs.Find.{Nowhere, IsFirst, OccursAt, FindsNeedle}
 use Rattle.flash_device.specs.Pages.{Pages, HasRead}
-use Rattle.flash_map.specs.Fmap.{HasSignatureAt, map_head, map_head_in, found_from}
+use Rattle.flash_map.specs.Fmap.{map_head, found_from}
 use Rattle.flash_format.specs.declared.flashmap.FmapHead.{FmapHead}
 use Rattle.flash_format.specs.declared.flashmap.Area.{Area}
 use Rattle.flash_format.specs.Flashmap.{is_map, map_from, fmap_head_of, has_signature, is_valid_head, area_of, map_len}
 use Rattle.flash_format.proofs.Fronts.{has_signature-take, fmap_head_of-take, area_of-take}
 use Rattle.flash_format.proofs.MapSteps.{map_step, map_end, not_map_short}
-use Rattle.std.proofs.Common.{Bool, true, false, refl, length-drop}
+use Rattle.std.proofs.Common.{Bool, true, false, ◌&&◌, cond, refl, length-drop}
 use Rattle.std.proofs.lemmas.Bool.{leb-true, le-leb}
 use Rattle.std.proofs.lemmas.Grind.{common_steps}
 use Rattle.flash_device.proofs.BytesLemmas.{slice_range_is, length-slice_range}
@@ -26,6 +26,9 @@ use Rattle.flash_device.proofs.WindowLemmas.{HasRead-then, HasRead-within}
 -- a map's first bytes
 abbrev pub signature : List ℕ
 signature = codes "__FMAP__"
+
+abbrev pub HasSignatureAt : List ℕ → ℕ → Type 0
+HasSignatureAt image q = has_signature (drop q image) ≡ true
 
 -- a valid map begins at q
 abbrev pub IsTableAt : List ℕ → ℕ → Type 0
@@ -206,9 +209,9 @@ pub head_some : (x : List ℕ) (h : FmapHead) → Some h ≡ map_head x → (is_
 head_some x h e = grind (arith, common_steps, e)
 
 -- from the head's own bytes
-pub map_head-take : (x : List ℕ) → 56 ≤ length x → map_head_in (take 56 x) (length x) ≡ map_head x
+pub map_head-take : (x bytes : List ℕ) (left : ℕ) → 56 ≤ left → take 56 x ≡ bytes → length x ≡ left → map_head x ≡ cond (has_signature bytes && is_valid_head (fmap_head_of bytes) left) (Some (fmap_head_of bytes)) None
 unfolding is_map
-map_head-take x long = rw (has_signature-take x 56 (omega arith), fmap_head_of-take x 56 (omega arith), le-leb 56 (length x) long) refl
+map_head-take x bytes left long is size = rw (sym is, sym size, has_signature-take x 56 (omega arith), fmap_head_of-take x 56 (omega arith), le-leb 56 (length x) (omega (arith, long, size))) refl
 
 pub map_head-short : (x : List ℕ) → length x < 56 → None ≡ map_head x
 map_head-short x short = rw (not_map_short x short) refl
@@ -216,10 +219,9 @@ map_head-short x short = rw (not_map_short x short) refl
 pub area_read : (bytes image : List ℕ) (p q : ℕ) (a : Area) → a ≡ area_of bytes → bytes ≡ slice_range image p (p + 42) → p ≡ q → a ≡ area_of (drop q image)
 area_read bytes image p q a e read same = e ∙ ap area_of (read ∙ slice_range_is image p 42) ∙ area_of-take (drop p image) 42 (omega arith) ∙ ap (λ k. area_of (drop k image)) same
 
-pub head_read : (bytes image : List ℕ) (left p : ℕ) (h : Option FmapHead) → h ≡ map_head_in bytes left → bytes ≡ slice_range image p (p + 56) → p + left ≡ length image → 56 ≤ left → h ≡ map_head (drop p image)
-head_read bytes image left p h e read size long =
-    let rest : left ≡ length (drop p image) = omega (arith, length-drop p image, size) in
-    e ∙ ap (λ b. map_head_in b left) (read ∙ slice_range_is image p 56) ∙ ap (map_head_in (take 56 (drop p image))) rest ∙ map_head-take (drop p image) (omega (arith, rest, long))
+pub head_read : (bytes image : List ℕ) (left p : ℕ) (h : Option FmapHead) → ((x : List ℕ) → take 56 x ≡ bytes → length x ≡ left → h ≡ map_head x) → bytes ≡ slice_range image p (p + 56) → p + left ≡ length image → h ≡ map_head (drop p image)
+head_read bytes image left p h answer read size =
+    answer (drop p image) (sym (read ∙ slice_range_is image p 56)) (omega (arith, length-drop p image, size))
 
 pub valid_fits : (h : FmapHead) (left : ℕ) → is_valid_head h left ≡ true → map_len h ≤ left
 unfolding is_valid_head

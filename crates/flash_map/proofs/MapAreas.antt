@@ -1,10 +1,15 @@
 -- The areas of a map, in order.
 use Rattle.std.proofs.Common.{◌≡◌, ℕ, zero, suc, ◌+◌, ◌*◌, List, [], ◌∷◌, ◌++◌, drop, sym, ap, ◌∙◌, add-one, arith}
+use Rattle.std.specs.Prelude.{map}
+use Rattle.std.specs.List.{enumerate_from}
 use Rattle.std.proofs.lemmas.List.{drop-drop}
 use Rattle.flash_format.specs.declared.flashmap.Area.{Area}
 use Rattle.flash_format.specs.Flashmap.{area_of, areas_from}
 use Rattle.flash_map.specs.declared.areas.NumberedArea.{NumberedArea}
-use Rattle.flash_map.specs.Areas.{numbered_from}
+
+-- the areas with indices from `number`
+abbrev pub numbered_from : ℕ → List Area → List NumberedArea
+numbered_from number areas = map (λ p. record { number = p.0; area = p.1 }) (enumerate_from number areas)
 
 abbrev area_at : List ℕ → ℕ → ℕ → NumberedArea
 area_at x number at = record { number = number; area = area_of (drop at x) }

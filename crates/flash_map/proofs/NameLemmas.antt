@@ -14,7 +14,7 @@ use Rattle.flash_format.specs.Flashmap.{text_of}
 use Rattle.flash_map.specs.declared.areas.NumberedArea.{NumberedArea}
 use Rattle.flash_map.specs.declared.names.AreaNames.{AreaNames}
 use Rattle.flash_map.specs.Areas.{has_name}
-use Rattle.flash_map.specs.Names.{area_for, Notes}
+use Rattle.flash_map.specs.Areas.{area_for, Notes}
 
 -- the table has the area's name, or not
 is_known-in : (names : AreaNames) (before : List NumberedArea) (a : NumberedArea) (key name : List ℕ) (known : Bool) → key ≡ text_of a.area.name → is_some (area_for names key) ≡ known → Notes names before → has_name name a ≡ true → is_some (find (has_name name) before) ≡ known

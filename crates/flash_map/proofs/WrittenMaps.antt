@@ -7,10 +7,13 @@ use Rattle.flash_format.specs.Flashmap.{areas_from, fmap_head_len, fmap_head_of,
 use Rattle.flash_format.specs.Laws.{IsReadAsMap}
 use Rattle.flash_format.proofs.MapBytes.{lowest_found}
 use Rattle.flash_device.specs.Device.{overwritten}
-use Rattle.flash_map.specs.Laws.{WrittenMapsAreFound}
+use Rattle.flash_map.specs.Fmap.{FindsMap}
+use Rattle.flash_format.specs.Laws.{NoMapBelow}
+use Rattle.flash_format.specs.declared.flashmap.Area.{Area}
+use Rattle.std.specs.Prelude.{◌≤◌}
 use Rattle.flash_map.specs.declared.search.FoundMap.{FoundMap}
 
-pub maps_found : WrittenMapsAreFound
+pub maps_found : (h : FmapHead) (areas : List Area) (bytes image : List ℕ) (q : ℕ) → ((more : List ℕ) → IsReadAsMap h areas (bytes ++ more)) → q ≤ length image → let now = overwritten image q bytes in NoMapBelow now q → FindsMap h areas now q
 maps_found h areas bytes image q read inside none =
     let rest : List ℕ = drop (q + length bytes) image in
     let now : List ℕ = overwritten image q bytes in
@@ -22,5 +25,5 @@ maps_found h areas bytes image q read inside none =
       found =
           ap (λ (o : Option ℕ). option_map (λ p. let f : FoundMap = record { at = p; head = fmap_head_of (drop p now) } in f) o) (lowest_found now q (ap is_map there ∙ is.valid) none)
           ∙ ap (λ (k : FmapHead). Some (let f : FoundMap = record { at = q; head = k } in f)) head;
-      all = ap (λ (k : FmapHead). areas_from k.nareas (drop (q + fmap_head_len) now)) head ∙ ap (λ (l : List ℕ). areas_from h.nareas l) behind ∙ is.all;
+      all = ap (λ (l : List ℕ). areas_from h.nareas l) behind ∙ is.all;
     }

@@ -1,10 +1,15 @@
--- The areas of a flash map.
-use Rattle.std.specs.Prelude.{ℕ, ◌+◌, Bool, List, [], ◌∷◌}
+-- The areas of a flash map, and the first area of each name.
+use Rattle.std.specs.Prelude.{◌≡◌, ℕ, ◌+◌, Bool, List, [], map, Option}
+use Rattle.std.specs.List.{enumerate_from, find}
+use Rattle.std.specs.Ordering.{nat_cmp}
+use Rattle.std.specs.Cmp.Lexicographic.{slice_cmp}
+use Rattle.std.specs.BTreeMap.{get_by}
 use Rattle.std.specs.Option.{option_map_or}
 use Rattle.flash_format.specs.declared.flashmap.Area.{Area}
 use Rattle.flash_format.specs.Flashmap.{is_area}
 use Rattle.flash_map.specs.declared.search.FoundMap.{FoundMap}
 use Rattle.flash_map.specs.declared.areas.NumberedArea.{NumberedArea}
+use Rattle.flash_map.specs.declared.names.AreaNames.{AreaNames}
 use Rattle.flash_map.specs.Fmap.{areas_of, found_in}
 
 abbrev pub area_end : Area → ℕ
@@ -13,15 +18,18 @@ area_end area = area.offset + area.size
 abbrev pub has_name : List ℕ → NumberedArea → Bool
 has_name name a = is_area name a.area
 
--- the areas with indices from `number`
-abbrev pub numbered_from : ℕ → List Area → List NumberedArea
-numbered_from number [] = []
-numbered_from number (area ∷ areas) =
-    record { number = number; area = area } ∷ numbered_from (number + 1) areas
-
+-- the areas with their indices from 0
 abbrev pub map_areas : List ℕ → FoundMap → List NumberedArea
-map_areas image map = numbered_from 0 (areas_of image map)
+map_areas image found =
+    map (λ p. record { number = p.0; area = p.1 }) (enumerate_from 0 (areas_of image found))
 
 -- the areas of the map, if any
 unfoldable pub image_areas : List ℕ → List NumberedArea
 image_areas image = option_map_or (map_areas image) (found_in image) []
+
+abbrev pub area_for : AreaNames → List ℕ → Option NumberedArea
+area_for names name = get_by (λ k. slice_cmp nat_cmp name k.now) names.first
+
+-- the table has exactly the first area of each name
+abbrev pub Notes : AreaNames → List NumberedArea → Type 0
+Notes names areas = (name : List ℕ) → area_for names name ≡ find (has_name name) areas

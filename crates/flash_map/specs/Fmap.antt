@@ -1,10 +1,11 @@
 -- Searches for an image's flash map.
-use Rattle.std.specs.Prelude.{◌≡◌, ℕ, ◌+◌, ◌/◌, length, true, ◌&&◌, List, Option, Some, None, drop, if◌then◌else◌}
+use Rattle.std.specs.Prelude.{◌≡◌, ℕ, ◌+◌, ◌/◌, length, List, Option, Some, None, drop, if◌then◌else◌}
 use Rattle.std.specs.Option.{option_map}
 use Rattle.flash_format.specs.declared.flashmap.FmapHead.{FmapHead}
 use Rattle.flash_format.specs.declared.flashmap.Area.{Area}
-use Rattle.flash_format.specs.Flashmap.{is_map, map_from, map_len, fmap_head_len, fmap_head_of, has_signature, is_valid_head}
+use Rattle.flash_format.specs.Flashmap.{is_map, map_from, map_len, fmap_head_len, fmap_head_of}
 use Rattle.flash_format.specs.Flashmap.{area_len, areas_from}
+pub use Rattle.flash_format.specs.Laws.{NoMapBelow}
 use Rattle.flash_device.specs.Device.{Device}
 use Rattle.flash_map.specs.declared.search.FoundMap.{FoundMap}
 
@@ -19,17 +20,9 @@ search_reads device = length device.content / 2 + 8
 abbrev pub map_reads : Device → ℕ
 map_reads device = search_reads device + length device.content / area_len
 
-abbrev pub HasSignatureAt : List ℕ → ℕ → Type 0
-HasSignatureAt image q = has_signature (drop q image) ≡ true
-
 -- the head of a valid map at the front
 abbrev pub map_head : List ℕ → Option FmapHead
 map_head x = if is_map x then Some (fmap_head_of x) else None
-
--- from the first 56 bytes, with `left` bytes up to the image's end
-abbrev pub map_head_in : List ℕ → ℕ → Option FmapHead
-map_head_in bytes left = if has_signature bytes && is_valid_head (fmap_head_of bytes) left
-    then Some (fmap_head_of bytes) else None
 
 -- the lowest from an offset on
 abbrev pub found_from : ℕ → List ℕ → Option FoundMap
@@ -41,3 +34,8 @@ found_in image = found_from 0 image
 
 abbrev pub areas_of : List ℕ → FoundMap → List Area
 areas_of image map = areas_from map.head.nareas (drop (map.at + fmap_head_len) image)
+
+-- the first search in the image finds this map, with these areas
+pub record FindsMap (h : FmapHead) (areas : List Area) (image : List ℕ) (q : ℕ) : Type 0 where
+  pub found : found_in image ≡ Some (record { at = q; head = h })
+  pub all : areas_of image (record { at = q; head = h }) ≡ areas

@@ -1,8 +1,11 @@
 -- Regions by name.
 use Rattle.std.specs.Prelude.{ℕ, ◌+◌, List, length, Option, Some, None, Result, Ok, Err, nat_lt, if◌then◌else◌}
+use Rattle.std.specs.List.{find}
+use Rattle.std.specs.Option.{option_map_or}
 use Rattle.flash_format.specs.declared.flashmap.Area.{Area}
-use Rattle.flash_format.specs.Flashmap.{map_of, area_in}
+use Rattle.flash_format.specs.Flashmap.{is_area}
 use Rattle.flash_device.specs.Regions.{Range}
+use Rattle.flash_map.specs.Fmap.{areas_of, found_in}
 use Rattle.flash_map.specs.declared.search.StoreFault.{StoreFault}
 use Rattle.flash_map.specs.declared.search.StoreFault.TheVariants as faults
 
@@ -16,11 +19,7 @@ region_by_area image_len None = Err faults.NoRegion
 region_by_area image_len (Some a) = if nat_lt image_len (a.offset + a.size)
     then Err faults.RegionOutside else Ok (record { start = a.offset; size = a.size })
 
--- the first area with the name, in the map at an offset
-abbrev pub region_under : List ℕ → List ℕ → Option ℕ → Result Range StoreFault
-region_under image name None = Err faults.NoFmap
-region_under image name (Some q) = region_by_area (length image) (area_in image q name)
-
 -- the first area with the name, in the image's map
 unfoldable pub region_of : List ℕ → List ℕ → Result Range StoreFault
-region_of image name = region_under image name (map_of image)
+region_of image name = option_map_or (λ map. region_by_area (length image)
+    (find (is_area name) (areas_of image map))) (found_in image) (Err faults.NoFmap)

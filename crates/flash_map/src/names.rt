@@ -14,7 +14,7 @@ pub struct AreaNames<'a> {
 }
 
 impl<'a> AreaNames<'a> {
-    ghost use Rattle.flash_map.specs.Names.{area_for, Notes};
+    ghost use Rattle.flash_map.specs.Areas.{area_for, Notes};
 
     /// Returns the names of these areas.
     pub fn of(alloc: Global, areas: &'a [NumberedArea]) -> Result<AreaNames<'a>, AllocError>

@@ -1,10 +1,10 @@
 //! Searches for a flash map and for a region.
-ghost use Rattle.std.specs.Prelude.{◌≡◌, ◌+◌, ◌-◌, ◌*◌, ◌<◌, ◌≤◌, ◌⊎◌, length, drop, IfOk, IfSome, IsErrOf};
+ghost use Rattle.std.specs.Prelude.{◌≡◌, ◌+◌, ◌-◌, ◌*◌, ◌<◌, ◌≤◌, ◌⊎◌, ℕ, List, length, drop, take, true, IfOk, IfSome, IsErrOf};
 ghost use Rattle.std.specs.List.{find};
-ghost use Rattle.flash_format.specs.Flashmap.{fmap_head_len, area_len, map_len, area_of, is_area};
+ghost use Rattle.flash_format.specs.Flashmap.{fmap_head_len, area_len, map_len, area_of, has_signature, is_area};
 ghost use Rattle.flash_device.specs.Device.{IsPiece, Reads, refusals};
 ghost use Rattle.flash_device.specs.Pages.{OnHonest, HasAnswered, Returns, HasReadBy, IfFound};
-ghost use Rattle.flash_map.specs.Fmap.{HasSignatureAt, areas_of, map_end, map_head, map_head_in, map_reads, found_from, found_in, search_reads};
+ghost use Rattle.flash_map.specs.Fmap.{areas_of, map_end, map_head, map_reads, found_from, found_in, search_reads};
 ghost use Rattle.flash_device.specs.Regions.{LiesOn};
 ghost use Rattle.flash_map.specs.Regions.{by_device, region_by_area, region_of};
 ghost use Rattle.memchr.specs.Find.{IsFirst};
@@ -101,8 +101,8 @@ fn signature_in<F: Flash>(
 
     ensures after { HasAnswered 1 paged.old paged.new result }
     ensures within { IfFound result (λ place. (at ≤ place) × (place + 8 ≤ at + n)) }
-    ensures first { OnHonest paged.old.device
-        (λ image. IfOk result (IsFirst (HasSignatureAt image) at (at + n - 7))) }
+    ensures first { OnHonest paged.old.device (λ image. IfOk result
+        (IsFirst (λ q. has_signature (drop q image) ≡ true) at (at + n - 7))) }
 {
     let _len = paged.len();
     let bytes = paged.piece(at, n)?;
@@ -134,7 +134,8 @@ fn map_head_at<F: Flash>(
 
 fn head_in(bytes: &[u8; FmapHead::LENGTH], left: u64) -> Option<FmapHead>
     requires { fmap_head_len ≤ left }
-    ensures head { result ≡ map_head_in bytes.now left }
+    ensures head { (x : List ℕ) → take fmap_head_len x ≡ bytes.now → length x ≡ left
+        → result ≡ map_head x }
     ensures fits { IfSome result (λ head. map_len head ≤ left) }
 {
     let head = FmapHead::read(bytes)?;

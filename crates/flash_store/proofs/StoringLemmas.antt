@@ -1,5 +1,5 @@
 -- Partial transfers.
-use Rattle.std.proofs.Common.{◌≡◌, ◌⊎◌, ◌∙◌, sym, ap, subst, take-add, IsTrue, Bool, ℕ, ◌+◌, ◌-◌, ◌≤◌, List, length, take, drop, arith, ◌++◌, length-append, length-take, length-drop, replicate, refl, inl, inr, rules}
+use Rattle.std.proofs.Common.{◌≡◌, ◌⊎◌, ◌∙◌, sym, ap, subst, take-add, IsTrue, Bool, ℕ, ◌+◌, ◌-◌, ◌≤◌, List, length, take, drop, arith, ◌++◌, length-append, length-take, length-drop, replicate, refl, inl, inr}
 use Rattle.std.proofs.lemmas.List.{length-take-le, take_rest, drop-drop, length-replicate, take-replicate, replicate-append-replicate, drop-replicate, take-take, drop-take, take-append-le}
 use Rattle.std.proofs.lemmas.Slice.{take-put_mid}
 use Rattle.std.proofs.Math.Seq.{take-append-add, take-length}

@@ -1,5 +1,9 @@
 -- Files, by single system calls.
-use Rattle.std.specs.Prelude.{◌≡◌, ◌⊎◌, ℕ, ◌-◌, ◌≤◌, Bool, true, List, length, take, drop, replicate, Result, IsTrue, IfOk, OnOk, ⊤, slice_range}
+use Rattle.std.specs.Prelude.{◌≡◌, ◌⊎◌, ℕ, ◌-◌, ◌≤◌, Bool, List, length, take, drop, replicate, Result, IsTrue, IfOk, slice_range}
+use Rattle.std.specs.declared.io.ErrorKind.{ErrorKind}
+use Rattle.std.specs.declared.io.ErrorKind.TheVariants.{OutOfMemory}
+use Rattle.flash_store.specs.declared.open_fault.OpenFault.{OpenFault}
+use Rattle.flash_store.specs.declared.open_fault.OpenFault.TheVariants.{Failed, Memory}
 use Rattle.flash_format.specs.Made.{header_length}
 use Rattle.flash_device.specs.Device.{overwritten, SameOutside, Device}
 
@@ -53,25 +57,10 @@ abbrev pub stored_device : Stored → ℕ → ℕ → Device
 stored_device file calls faults =
     record { content = file.content; calls = calls; faults = faults; honest = file.faithful }
 
--- The test file: content, maximum transfer, calls between interruptions and before the next, calls
--- before failure, last write's range.
-pub record Flaky : Type 0 where
-  pub content : List ℕ
-  pub most : ℕ
-  pub between : ℕ
-  pub before : ℕ
-  pub left : ℕ
-  pub written_at : ℕ
-  pub written_len : ℕ
-
--- as a faithful file
-abbrev pub stored : Flaky → Stored
-stored file = record {
-  content = file.content;
-  faithful = true;
-  written_at = file.written_at;
-  written_len = file.written_len;
-}
+-- an error of opening, by the system's error kind
+abbrev pub open_fault_of : ErrorKind → OpenFault
+open_fault_of OutOfMemory = Memory
+open_fault_of kind = Failed kind
 
 -- each byte of the range is 0xff
 abbrev pub IsErased : ℕ → ℕ → List ℕ → Type 0

@@ -1,2 +1,1 @@
-pub mod OpenFaults
 pub mod Files

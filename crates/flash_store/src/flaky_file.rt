@@ -1,11 +1,9 @@
 //! A test file with short, interrupted and failed calls.
 ghost use Rattle.std.specs.Prelude.{◌≡◌, ◌+◌, ◌-◌, ◌^◌, ◌<◌, ◌≤◌, Err, length, true, IsOk};
 ghost use Rattle.flash_device.specs.Device.{overwritten};
-ghost use Rattle.flash_store.specs.Files.{IsReserved, stored};
 
 use crate::storage::{Storage, StorageFault};
 use flash_format::HEADER_LENGTH;
-use std::marker::Model;
 
 const BLOCK: u64 = 4096;
 
@@ -13,50 +11,26 @@ const BLOCK: u64 = 4096;
 /// in the last write's range. Calls are interrupted after every `between`, and fail after `left`.
 #[derive(Drop)]
 pub struct FlakyFile {
-    bytes: Vec<u8>,
-    most: usize,
-    between: u64,
-    before: u64,
-    left: u64,
-    written_at: u64,
-    written_len: usize,
-}
-
-impl Model for FlakyFile {
-    ghost use Rattle.std.specs.Prelude.{◌^◌, ◌<◌, length};
-    ghost use Rattle.flash_store.specs.Files.{Flaky};
-
-    ghost Value = { Flaky };
-
-    ghost view = { λ f. record {
-      content = f.bytes.items;
-      most = f.most;
-      between = f.between;
-      before = f.before;
-      left = f.left;
-      written_at = f.written_at;
-      written_len = f.written_len;
-    } };
-
-    ghost invariant = { λ f. length f.bytes.items < 2 ^ 32 };
+    pub content: Vec<u8>,
+    pub most: usize,
+    pub between: u64,
+    pub before: u64,
+    pub left: u64,
+    pub written_at: u64,
+    pub written_len: usize,
+    ghost small: { length content.items < 2 ^ 32 },
 }
 
 impl FlakyFile {
     /// Makes a file of fewer than 2^32 bytes. 0 for `between` interrupts every call.
     pub fn new(bytes: Vec<u8>, most: usize, between: u64, left: u64) -> FlakyFile
         requires { length bytes.items < 2 ^ 32 }
-        ensures { result ≡ record {
-          content = bytes.items;
-          most = most;
-          between = between;
-          before = between;
-          left = left;
-          written_at = 0;
-          written_len = 0;
-        } }
+        ensures { (result.content ≡ bytes) × (result.most ≡ most) × (result.between ≡ between)
+            × (result.before ≡ between) × (result.left ≡ left) × (result.written_at ≡ 0)
+            × (result.written_len ≡ 0) }
     {
         FlakyFile {
-            bytes,
+            content: bytes,
             most,
             between,
             before: between,
@@ -68,9 +42,9 @@ impl FlakyFile {
 
     /// Returns the content.
     pub fn bytes(&self) -> &[u8]
-        ensures { result.now ≡ self.now.content }
+        ensures { result.now ≡ self.now.content.items }
     {
-        self.bytes.as_slice()
+        self.content.as_slice()
     }
 
     /// Counts a call, or returns its fault.
@@ -98,22 +72,23 @@ impl FlakyFile {
     }
 
     fn replace(&mut self, at: u64, bytes: &[u8])
-        requires { at + length bytes.now ≤ length self.old.content }
-        ensures { let content = overwritten self.old.content at bytes.now in self.new ≡
-            record self.old { content = content; written_at = at; written_len = length bytes.now } }
+        requires { at + length bytes.now ≤ length self.old.content.items }
+        ensures content { self.new.content.items
+            ≡ overwritten self.old.content.items at bytes.now }
+        ensures range { (self.new.written_at ≡ at) × (self.new.written_len ≡ length bytes.now) }
     {
         let _below = self.len();
         let start = at as usize;
         let end = start + bytes.len();
-        self.bytes[start..end].copy_from_slice(bytes);
+        self.content[start..end].copy_from_slice(bytes);
         self.written_at = at;
         self.written_len = bytes.len();
     }
 
     fn moved(&self, at: u64, bytes: &[u8]) -> usize
         ensures some { result ≤ length bytes.now }
-        ensures all { length bytes.now ≤ HEADER_LENGTH
-            → IsReserved at (length bytes.now) (stored self.now) → result ≡ length bytes.now }
+        ensures all { length bytes.now ≤ HEADER_LENGTH → self.now.written_at ≡ at
+            → self.now.written_len ≡ length bytes.now → result ≡ length bytes.now }
     {
         let n = bytes.len();
         let has_room = self.written_at == at && self.written_len == n;
@@ -131,21 +106,21 @@ fn is_in_one_block(at: u64, n: usize) -> bool {
 
 impl Storage for FlakyFile {
     ghost facts = { λ f. record {
-      content = f.content;
+      content = f.content.items;
       faithful = true;
       written_at = f.written_at;
       written_len = f.written_len;
     } };
 
     fn len(&self) -> u64 {
-        self.bytes.len() as u64
+        self.content.len() as u64
     }
 
     fn read_some(&mut self, at: u64, out: &mut [u8]) -> Result<usize, StorageFault> {
         self.begin()?;
         let start = at as usize;
         let n = out.len().min(self.most);
-        out[..n].copy_from_slice(&self.bytes[start..start + n]);
+        out[..n].copy_from_slice(&self.content[start..start + n]);
         Ok(n)
     }
 

@@ -17,7 +17,7 @@ pub enum OpenFault {
 
 impl From<io::Error> for OpenFault {
     ghost use Rattle.std.specs.IoError.{error_kind};
-    ghost use Rattle.flash_store.specs.OpenFaults.{open_fault_of};
+    ghost use Rattle.flash_store.specs.Files.{open_fault_of};
 
     ghost from_gives = { λ error fault. fault ≡ open_fault_of (error_kind error) };
 

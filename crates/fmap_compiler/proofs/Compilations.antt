@@ -4,11 +4,11 @@ use Rattle.std.proofs.lemmas.Bool.{cases_lt, le-ltb, lt-ltb}
 use Rattle.std.proofs.lemmas.List.{length-take-le, take_all}
 use Rattle.fmd_lang.specs.Faults as fmd
 use Rattle.fmd_lang.specs.Faults.{first_fault, text_limit}
-use Rattle.fmd_lang.specs.LayoutFaults.{count_fault}
-use Rattle.fmd_lang.specs.Table.{area_limit}
+use Rattle.fmd_lang.specs.Table.{count_fault, area_limit}
 use Rattle.fmd_lang.specs.declared.fault.FmdFault.{FmdFault}
 use Rattle.fmd_lang.specs.declared.fault.FmdFault.TheVariants as faults
-use Rattle.fmap_compiler.specs.Outcome.{reading_limit, Compiles, HasTable, IsPrefixOf, Refuses}
+use Rattle.fmap_compiler.specs.Outcome.{reading_limit, Compiles, HasTable, Refuses}
+use Rattle.fmap_compiler.proofs.Prefixes.{IsPrefixOf}
 
 -- a table within the limit has no fault
 pub Refuses-encoded : (text : List ℕ) (areas : ℕ) (r : Result (Vec ℕ Global) FmdFault) → areas ≤ area_limit →

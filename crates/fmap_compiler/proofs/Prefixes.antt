@@ -1,8 +1,12 @@
 -- The bytes read, and the reader's known bytes.
-use Rattle.std.proofs.Common.{◌≡◌, ℕ, ◌≤◌, List, [], ◌++◌, length, take, Option, Some, None, sym, ap, ◌∙◌}
+use Rattle.std.proofs.Common.{◌≡◌, ℕ, ◌≤◌, List, [], ◌++◌, length, take, Option, Some, None, IfSome, sym, ap, ◌∙◌}
 use Rattle.std.proofs.lemmas.List.{append-nil, take_all, take_at}
 use Rattle.std.specs.Io.KnownBytes.{Consumes, IsAtEnd}
-use Rattle.fmap_compiler.specs.Outcome.{reading_limit, IsPrefixOf}
+use Rattle.fmap_compiler.specs.Outcome.{reading_limit}
+
+-- the known text up to the reading limit
+abbrev pub IsPrefixOf : Option (List ℕ) → List ℕ → Type 0
+IsPrefixOf text read = IfSome text (λ t. read ≡ take reading_limit t)
 
 -- at the end, the bytes are the whole text
 pub IsPrefixOf-end : (old before new : Option (List ℕ)) (read more : List ℕ) → Consumes old before read →

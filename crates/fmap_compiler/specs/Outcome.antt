@@ -1,14 +1,12 @@
 -- The output and the errors of the compiler.
-use Rattle.std.specs.Prelude.{◌≡◌, ℕ, ◌+◌, ◌≤◌, ◌⊎◌, List, length, take, Option}
+use Rattle.std.specs.Prelude.{◌≡◌, ℕ, ◌+◌, ◌≤◌, ◌⊎◌, List, length, Option}
 use Rattle.std.specs.Prelude.{Some, None, Result, Ok, Err, IfSome}
 use Rattle.std.specs.Io.KnownBytes.{Appends, Consumes, Keeps}
-use Rattle.flash_device.specs.Output.{AppendsPart}
+use Rattle.flash_device.specs.Device.{AppendsPart}
 use Rattle.fmd_lang.specs.Words.{words}
-use Rattle.fmd_lang.specs.Tree.{Tree}
-use Rattle.fmd_lang.specs.Grammar.{IsSection}
+use Rattle.fmd_lang.specs.Grammar.{Tree, IsSection}
 use Rattle.fmd_lang.specs.Faults.{first_fault, text_limit}
-use Rattle.fmd_lang.specs.LayoutFaults.{layout_fault}
-use Rattle.fmd_lang.specs.Table.{IsTable, table_bytes}
+use Rattle.fmd_lang.specs.Table.{layout_fault, IsTable, table_bytes}
 use Rattle.fmd_lang.specs.declared.table.Table.{Table}
 use Rattle.fmd_lang.specs.declared.fault.FmdFault.{FmdFault}
 use Rattle.fmd_lang.specs.declared.fault.FmdFault.TheVariants as faults
@@ -44,10 +42,6 @@ Delivers text old new (Err (refusal.Descriptor fault)) =
     ((fault ≡ faults.Memory) ⊎ IfSome text (λ t. Refuses t fault)) × Keeps old new
 Delivers text old new (Err refusal.Read) = Keeps old new
 Delivers text old new (Err refusal.Output) = HasTable text (AppendsPart old new)
-
--- the text up to the reading limit
-abbrev pub IsPrefixOf : Option (List ℕ) → List ℕ → Type 0
-IsPrefixOf text read = IfSome text (λ t. read ≡ take reading_limit t)
 
 -- the reader advances by at most the reading limit
 pub record HasReadText {R : Type 0} (source : ReaderOf R) (old new : R) : Type 0 where

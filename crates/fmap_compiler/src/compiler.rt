@@ -1,7 +1,8 @@
 //! Compiles a descriptor into the table.
 
-ghost use Rattle.std.specs.Prelude.{◌≡◌, ◌<◌, ◌≤◌, ◌⊎◌, IfOk, IfErr, IsErrOf};
-ghost use Rattle.fmap_compiler.specs.Outcome.{Compiles, Delivers, HasReadText, IsPrefixOf, Refuses};
+ghost use Rattle.std.specs.Prelude.{◌≡◌, ◌<◌, ◌≤◌, ◌⊎◌, take, IfOk, IfErr, IfSome, IsErrOf};
+ghost use Rattle.fmap_compiler.specs.Outcome.{Compiles, Delivers, HasReadText, Refuses};
+ghost use Rattle.fmap_compiler.specs.Outcome.{reading_limit};
 
 use crate::reader::TextReader;
 use crate::refusal::Refusal;
@@ -14,7 +15,8 @@ const READING_LIMIT: usize = TEXT_LIMIT + 1;
 
 /// Reads up to the reader's end or the limit.
 fn read_text<R: TextReader>(alloc: Global, reader: &mut R) -> Result<Vec<u8>, Refusal>
-    ensures text { IfOk result (λ text. IsPrefixOf (R.remaining reader.old) text.items) }
+    ensures text { IfOk result (λ text. IfSome (R.remaining reader.old)
+        (λ known. text.items ≡ take reading_limit known)) }
     ensures cause { IsErrOf result Refusal.Read → R.faults reader.old < R.faults reader.new }
     ensures refused { IfErr result (λ refusal.
         (refusal ≡ Refusal.Read) ⊎ (refusal ≡ Refusal.Descriptor FmdFault.Memory)) }

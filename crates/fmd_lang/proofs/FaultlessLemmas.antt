@@ -6,17 +6,15 @@ use Rattle.std.specs.Result.{result_err}
 use Rattle.std.proofs.lemmas.Bool.Decides.{nat_tests}
 use Rattle.std.proofs.lemmas.List.{append-nil}
 use Rattle.std.proofs.lemmas.List.Elements.{All-head, All-tail}
-use Rattle.fmd_lang.specs.Words.{words_after, Word, words, kind_of}
-use Rattle.fmd_lang.specs.Numbers.{number_at, literal_value}
-use Rattle.fmd_lang.specs.Tree.{Tree, section, Forest, none, some}
-use Rattle.fmd_lang.specs.Grammar.{Then, One, IsA, IsName, IsSection, AreSections, AreAnnotations, HaveFlags, IsOffset, IsSize, HasValue, Until, annotation_flag, flags_with}
-use Rattle.fmd_lang.specs.Faults.{Stage, start, in_annotations, at_sign, past, Standing, token_fault, fault_from, first_fault, next_standing, wanted_at}
+use Rattle.fmd_lang.specs.Words.{words_after, Word, word, words, kind_of, number_at, literal_value}
+use Rattle.fmd_lang.specs.Grammar.{Tree, section, Forest, none, some, Then, One, IsA, IsName, IsSection, AreSections, AreAnnotations, IsOffset, IsSize, HasValue, annotation_flag, flags_with}
+use Rattle.fmd_lang.specs.Faults.{Stage, start, in_annotations, at_sign, past, token_fault, fault_from, first_fault, next_standing, wanted_at}
 use Rattle.fmd_lang.specs.declared.word.Kind.{Kind}
 use Rattle.fmd_lang.specs.declared.word.Kind.TheVariants.{Name, Number, OpenParen, CloseParen, At, OpenBrace, CloseBrace, End}
 use Rattle.fmd_lang.specs.declared.fault.FmdFault.TheVariants as faults
 use Rattle.fmd_lang.proofs.NameFields.{IsWhole, words_whole}
 use Rattle.fmd_lang.proofs.OptionLemmas.{cond-none, map_or-none, or-none}
-use Rattle.fmd_lang.proofs.FormLemmas.{IsBody, annotation-name, flags-cons, name-short}
+use Rattle.fmd_lang.proofs.FormLemmas.{HaveFlags, IsBody, Until, annotation-name, flags-cons, name-short}
 
 -- ---- the rest of a text
 
@@ -90,7 +88,7 @@ number-is : (depth : ℕ) (w : Word) → IsA Number w → token_fault (kind_of w
 number-is depth w is own = let (n, value) = has-value w.place (literal_value w.bytes) (rw is at own) in (n, (is, value))
 
 -- the rest after an expected token
-abbrev Rest : Option Standing → List Word → Type 0
+abbrev Rest : Option (Stage × ℕ) → List Word → Type 0
 Rest None ws = ⊥
 Rest (Some (t, depth)) ws = Left t depth ws
 
@@ -156,18 +154,18 @@ step (past n) End flag depth w ws is there known own rest = absurd (there refl)
 step (past n) k flag zero w ws is there known own rest = absurd rest
 step (past n) k flag (suc depth) w ws is there known own rest = absurd rest
 
-ends : (s : Stage) (depth end : ℕ) → fault_from (s, depth) end [] ≡ None → Left s depth []
+ends : (s : Stage) (depth end : ℕ) → fault_from (s, depth) (word end [] ∷ []) ≡ None → Left s depth []
 ends (past n) zero end h = ([], [], refl, up 0 n [] (omega arith) refl, refl)
 ends (in_annotations true) depth end h = cc
 ends s depth end h = cc
 
-left : (ws : List Word) (s : Stage) (depth end : ℕ) → All IsWhole ws → fault_from (s, depth) end ws ≡ None → Left s depth ws
+left : (ws : List Word) (s : Stage) (depth end : ℕ) → All IsWhole ws → fault_from (s, depth) (ws ++ word end [] ∷ []) ≡ None → Left s depth ws
 left [] s depth end whole h = ends s depth end h
 left (w ∷ ws) s depth end whole h =
     let k = kind_of w.bytes in
     let flag = annotation_flag w.bytes in
     let (own, others) = or-none (token_fault k depth w) _ h in
-    let ((t, inner), stands, fine) = map_or-none (λ t. fault_from t end ws) (next_standing s depth k flag)
+    let ((t, inner), stands, fine) = map_or-none (λ t. fault_from t (ws ++ word end [] ∷ [])) (next_standing s depth k flag)
     (faults.Expected w.place (wanted_at s depth k)) others in
     let behind = left ws t inner end (All-tail IsWhole w ws whole) fine in
     step s k flag depth w ws refl (All-head IsWhole w ws whole).0 refl own (rw stands behind)

@@ -4,13 +4,11 @@ use Rattle.std.proofs.Common.{◌≡◌, ℕ, ◌^◌, ◌<◌, All, List, [], �
 use Rattle.std.specs.Prelude.{unwrap_or}
 use Rattle.std.proofs.lemmas.List.Elements.{All-nil, All-cons, All-head, All-tail}
 use Rattle.fmd_lang.specs.declared.table.Table.{Table}
-use Rattle.fmd_lang.specs.Words.{Word, kind_of, words}
-use Rattle.fmd_lang.specs.Tree.{Tree, section}
-use Rattle.fmd_lang.specs.Grammar.{HasValue, IsOffset, IsSize, annotation_flag}
+use Rattle.fmd_lang.specs.Words.{Word, word, kind_of, words}
+use Rattle.fmd_lang.specs.Grammar.{Tree, section, HasValue, IsOffset, IsSize, annotation_flag}
 use Rattle.fmd_lang.specs.Faults.{Stage, first_fault, fault_from, next_standing, token_fault, wanted_at}
-use Rattle.fmd_lang.specs.LayoutFaults.{layout_fault}
+use Rattle.fmd_lang.specs.Table.{layout_fault, IsTable, area_limit}
 use Rattle.fmd_lang.proofs.LayoutLemmas.{count-below, few-sections}
-use Rattle.fmd_lang.specs.Table.{IsTable, area_limit}
 use Rattle.fmd_lang.specs.declared.fault.FmdFault.TheVariants as faults
 use Rattle.fmd_lang.proofs.OptionLemmas.{cond-none, map_or-none, or-none}
 
@@ -22,12 +20,12 @@ Fits w = (n : ℕ) → HasValue n w → n < 2 ^ 32
 number_fits : (depth : ℕ) (w : Word) → token_fault (kind_of w.bytes) depth w ≡ None → Fits w
 number_fits depth w fine n (is, value) = grind (arith, nat_tests)
 
-all_fit : (ws : List Word) (s : Stage) (depth end : ℕ) → fault_from (s, depth) end ws ≡ None → All Fits ws
+all_fit : (ws : List Word) (s : Stage) (depth end : ℕ) → fault_from (s, depth) (ws ++ word end [] ∷ []) ≡ None → All Fits ws
 all_fit [] s depth end fine = All-nil Fits
 all_fit (w ∷ ws) s depth end fine =
     let k = kind_of w.bytes in
     let (own, others) = or-none (token_fault k depth w) _ fine in
-    let ((t, inner), stands, further) = map_or-none (λ t. fault_from t end ws) (next_standing s depth k (annotation_flag w.bytes))
+    let ((t, inner), stands, further) = map_or-none (λ t. fault_from t (ws ++ word end [] ∷ [])) (next_standing s depth k (annotation_flag w.bytes))
     (faults.Expected w.place (wanted_at s depth k)) others in
     All-cons Fits w ws (number_fits depth w own) (all_fit ws t inner end further)
 

@@ -8,8 +8,7 @@ use Rattle.fmd_lang.proofs.OptionLemmas.{and-then-some}
 use Rattle.std.specs.Int.Bits.{bit_or}
 use Rattle.std.specs.List.{list_all}
 use Rattle.fmd_lang.specs.Words.{Word, kind_of}
-use Rattle.fmd_lang.specs.Grammar.{Enclosed, One, Then, IsA, IsSection, AreSections, annotation_flag, annotations, flags_with}
-use Rattle.fmd_lang.specs.Tree.{Tree, Forest, none, forest_of, view, views}
+use Rattle.fmd_lang.specs.Grammar.{Enclosed, One, Then, IsA, IsSection, AreSections, annotation_flag, annotations, flags_with, Tree, Forest, none, forest_of, view, views}
 use Rattle.fmd_lang.specs.declared.section.Section.{Section}
 use Rattle.fmd_lang.specs.declared.word.Kind.{Kind}
 use Rattle.fmd_lang.specs.declared.word.Kind.TheVariants.{Name, CloseParen, OpenBrace, CloseBrace}
@@ -17,6 +16,19 @@ use Rattle.fmd_lang.specs.declared.word.Kind.TheVariants.{Name, CloseParen, Open
 -- sections in braces, or no token
 abbrev pub IsBody : Forest → List Word → Type 0
 IsBody parts = Enclosed OpenBrace CloseBrace (AreSections parts) (parts ≡ none)
+
+-- a sequence before a last token
+abbrev pub Until : Kind → (List Word → Type 0) → List Word → Type 0
+Until last P = Then P (One (IsA last))
+
+-- a nonempty list of annotations
+abbrev pub HaveFlags : ℕ → List Word → Type 0
+HaveFlags flags ws = (0 < length ws) × (flags_with 0 ws ≡ Some flags)
+
+-- the last two of three forms as one
+pub nested : {P Q R S : List Word → Type 0} → ((v : List Word) → Then Q R v → S v) → (ws : List Word) → Then (Then P Q) R ws → Then P S ws
+nested wider ws (f, r, split, (a, b, inner, p, q), last) =
+    (a, b ++ r, split ∙ ap (λ v. v ++ r) inner ∙ append_assoc a b r, p, wider (b ++ r) (b, r, refl, q, last))
 
 abbrev pub IsAnnotation : ℕ → Word → Type 0
 IsAnnotation flag w = annotation_flag w.bytes ≡ Some flag

@@ -5,24 +5,26 @@ use Rattle.std.proofs.Common.{◌≡◌, ℕ, suc, ◌+◌, ◌<◌, ◌≤◌, 
 use Rattle.std.proofs.Math.Nat.{min_comm}
 use Rattle.std.proofs.Math.Seq.{drop-cons}
 use Rattle.std.proofs.lemmas.List.{take_min, drop-replicate}
-use Rattle.fmd_lang.specs.Tree.{Tree, section, Forest, none, some, section_count, names, names_of, size_of, view, views}
+use Rattle.fmd_lang.specs.Grammar.{Tree, section, Forest, none, some, names, names_of, size_of, view, views}
 use Rattle.fmd_lang.specs.declared.section.Section.TheFolds.{fold_out-Section}
-use Rattle.fmd_lang.specs.Table.{field_of, area_limit, section_area, areas_below, areas_of, IsTable, table_head}
-use Rattle.fmd_lang.specs.Layout.{and_then, siblings, places_of, place_end}
-use Rattle.fmd_lang.specs.LayoutFaults.{layout_fault, names_fault, table_fault}
+use Rattle.fmd_lang.specs.Table.{field_of, area_limit, section_area, areas_below, areas_of, IsTable, table_head, layout_fault, names_fault, table_fault}
+use Rattle.fmd_lang.specs.Layout.{and_then, siblings, places_of}
 use Rattle.std.specs.List.{list_all}
 use Rattle.std.specs.Bool.{then_some}
 use Rattle.std.specs.Option.{option_map_or, option_or}
 use Rattle.fmd_lang.specs.declared.fault.FmdFault.TheVariants as faults
 use Rattle.std.specs.Result.{result_err, result_unwrap_or}
 use Rattle.fmd_lang.proofs.OptionLemmas.{or-none}
-use Rattle.fmd_lang.proofs.RowLemmas.{and_then-ok, length-placed, placed-inside, valid-places}
+use Rattle.fmd_lang.proofs.RowLemmas.{and_then-ok, length-placed, place_end, placed-inside, valid-places}
 use Rattle.fmd_lang.specs.declared.table.Table.{Table}
 use Rattle.fmd_lang.specs.declared.row.Sibling.{Sibling}
 use Rattle.fmd_lang.specs.declared.row.Place.{Place}
 use Rattle.flash_format.specs.declared.flashmap.Area.{Area}
 use Rattle.fmd_lang.specs.declared.fault.FmdFault.{FmdFault}
 use Rattle.fmd_lang.specs.declared.section.Section.{Section, out-Section}
+
+abbrev pub section_count : Tree → ℕ
+section_count t = length (names t)
 
 pub view-is : (s : Section) → view s ≡ section (out-Section s).name.items (out-Section s).flags (out-Section s).offset
     (out-Section s).size (views (out-Section s).parts.items)

@@ -9,7 +9,7 @@ use Rattle.std.specs.List.{list_any}
 use Rattle.std.specs.Str.{bytes_eq}
 use Rattle.std.specs.Ordering.{is_eq, nat_cmp}
 use Rattle.std.specs.Cmp.Lexicographic.{slice_cmp}
-use Rattle.fmd_lang.specs.LayoutFaults.{duplicate}
+use Rattle.fmd_lang.specs.Table.{duplicate}
 
 abbrev pub has : List ℕ → List (Bor (List ℕ)) → Bool
 has q ks = list_any (λ k. is_eq (slice_cmp nat_cmp q k.now)) ks

@@ -1,15 +1,18 @@
 -- The computed places are the only solution of the equations, unless a place is refused.
 use Rattle.std.proofs.lemmas.Bool.Decides.{nat_tests}
-use Rattle.std.proofs.Common.{◌≡◌, ℕ, suc, nat_le, true, false, List, [], ◌∷◌, ◌++◌, length, Option, Some, None, Result, Ok, Err, refl, sym, ◌∙◌, ap, arith, append_assoc}
+use Rattle.std.proofs.Common.{◌≡◌, ℕ, suc, ◌+◌, nat_le, true, false, List, [], ◌∷◌, ◌++◌, length, Option, Some, None, Result, Ok, Err, refl, sym, ◌∙◌, ap, arith, append_assoc}
 use Rattle.std.specs.List.{list_all}
 use Rattle.std.proofs.lemmas.Bool.{le-leb}
 use Rattle.std.proofs.lemmas.List.{append-nil}
 use Rattle.std.specs.Option.{option_map_or}
 use Rattle.fmd_lang.specs.declared.fault.FmdFault.TheVariants as faults
-use Rattle.fmd_lang.specs.Layout.{and_then, ambiguous_sibling, place_of, places_from, places_of, place_end, ArePlaced, IsPlaced}
+use Rattle.fmd_lang.specs.Layout.{and_then, ambiguous_sibling, place_of, places_from, places_of, ArePlaced, IsPlaced}
 use Rattle.fmd_lang.specs.declared.fault.FmdFault.{FmdFault}
 use Rattle.fmd_lang.specs.declared.row.Sibling.{Sibling}
 use Rattle.fmd_lang.specs.declared.row.Place.{Place}
+
+abbrev pub place_end : Place → ℕ
+place_end q = q.start + q.size
 
 pub and_then-ok : {X Y : Type 0} (r : Result X FmdFault) (step : X → Result Y FmdFault) (y : Y) → and_then r step ≡ Ok y →
     (x : X) × (r ≡ Ok x) × (step x ≡ Ok y)

@@ -3,7 +3,7 @@ use Rattle.std.proofs.lemmas.Bool.Decides.{nat_tests}
 use Rattle.std.proofs.Common.{Bool, true, false, ◌≡◌, ◌≢◌, ℕ, ◌<◌, ◌≤◌, List, [], ◌∷◌, ◌++◌, length, Some, Result, Ok, Err, refl, sym, ◌∙◌, ap, arith, inl, inr, append_assoc}
 use Rattle.fmd_lang.specs.Words.{Word, words_after, kind_of}
 use Rattle.fmd_lang.specs.Grammar.{One, Then, IsA, HasValue, annotation_flag}
-use Rattle.fmd_lang.specs.Faults.{Stage, Standing, in_annotations, next_standing}
+use Rattle.fmd_lang.specs.Faults.{Stage, in_annotations, next_standing}
 use Rattle.fmd_lang.proofs.FormLemmas.{IsAnnotation, annotation-name}
 use Rattle.fmd_lang.specs.ParserResults.{ReadsTokens, Parses, IsNext, word_of, piece_end}
 use Rattle.fmd_lang.specs.declared.parser.Token.{Token}
@@ -13,7 +13,7 @@ use Rattle.fmd_lang.specs.declared.fault.FmdFault.{FmdFault}
 
 -- ---- forms
 
-pub reads-then : {P Q : List Word → Type 0} {before middle after : Standing} {text : List ℕ} {from mid to : ℕ} →
+pub reads-then : {P Q : List Word → Type 0} {before middle after : Stage × ℕ} {text : List ℕ} {from mid to : ℕ} →
     ReadsTokens P before middle text from mid → ReadsTokens Q middle after text mid to → ReadsTokens (Then P Q) before after text from to
 reads-then {text = text} {to = to} p q = record {
   ahead = omega (arith, p.ahead, q.ahead);
@@ -23,19 +23,19 @@ reads-then {text = text} {to = to} p q = record {
   same = p.same ∙ q.same;
 }
 
-pub reads-as : {P Q : List Word → Type 0} {before after : Standing} {text : List ℕ} {from to : ℕ} →
+pub reads-as : {P Q : List Word → Type 0} {before after : Stage × ℕ} {text : List ℕ} {from to : ℕ} →
     ((v : List Word) → P v → Q v) → ReadsTokens P before after text from to → ReadsTokens Q before after text from to
 reads-as wider p = record { ahead = p.ahead; front = p.front; split = p.split; form = wider p.front p.form; same = p.same }
 
 -- ---- tokens
 
 -- an expected token between two offsets
-pub record Takes (F : Word → Type 0) (before after : Standing) (text : List ℕ) (from to : ℕ) : Type 0 where
+pub record Takes (F : Word → Type 0) (before after : Stage × ℕ) (text : List ℕ) (from to : ℕ) : Type 0 where
   pub ahead : from < to
   pub inside : to ≤ length text
   pub reads : ReadsTokens (One F) before after text from to
 
-pub token-takes : {text : List ℕ} {from depth to : ℕ} {token : Token} (F : Word → Type 0) (s : Stage) (after : Standing)
+pub token-takes : {text : List ℕ} {from depth to : ℕ} {token : Token} (F : Word → Type 0) (s : Stage) (after : Stage × ℕ)
     (k : Kind) → IsNext text from depth token → to ≡ piece_end token.word → token.kind ≡ k → k ≢ End →
     next_standing s depth k (annotation_flag token.word.bytes.now) ≡ Some after → F (word_of token.word) →
     Takes F (s, depth) after text from to
@@ -54,12 +54,12 @@ token-takes {text = text} {depth = depth} {token = token} F s after k next end k
   }
 ]
 
-pub token-mark : {text : List ℕ} {from depth to : ℕ} {token : Token} (s : Stage) (after : Standing) (k : Kind) →
+pub token-mark : {text : List ℕ} {from depth to : ℕ} {token : Token} (s : Stage) (after : Stage × ℕ) (k : Kind) →
     IsNext text from depth token → to ≡ piece_end token.word → token.kind ≡ k → k ≢ End →
     next_standing s depth k (annotation_flag token.word.bytes.now) ≡ Some after → Takes (IsA k) (s, depth) after text from to
 token-mark s after k next end kind some stands = token-takes (IsA k) s after k next end kind some stands (next.kind ∙ kind)
 
-pub token-number : {text : List ℕ} {from depth to : ℕ} {token : Token} {n : ℕ} (s : Stage) (after : Standing) →
+pub token-number : {text : List ℕ} {from depth to : ℕ} {token : Token} {n : ℕ} (s : Stage) (after : Stage × ℕ) →
     IsNext text from depth token → to ≡ piece_end token.word → token.value ≡ Some n →
     next_standing s depth Number (annotation_flag token.word.bytes.now) ≡ Some after →
     Takes (HasValue n) (s, depth) after text from to
@@ -75,8 +75,8 @@ token-annotation {depth = depth} {token = token} {flag = flag} any next end know
     token-takes (IsAnnotation flag) (in_annotations any) (in_annotations true, depth) Name next end name (λ e. cc) (rw known (stands any)) known
 
 -- a token before a parsed part
-pub parses-after : {X : Type 0} {F : Word → Type 0} {before middle : Standing} {text : List ℕ} {from mid : ℕ}
-    (P Q : X → List Word → Type 0) (after : Standing) (r : Result (X × ℕ) FmdFault) →
+pub parses-after : {X : Type 0} {F : Word → Type 0} {before middle : Stage × ℕ} {text : List ℕ} {from mid : ℕ}
+    (P Q : X → List Word → Type 0) (after : Stage × ℕ) (r : Result (X × ℕ) FmdFault) →
     ((x : X) (v : List Word) → Then (One F) (P x) v → Q x v) → Takes F before middle text from mid →
     Parses P middle after text mid r → Parses Q before after text from r
 parses-after P Q after (Ok (x, to)) wider word reads = reads-as (wider x) (reads-then word.reads reads)

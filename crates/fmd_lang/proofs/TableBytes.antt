@@ -12,15 +12,13 @@ use Rattle.flash_format.specs.Laws.{IsReadAsMap}
 use Rattle.flash_format.proofs.MapBytes.{IsAreaInBytes, maps_read_back}
 use Rattle.fmd_lang.specs.Words.{Word, words}
 use Rattle.fmd_lang.specs.Faults.{first_fault}
-use Rattle.fmd_lang.specs.LayoutFaults.{layout_fault}
-use Rattle.fmd_lang.specs.Tree.{Tree, section, Forest, none, some}
-use Rattle.fmd_lang.specs.Grammar.{AreAnnotations, AreSections, IsSection, annotation_flag, flags_with}
-use Rattle.fmd_lang.specs.Layout.{place_end, places_of, siblings}
-use Rattle.fmd_lang.specs.Table.{field_of, areas_below, areas_of, IsTable, section_area, table_bytes, table_head}
+use Rattle.fmd_lang.specs.Table.{layout_fault, field_of, areas_below, areas_of, IsTable, section_area, table_bytes, table_head}
+use Rattle.fmd_lang.specs.Grammar.{Tree, section, Forest, none, some, AreAnnotations, AreSections, IsSection, annotation_flag, flags_with}
+use Rattle.fmd_lang.specs.Layout.{places_of, siblings}
 use Rattle.fmd_lang.specs.declared.row.Place.{Place}
 use Rattle.fmd_lang.specs.declared.table.Table.{Table}
 use Rattle.fmd_lang.proofs.FaultlessTables.{Fits, few_areas, numbers_fit, offset_fits, size_fits}
-use Rattle.fmd_lang.proofs.RowLemmas.{and_then-ok, placed-inside, valid-places}
+use Rattle.fmd_lang.proofs.RowLemmas.{and_then-ok, place_end, placed-inside, valid-places}
 use Rattle.std.specs.List.{list_all}
 use Rattle.std.specs.Cmp.{first_so, second_so}
 use Rattle.fmd_lang.proofs.NameFields.{all-behind, field_long, field_named, first_name}

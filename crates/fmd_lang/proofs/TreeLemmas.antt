@@ -4,11 +4,9 @@ use Rattle.std.proofs.Common.{◌≡◌, ◌≢◌, ℕ, suc, ◌<◌, nat_lt, B
 use Rattle.std.proofs.lemmas.Bool.{cond_both, lt-ltb}
 use Rattle.std.proofs.lemmas.List.{append-nil}
 use Rattle.std.specs.Int.Bits.{bit_or}
-use Rattle.fmd_lang.specs.Words.{Word, words, kind_of}
-use Rattle.fmd_lang.specs.Numbers.{literal_value}
-use Rattle.fmd_lang.specs.Tree.{Tree, section, Forest, none, some}
-use Rattle.fmd_lang.specs.Grammar.{Then, IsA, IsSection, AreSections, AreAnnotations, IsOffset, IsSize, annotation_flag, flags_with}
-use Rattle.fmd_lang.specs.Faults.{Stage, Standing, start, in_annotations, at_sign, past, token_fault, next_standing, text_limit, fault_from, first_fault}
+use Rattle.fmd_lang.specs.Words.{Word, word, words, kind_of, literal_value}
+use Rattle.fmd_lang.specs.Grammar.{Tree, section, Forest, none, some, Then, IsA, IsSection, AreSections, AreAnnotations, IsOffset, IsSize, annotation_flag, flags_with}
+use Rattle.fmd_lang.specs.Faults.{Stage, start, in_annotations, at_sign, past, token_fault, next_standing, text_limit, fault_from, first_fault}
 use Rattle.fmd_lang.specs.declared.fault.FmdFault.TheVariants as faults
 use Rattle.fmd_lang.specs.declared.fault.Expected.{Expected}
 use Rattle.fmd_lang.specs.declared.word.Kind.{Kind}
@@ -60,8 +58,8 @@ build [] = nothing (none ∷ [])
 build (w ∷ ws) = put_word (kind_of w.bytes) w (build ws)
 
 -- All tokens are expected, and build `b`.
-record Makes (there : Standing) (end : ℕ) (ws : List Word) (b : Built) : Type 0 where
-  placed : (at : ℕ) (what : Expected) → fault_from there end ws ≢ Some (faults.Expected at what)
+record Makes (there : Stage × ℕ) (end : ℕ) (ws : List Word) (b : Built) : Type 0 where
+  placed : (at : ℕ) (what : Expected) → fault_from there (ws ++ word end [] ∷ []) ≢ Some (faults.Expected at what)
   made : build ws ≡ b
 
 -- the same after fewer than `most` optional parts
@@ -86,7 +84,7 @@ own-placed OpenBrace depth w at what h = grind arith
 own-placed k depth w at what h = cc
 
 -- an expected token
-makes : {s : Stage} {after : Standing} {depth end : ℕ} {w : Word} {ws : List Word} {b c : Built} (k : Kind) → IsA k w →
+makes : {s : Stage} {after : Stage × ℕ} {depth end : ℕ} {w : Word} {ws : List Word} {b c : Built} (k : Kind) → IsA k w →
     next_standing s depth k (annotation_flag w.bytes) ≡ Some after → Makes after end ws b → put_word k w b ≡ c →
     Makes (s, depth) end (w ∷ ws) c
 makes {after = after} {depth = depth} {end = end} {w = w} {ws = ws} k is stands more same = grind (arith, nat_tests, or-other, own-placed)
@@ -129,7 +127,8 @@ annotations-add flags o z parts ls depth end ws r (inr (a, b, split, marked, (w 
     let all : Makes (in_annotations false, depth) end (w ∷ (v ++ c ∷ r)) (listed (w ∷ v) o z parts ls) =
     makes Name (annotation-name w.bytes flag known) (rw known refl)
     (more-make (bit_or 0 flag) flags depth end v c r o z parts ls rest close more) refl in
-    grind (arith, append_assoc, makes, lt-ltb)
+    rw (split, first, inner, second, append_assoc v (c ∷ []) r)
+    (makes OpenParen opens (rw (lt-ltb n 1 few) refl) all (rw (flagged.1) refl))
 
 abbrev join : Forest → Forest → Forest
 join none l = l
@@ -184,7 +183,7 @@ pub text-placed : (t : Tree) (text : List ℕ) → IsSection t (words text) → 
     first_fault text ≢ Some (faults.Expected at what)
 unfolding first_fault
 text-placed t text is at what =
-    cond_both (nat_lt text_limit (length text)) (Some faults.TextTooLong) (fault_from (start, 0) (length text) (words text))
+    cond_both (nat_lt text_limit (length text)) (Some faults.TextTooLong) (fault_from (start, 0) (words text ++ word (length text) [] ∷ []))
     (λ o. o ≢ Some (faults.Expected at what)) (λ long h. cc) (λ short. (root-makes t (length text) (words text) is).placed at what)
 
 pub one-tree : (t u : Tree) (ws : List Word) → IsSection t ws → IsSection u ws → t ≡ u

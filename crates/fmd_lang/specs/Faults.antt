@@ -1,12 +1,12 @@
 -- The first fault of a text: excessive length, or the lowest offset; at the same offset, a
 -- malformed token precedes an unexpected token. Order, messages and limits are this project's own.
 use Rattle.std.specs.Prelude.{◌≡◌, ◌⊎◌, Result, Ok, Err, ℕ, suc, zero, nat_le, nat_lt, Bool, true}
-use Rattle.std.specs.Prelude.{false, if◌then◌else◌, List, [], ◌∷◌, length, Option, Some, None}
+use Rattle.std.specs.Prelude.{false, if◌then◌else◌, List, [], ◌∷◌, ◌++◌, length, Option, Some}
+use Rattle.std.specs.Prelude.{None}
 use Rattle.std.specs.Bool.{then_some}
 use Rattle.std.specs.Option.{option_map_or, option_or}
 use Rattle.std.specs.Result.{result_err}
-use Rattle.fmd_lang.specs.Words.{Word, word, words_after, kind_of}
-use Rattle.fmd_lang.specs.Numbers.{number_at, literal_value}
+use Rattle.fmd_lang.specs.Words.{Word, word, words_after, kind_of, number_at, literal_value}
 use Rattle.fmd_lang.specs.Grammar.{annotation_flag}
 use Rattle.fmd_lang.specs.declared.word.Kind.{Kind}
 use Rattle.fmd_lang.specs.declared.word.Kind.TheVariants.{Name, Number, OpenParen, CloseParen, At}
@@ -23,13 +23,9 @@ pub data Stage : Type 0 where
   at_sign : Stage  -- after `@`
   past : ℕ → Stage  -- in or after a section; counts the optional parts already passed
 
--- the state, and the number of open braces
-abbrev pub Standing : Type 0
-Standing = Stage × ℕ
-
--- The state after a token, None after an unexpected token. A name is followed by annotations,
--- offset, size and braces, in this order.
-abbrev pub next_standing : Stage → ℕ → Kind → Option ℕ → Option Standing
+-- The state and the number of open braces after a token, None after an unexpected token. A name is
+-- followed by annotations, offset, size and braces, in this order.
+abbrev pub next_standing : Stage → ℕ → Kind → Option ℕ → Option (Stage × ℕ)
 next_standing start depth Name flag = Some (past 0, depth)
 next_standing (in_annotations true) depth CloseParen flag = Some (past 1, depth)
 next_standing (in_annotations any) depth k (Some flag) = Some (in_annotations true, depth)
@@ -53,32 +49,26 @@ wanted_at at_sign depth k = wanted.Number
 wanted_at (past n) zero k = wanted.End
 wanted_at (past n) (suc depth) k = wanted.SectionOrClose
 
--- the maximum number of open braces
-abbrev pub depth_limit : ℕ
-depth_limit = 32
-
--- the fault of a token, regardless of the grammar
+-- The fault of a token, regardless of the grammar: at most 32 braces are open, and a name has at
+-- most 31 bytes.
 abbrev pub token_fault : Kind → ℕ → Word → Option FmdFault
 token_fault Bad depth w = Some (faults.BadByte w.place)
 token_fault Number depth w = result_err (number_at w.place (literal_value w.bytes))
 token_fault Name depth w = then_some (nat_lt 31 (length w.bytes)) (faults.NameTooLong w.place)
-token_fault OpenBrace depth w = then_some (nat_le depth_limit depth) faults.TooDeep
+token_fault OpenBrace depth w = then_some (nat_le 32 depth) faults.TooDeep
 token_fault k depth w = None
 
--- the fault of a token, or else of the following tokens
-abbrev pub fault_after : Standing → Word → (Standing → Option FmdFault) → Option FmdFault
-fault_after (s, depth) w further = option_or (token_fault (kind_of w.bytes) depth w)
-    (option_map_or further (next_standing s depth (kind_of w.bytes) (annotation_flag w.bytes))
-    (Some (faults.Expected w.place (wanted_at s depth (kind_of w.bytes)))))
+-- the first fault of the tokens
+abbrev pub fault_from : Stage × ℕ → List Word → Option FmdFault
+fault_from there [] = None
+fault_from (s, depth) (w ∷ ws) = let k = kind_of w.bytes in
+    option_or (token_fault k depth w) (option_map_or (λ t. fault_from t ws)
+    (next_standing s depth k (annotation_flag w.bytes))
+    (Some (faults.Expected w.place (wanted_at s depth k))))
 
--- the first fault of the tokens, for a text of length `end`
-abbrev pub fault_from : Standing → ℕ → List Word → Option FmdFault
-fault_from there end [] = fault_after there (word end []) (λ t. None)
-fault_from there end (w ∷ ws) = fault_after there w (λ t. fault_from t end ws)
-
--- the first fault of a text's tokens from an offset on
-abbrev pub fault_at : List ℕ → ℕ → Standing → Option FmdFault
-fault_at text from there = fault_from there (length text) (words_after text from)
+-- the first fault of a text's tokens from an offset on, including the end
+abbrev pub fault_at : List ℕ → ℕ → Stage × ℕ → Option FmdFault
+fault_at text from there = fault_from there (words_after text from ++ word (length text) [] ∷ [])
 
 -- the maximum length of a text, in bytes
 abbrev pub text_limit : ℕ

@@ -1,9 +1,6 @@
-pub mod Tree
 pub mod Words
-pub mod Numbers
 pub mod Grammar
 pub mod Faults
 pub mod Layout
 pub mod Table
 pub mod ParserResults
-pub mod LayoutFaults

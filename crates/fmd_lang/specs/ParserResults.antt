@@ -2,7 +2,7 @@
 use Rattle.std.specs.Prelude.{◌≡◌, ◌≢◌, ℕ, ◌+◌, ◌<◌, ◌≤◌, ◌⊎◌, List, [], ◌∷◌, ◌++◌, length, Some}
 use Rattle.std.specs.Prelude.{None, MatchOption, Result, Ok, Err}
 use Rattle.fmd_lang.specs.Words.{Word, word, words_after, kind_of}
-use Rattle.fmd_lang.specs.Faults.{Standing, fault_at, token_fault}
+use Rattle.fmd_lang.specs.Faults.{Stage, fault_at, token_fault}
 use Rattle.fmd_lang.specs.Grammar.{HasValue}
 use Rattle.fmd_lang.specs.declared.word.Word.{Word as Piece}
 use Rattle.fmd_lang.specs.declared.parser.Token.{Token}
@@ -25,7 +25,7 @@ IsFirst text from w = ((words_after text from ≡ []) × (word_of w ≡ word (le
 
 -- The tokens between two offsets have the form P and no fault, and take the parser from `before`
 -- to `after`.
-pub record ReadsTokens (P : List Word → Type 0) (before after : Standing) (text : List ℕ)
+pub record ReadsTokens (P : List Word → Type 0) (before after : Stage × ℕ) (text : List ℕ)
     (from to : ℕ) : Type 0 where
   pub ahead : from ≤ to
   pub front : List Word
@@ -35,7 +35,7 @@ pub record ReadsTokens (P : List Word → Type 0) (before after : Standing) (tex
 
 -- Success consumes faultless tokens of the form P of the value. An error is the first fault, or an
 -- allocation failure.
-abbrev pub Parses : {X : Type 0} → (X → List Word → Type 0) → Standing → Standing → List ℕ → ℕ
+abbrev pub Parses : {X : Type 0} → (X → List Word → Type 0) → Stage × ℕ → Stage × ℕ → List ℕ → ℕ
     → Result (X × ℕ) FmdFault → Type 0
 Parses P before after text from (Ok (x, to)) = ReadsTokens (P x) before after text from to
 Parses P before after text from (Err fault) =

@@ -1,7 +1,13 @@
--- The tokens of a text. The language is coreboot's (Documentation/lib/flashmap.md), the exact bytes
--- are this project's own.
+-- The tokens of a text, and the values of numbers. The language and the suffixes are coreboot's
+-- (Documentation/lib/flashmap.md), the exact bytes and the rest of numbers this project's own.
 use Rattle.std.specs.Prelude.{ℕ, suc, nat_le, nat_eq, Bool, false, ◌&&◌, ◌||◌, not, if◌then◌else◌}
-use Rattle.std.specs.Prelude.{drop, List, [], ◌∷◌, codes, unwrap_or}
+use Rattle.std.specs.Prelude.{drop, take, slice_index, length, List, [], ◌∷◌, codes, unwrap_or}
+use Rattle.std.specs.Prelude.{◌-◌, ◌*◌, ◌^◌, nat_lt, Option, Some, None, option_map, Result, Ok}
+use Rattle.std.specs.Prelude.{Err}
+use Rattle.std.specs.Option.{option_map_or}
+use Rattle.flash_format.specs.Numbers.{digits_value}
+use Rattle.fmd_lang.specs.declared.fault.FmdFault.{FmdFault}
+use Rattle.fmd_lang.specs.declared.fault.FmdFault.TheVariants as faults
 use Rattle.std.specs.Map.{lookup}
 use Rattle.std.specs.List.{list_any, take_while}
 use Rattle.fmd_lang.specs.declared.word.Kind.{Kind}
@@ -39,13 +45,11 @@ words_from place inside (b ∷ bs) = let others = words_from (suc place) (is_pla
     if is_blank b then others else (if not (is_plain b) then word place (b ∷ []) ∷ others
     else (if inside then others else word place (take_while is_plain (b ∷ bs)) ∷ others))
 
-abbrev pub marks : List (ℕ × Kind)
-marks = (40, OpenParen) ∷ (41, CloseParen) ∷ (64, At) ∷ (123, OpenBrace) ∷ (125, CloseBrace) ∷ []
-
 -- the kind of a token, by the first byte; the end is empty
 abbrev pub kind_of : List ℕ → Kind
 kind_of [] = End
-kind_of (b ∷ bs) = unwrap_or (lookup (nat_eq b) marks)
+kind_of (b ∷ bs) = unwrap_or (lookup (nat_eq b)
+    ((40, OpenParen) ∷ (41, CloseParen) ∷ (64, At) ∷ (123, OpenBrace) ∷ (125, CloseBrace) ∷ []))
     (if nat_le 48 b && nat_le b 57 then Number else (if is_plain b then Name else Bad))
 
 -- the tokens from an offset on, outside any token or comment
@@ -54,3 +58,23 @@ words_after text at = words_from at false (without_comments false (drop at text)
 
 abbrev pub words : List ℕ → List Word
 words text = words_after text 0
+
+-- ---- numbers
+
+-- decimal digits without a leading zero, a single `0`, or `0x` and hexadecimal digits
+abbrev pub plain_value : List ℕ → Option ℕ
+plain_value (b ∷ x ∷ ds) = if nat_eq b 48 then (if nat_eq x 120 then digits_value 16 ds else None)
+    else digits_value 10 (b ∷ x ∷ ds)
+plain_value bytes = digits_value 10 bytes
+
+-- the value of a number with at most a single unit, the last byte
+unfoldable pub literal_value : List ℕ → Option ℕ
+literal_value text = let last = length text - 1 in
+    option_map_or (λ unit. option_map (λ n. n * unit) (plain_value (take last text)))
+    (lookup (nat_eq (slice_index text last)) ((75, 1024) ∷ (77, 1048576) ∷ (71, 1073741824) ∷ []))
+    (plain_value text)
+
+-- the value below 2^32, or the fault
+abbrev pub number_at : ℕ → Option ℕ → Result ℕ FmdFault
+number_at at None = Err (faults.BadNumber at)
+number_at at (Some n) = if nat_lt n (2 ^ 32) then Ok n else Err (faults.NumberTooLarge at)

@@ -2,13 +2,11 @@
 
 ghost use Rattle.std.specs.Prelude.{◌≡◌, ◌≢◌, ◌↔◌, ℕ, List, ◌++◌, Some, None, Ok, false};
 ghost use Rattle.flash_format.specs.Laws.{IsReadAsMap};
-ghost use Rattle.fmd_lang.specs.Table.{table_bytes, table_head, IsTable};
-ghost use Rattle.fmd_lang.specs.Tree.{Tree};
+ghost use Rattle.fmd_lang.specs.Table.{table_bytes, table_head, IsTable, layout_fault};
+ghost use Rattle.fmd_lang.specs.Grammar.{Tree, IsSection};
 ghost use Rattle.fmd_lang.specs.Words.{words};
-ghost use Rattle.fmd_lang.specs.Grammar.{IsSection};
 ghost use Rattle.fmd_lang.specs.Faults.{first_fault};
 ghost use Rattle.fmd_lang.specs.declared.fault.Expected.{Expected};
-ghost use Rattle.fmd_lang.specs.LayoutFaults.{layout_fault};
 ghost use Rattle.fmd_lang.specs.Layout.{ambiguous_sibling, places_of, ArePlaced};
 ghost use Rattle.fmd_lang.specs.declared.row.Sibling.{Sibling};
 ghost use Rattle.fmd_lang.specs.declared.row.Place.{Place};

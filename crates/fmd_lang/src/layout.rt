@@ -3,11 +3,10 @@
 ghost use Rattle.std.specs.Prelude.{◌≡◌, ◌≤◌, ◌<◌, ◌+◌, ◌*◌, ◌^◌, length};
 ghost use Rattle.std.specs.Prelude.{Some, None, Ok, IfOk};
 ghost use Rattle.fmd_lang.specs.Faults.{FailsWith, IsExact};
-ghost use Rattle.fmd_lang.specs.Tree.{section_count, names, names_of, view, views};
+ghost use Rattle.fmd_lang.specs.Grammar.{names, names_of, view, views};
 ghost use Rattle.fmd_lang.specs.Layout as spec;
-ghost use Rattle.fmd_lang.specs.Table.{area_limit, areas_below, IsTable};
+ghost use Rattle.fmd_lang.specs.Table.{area_limit, areas_below, IsTable, layout_fault};
 ghost use Rattle.fmd_lang.specs.Table as spec_table;
-ghost use Rattle.fmd_lang.specs.LayoutFaults.{layout_fault};
 
 use crate::fault::FmdFault;
 use crate::names::{check_names_of, field_of};
@@ -19,7 +18,7 @@ use std::alloc::Global;
 
 /// Returns the table of a tree, or the first fault. The recursion has the tree's depth: at most 33
 /// levels from `parse`.
-#[tactic(auto, unfolding(crate::specs::LayoutFaults::layout_fault))]
+#[tactic(auto, unfolding(crate::specs::Table::layout_fault))]
 pub fn lay_out(alloc: Global, root: &Section) -> Result<Table, FmdFault>
     ensures table { IfOk result (λ table. IsTable (view root.now) table) }
     ensures refused { FailsWith (layout_fault (view root.now)) result }
@@ -51,7 +50,7 @@ fn push_areas(
     size: u32,
     areas: &mut Vec<Area>,
 ) -> Result<(), FmdFault>
-    requires count { length areas.old.items + section_count (view section.now) ≤ area_limit + 1 }
+    requires count { length areas.old.items + length (names (view section.now)) ≤ area_limit + 1 }
     requires inside { at + size < 2 ^ 32 }
     ensures { IsExact (areas_below at size (view section.now) areas.old.items)
         (λ _. areas.new.items) result }
@@ -93,8 +92,8 @@ fn siblings(alloc: Global, first: usize, parts: &[Section]) -> Result<Vec<Siblin
 }
 
 fn count(section: &Section) -> usize
-    requires { section_count (view section.now) < 2 ^ 64 }
-    ensures { result ≡ section_count (view section.now) }
+    requires { length (names (view section.now)) < 2 ^ 64 }
+    ensures { result ≡ length (names (view section.now)) }
 {
     let mut all = 1;
     for part in &section.parts {

@@ -2,9 +2,8 @@ ghost use Rattle.std.specs.Prelude.{◌≡◌, ◌+◌, ◌++◌, [], None, Some
 ghost use Rattle.std.specs.Prelude.{Ok};
 ghost use Rattle.std.specs.List.{list_any};
 ghost use Rattle.std.specs.Str.{bytes_eq};
-ghost use Rattle.fmd_lang.specs.Tree.{names, view};
-ghost use Rattle.fmd_lang.specs.LayoutFaults.{names_fault, duplicate};
-ghost use Rattle.fmd_lang.specs.Table.{field_of};
+ghost use Rattle.fmd_lang.specs.Grammar.{names, view};
+ghost use Rattle.fmd_lang.specs.Table.{names_fault, duplicate, field_of};
 ghost use Rattle.fmd_lang.specs.Faults.{FailsWith, IsExact};
 
 use crate::fault::FmdFault;

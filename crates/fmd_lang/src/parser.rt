@@ -1,16 +1,16 @@
 //! The parser. Each function returns a value and the next offset.
 
-ghost use Rattle.std.specs.Prelude.{◌≡◌, ◌≤◌, ◌<◌, ◌+◌, ◌∷◌, suc, length, true, false};
+ghost use Rattle.std.specs.Prelude.{◌≡◌, ◌≤◌, ◌<◌, ◌+◌, ◌∷◌, suc, length};
 ghost use Rattle.std.specs.Prelude.{Some, None, Err, IfOk, IfErr};
 ghost use Rattle.fmd_lang.specs.Words.{words};
-ghost use Rattle.fmd_lang.specs.Faults.{Stage, depth_limit, fault_at, FailsWith, start};
-ghost use Rattle.fmd_lang.specs.Faults.{past, at_sign, in_annotations, first_fault};
-ghost use Rattle.fmd_lang.specs.Grammar.{One, HasValue, HaveFlags, IsName, IsOffset, IsSize};
-ghost use Rattle.fmd_lang.specs.Grammar.{AreAnnotations, AreSections, Enclosed, IsSection, Until};
+ghost use Rattle.fmd_lang.specs.Faults.{Stage, fault_at, FailsWith, start};
+ghost use Rattle.fmd_lang.specs.Faults.{past, at_sign, first_fault};
+ghost use Rattle.fmd_lang.specs.Grammar.{One, Then, IsA, HasValue, IsName, IsOffset, IsSize};
+ghost use Rattle.fmd_lang.specs.Grammar.{AreAnnotations, AreSections, Enclosed, IsSection, none};
+ghost use Rattle.fmd_lang.specs.Grammar.{view, views};
 ghost use Rattle.fmd_lang.specs.ParserResults.{Parses, IsNext, word_of, piece_end};
-ghost use Rattle.fmd_lang.specs.Tree.{none, view, views};
 ghost use Rattle.fmd_lang.specs.Grammar as grammar;
-ghost use Rattle.fmd_lang.specs.declared.word.Kind.TheVariants.{CloseBrace, CloseParen, OpenBrace};
+ghost use Rattle.fmd_lang.specs.declared.word.Kind.TheVariants.{CloseBrace, OpenBrace};
 ghost use Rattle.fmd_lang.specs.declared.word.Kind.TheVariants.{Number};
 
 use crate::fault::{Expected, FmdFault};
@@ -114,9 +114,9 @@ fn sections(
     from: usize,
     depth: u32,
 ) -> Result<(Vec<Section>, usize), FmdFault>
-    requires depth { depth < depth_limit }
-    ensures { Parses (λ v. Until CloseBrace (AreSections (views v.items))) (past 4, suc depth)
-        (past 4, depth) text.now from result }
+    requires depth { depth < DEPTH_LIMIT }
+    ensures { Parses (λ v. Then (AreSections (views v.items)) (One (IsA CloseBrace)))
+        (past 4, suc depth) (past 4, depth) text.now from result }
 {
     let mut parts = Vec::new(alloc);
     let mut at = from;
@@ -138,19 +138,11 @@ fn annotations(text: &[u8], from: usize, depth: u32) -> Result<(u16, usize), Fmd
     ensures { Parses AreAnnotations (past 0, depth) (past 1, depth) text.now from result }
 {
     let token = peek(text, from, depth)?;
-    match token.kind {
-        Kind::OpenParen => listed_annotations(text, token.word.end(), depth),
-        _ => Ok((0, from)),
-    }
-}
-
-/// Parses annotations, up to `)`.
-fn listed_annotations(text: &[u8], from: usize, depth: u32) -> Result<(u16, usize), FmdFault>
-    ensures { Parses (λ flags. Until CloseParen (HaveFlags flags)) (in_annotations false, depth)
-        (past 1, depth) text.now from result }
-{
+    let Kind::OpenParen = token.kind else {
+        return Ok((0, from));
+    };
     let mut flags = 0;
-    let mut at = from;
+    let mut at = token.word.end();
     let mut any = false;
     loop {
         let token = peek(text, at, depth)?;

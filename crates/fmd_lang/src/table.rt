@@ -1,7 +1,6 @@
 ghost use Rattle.std.specs.Prelude.{◌≡◌, ◌<◌, length, IfOk};
 ghost use Rattle.fmd_lang.specs.Faults.{FailsWith};
-ghost use Rattle.fmd_lang.specs.LayoutFaults.{count_fault};
-ghost use Rattle.fmd_lang.specs.Table.{table_bytes};
+ghost use Rattle.fmd_lang.specs.Table.{count_fault, table_bytes};
 
 use crate::fault::FmdFault;
 use flash_format::{Area, FmapHead};

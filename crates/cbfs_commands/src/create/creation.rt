@@ -5,7 +5,7 @@ ghost use Rattle.std.specs.Prelude.{Err};
 ghost use Rattle.flash_device.specs.Device.{Calls, refusals};
 ghost use Rattle.flash_device.specs.Laws.{with_edit};
 ghost use Rattle.flash_device.specs.Pages.{OnHonest};
-ghost use Rattle.cbfs_edit.specs.Formats.{formatted};
+ghost use Rattle.cbfs_edit.specs.Changes.{formatted};
 ghost use Rattle.cbfs_commands.specs.declared.create.flashmap.TheConstants.{MOST_REGIONS};
 ghost use Rattle.cbfs_commands.specs.Creations.{IsPlace};
 ghost use Rattle.cbfs_commands.specs.Effects.{HasEffect, create, effect};

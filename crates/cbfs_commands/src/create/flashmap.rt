@@ -9,7 +9,7 @@ ghost use Rattle.flash_format.specs.Flashmap.{fmap_head_len, map_len, areas_from
 ghost use Rattle.flash_device.specs.Device.{Reads, refusals};
 ghost use Rattle.flash_device.specs.Pages.{OnHonest};
 ghost use Rattle.flash_map.specs.Fmap.{map_head};
-ghost use Rattle.cbfs_commands.specs.Creations.{AnswersBySource, head_for, first_area};
+ghost use Rattle.cbfs_commands.specs.Creations.{AnswersBySource, first_area};
 
 use crate::refusal::Refusal;
 use flash_device::{Source, SourceFault};
@@ -31,17 +31,6 @@ pub fn create_size<S: Source>(source: &mut S) -> Result<u32, Refusal>
     match map_in_source(source)? {
         Some(head) => Ok(head.size),
         None => Err(Refusal::TableBad),
-    }
-}
-
-/// Returns the header of a flashmap for an image of `image_len` bytes.
-pub fn head_for<S: Source>(source: &mut S, image_len: u64) -> Result<FmapHead, Refusal>
-    ensures head { AnswersBySource S.facts 1 source.old source.new result (head_for image_len) }
-    ensures fits { IfOk result (λ head. map_len head ≤ length (S.facts source.old).content) }
-{
-    match map_in_source(source)? {
-        Some(head) if u64::from(head.size) == image_len => Ok(head),
-        _ => Err(Refusal::TableBad),
     }
 }
 

@@ -1,6 +1,9 @@
 //! The lines after a component's row.
 
-ghost use Rattle.std.specs.Prelude.{◌≡◌, ◌+◌, ◌/◌, ◌≤◌, length, map};
+ghost use Rattle.std.specs.Prelude.{◌≡◌, ◌+◌, ◌/◌, ◌≤◌, false, length, map};
+ghost use Rattle.flash_format.specs.Head.{is_free};
+ghost use Rattle.flash_device.specs.Regions.{bytes_in};
+ghost use Rattle.cbfs_walk.specs.Cells.{cell_in};
 ghost use Rattle.std.specs.List.{flat_map};
 ghost use Rattle.byteorder.specs.Endian.{big_bytes};
 ghost use Rattle.hex.specs.Hex.{encode_lower};
@@ -10,7 +13,7 @@ ghost use Rattle.flash_format.specs.Components.{cell_attributes};
 ghost use Rattle.flash_format.specs.Texts.{Pushes};
 ghost use Rattle.cbfs_walk.specs.AttrWalks.{head_of_attribute};
 ghost use Rattle.cbfs_commands.specs.Rows.{attribute_line, details, digest_line, hash_line};
-ghost use Rattle.cbfs_commands.specs.Printouts.{HasOutput, IsComponentOf, cell_bytes, shows};
+ghost use Rattle.cbfs_commands.specs.Outcomes.{HasOutput, IsCellOf, shows};
 
 use crate::refusal::Refusal;
 use crate::row::{ROW_LEN, Row, push_decimal};
@@ -89,11 +92,12 @@ fn print_attributes<F: Flash, W: Sink>(
     row: &mut Row,
     out: &mut W,
 ) -> Result<(), Refusal>
-    requires { IsComponentOf region cell.now paged.old.device }
+    requires cell { IsCellOf region cell.now paged.old.device }
+    requires used { is_free cell.now.head ≡ false }
 
     ensures { HasOutput W.Sink (cell.now.head.offset / 8) paged.old paged.new out.old out.new result
         (λ image. shows (flat_map attribute_line
-        (map head_of_attribute (cell_attributes (cell_bytes region cell.now image))))) }
+        (map head_of_attribute (cell_attributes (cell_in (bytes_in region image) cell.now))))) }
 {
     let mut walk = attributes(cell);
     while let Some(head) = walk.next(paged, region)? {
@@ -111,11 +115,12 @@ pub fn print_details<F: Flash, W: Sink>(
     row: &mut Row,
     out: &mut W,
 ) -> Result<(), Refusal>
-    requires { IsComponentOf region cell.now paged.old.device }
+    requires cell { IsCellOf region cell.now paged.old.device }
+    requires used { is_free cell.now.head ≡ false }
 
     ensures { HasOutput W.Sink (cell.now.head.offset / 8 + (1 + cell.now.span / 3840)) paged.old
         paged.new out.old out.new result
-        (λ image. shows (details (cell_bytes region cell.now image))) }
+        (λ image. shows (details (cell_in (bytes_in region image) cell.now))) }
 {
     print_attributes(paged, region, cell, row, out)?;
     let state = check_hash(paged, region, cell)?;

@@ -5,7 +5,8 @@ ghost use Rattle.flash_device.specs.Pages.{HasAnswered, OnHonest};
 ghost use Rattle.flash_device.specs.Regions.{LiesOn, bytes_in};
 ghost use Rattle.cbfs_commands.specs.Outcomes.{print_region, printed_in};
 ghost use Rattle.cbfs_commands.specs.Rows.{cell_row, shown_cell};
-ghost use Rattle.cbfs_commands.specs.Printouts.{HasOutput, IsCellOf, cell_bytes, shows};
+ghost use Rattle.cbfs_commands.specs.Outcomes.{HasOutput, IsCellOf, shows};
+ghost use Rattle.cbfs_walk.specs.Cells.{cell_in};
 ghost use Rattle.flash_device.specs.Device.{call_limit};
 
 use crate::print::details::print_details;
@@ -27,7 +28,8 @@ fn set_cell_row<F: Flash>(
 
     ensures after { HasAnswered (2 + cell.now.span / 3840) paged.old paged.new result }
     ensures row { OnHonest paged.old.device (λ image.
-        OnOk result (buffer.new.items ≡ cell_row cell.now.at (cell_bytes region cell.now image))) }
+        OnOk result (buffer.new.items
+        ≡ cell_row cell.now.at (cell_in (bytes_in region image) cell.now))) }
 {
     cells_stand_in_their_image();
     if cell.head.is_free() {
@@ -53,8 +55,8 @@ fn print_cell<F: Flash, W: Sink>(
     requires { IsCellOf region cell.now paged.old.device }
 
     ensures { HasOutput W.Sink (2 + cell.now.span / 3840 + (if verbose then 1 + cell.now.span / 8
-        + cell.now.span / 3840 else 0)) paged.old paged.new out.old out.new result
-        (λ image. shows (shown_cell verbose cell.now.at (cell_bytes region cell.now image))) }
+        + cell.now.span / 3840 else 0)) paged.old paged.new out.old out.new result (λ image.
+        shows (shown_cell verbose cell.now.at (cell_in (bytes_in region image) cell.now))) }
 {
     cells_stand_in_their_image();
     set_cell_row(paged, region, cell, buffer)?;

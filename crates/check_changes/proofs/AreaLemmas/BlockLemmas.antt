@@ -10,7 +10,11 @@ use Rattle.std.proofs.lemmas.Slice.Eq.{bytes_eq-Decides}
 use Rattle.flash_device.specs.Regions.{Range, bytes_in}
 use Rattle.flash_device.proofs.BytesLemmas.{slice_range_is}
 use Rattle.check_changes.specs.declared.images.Both.{Both}
-use Rattle.check_changes.specs.Blocks.{blocks_of, block, differs, count_below, different_blocks}
+use Rattle.check_changes.specs.Areas.{blocks_of, differs, count_below, different_blocks}
+
+-- up to 4096 bytes
+abbrev pub block : ℕ → List ℕ → List ℕ
+block number x = take 4096 (drop (4096 * number) x)
 
 -- two limits on a length are the lower limit
 take-both : (m n : ℕ) (x : List ℕ) → take m (take n x) ≡ take (min n m) x

@@ -5,7 +5,8 @@ use Rattle.check_changes.specs.declared.areas.change.AreaChange.{AreaChange}
 use Rattle.check_changes.specs.declared.areas.pairs.AreaPair.{AreaPair}
 use Rattle.check_changes.specs.declared.images.Images.{Images}
 use Rattle.check_changes.specs.Areas.{area_change, area_changes_in, compared, content_differences, entry_differences, left_after, same_size_regions}
-use Rattle.check_changes.specs.Images.{HasReadBoth, OnBoth, lengths, lengths_of}
+use Rattle.check_changes.specs.Images.{OnBoth, lengths, lengths_of}
+use Rattle.check_changes.proofs.ImageLemmas.{HasReadBoth}
 use Rattle.check_changes.proofs.ImageLemmas.{OnBoth-before}
 use Rattle.std.proofs.Math.Seq.{drop-cons}
 use Rattle.std.proofs.lemmas.List.{append-nil, drop_all, map-append}

@@ -1,6 +1,6 @@
 -- An area with a different byte, or a smaller area with the byte's block, is reported.
 use Rattle.std.proofs.Common.{◌≡◌, ◌∙◌, ℕ, zero, suc, ◌+◌, ◌-◌, ◌*◌, ◌/◌, ◌%◌, ◌<◌, ◌≤◌, Bool, true, false, List, [], ◌∷◌, ◌++◌, length, drop, get_or, map, min, Option, Some, None, refl, sym, ap, subst, arith}
-use Rattle.std.specs.Prelude.{not, ◌&&◌, Contains, nat_le, nat_lt}
+use Rattle.std.specs.Prelude.{not, ◌&&◌, Contains, IsTrue, nat_le, nat_lt}
 use Rattle.std.specs.Bool.{then_some}
 use Rattle.std.specs.Str.{bytes_eq}
 use Rattle.std.specs.List.{list_any, flat_map}
@@ -19,9 +19,10 @@ use Rattle.check_changes.specs.Images.{lengths_of}
 use Rattle.check_changes.specs.declared.areas.change.AreaChange.{AreaChange}
 use Rattle.check_changes.specs.declared.areas.pairs.AreaPair.{AreaPair}
 use Rattle.check_changes.specs.declared.images.Both.{Both}
-use Rattle.check_changes.specs.Blocks.{blocks_of, block, differs, count_below}
+use Rattle.check_changes.specs.Areas.{blocks_of, differs, count_below}
+use Rattle.check_changes.proofs.AreaLemmas.BlockLemmas.{block}
 use Rattle.check_changes.specs.Areas.{pairs, same_size_regions, has_block, is_held, is_difference, is_own_difference, compared, content_differences, left_after, entry_differences, area_change, area_changes_in, gone_of, area_changes}
-use Rattle.check_changes.specs.Laws.{reports, DifferAt, DifferencesAreReported}
+use Rattle.check_changes.specs.Laws.{reports, DifferAt}
 
 -- ---- one block
 
@@ -153,7 +154,8 @@ module _ (x y : List ℕ) (all : List AreaPair) where
   reported_below zero old new i one small d = absurd (omega (arith, small))
   reported_below (suc size) old new i one small d = by_test size (reported_below size) old new i one small d _ refl
 
-pub reported : DifferencesAreReported
+pub reported : (x y : List ℕ) (olds news : List NumberedArea) (old new : NumberedArea) (i : ℕ) → Contains (pairs olds news) (record { old = Some old; new = new }) → DifferAt x y old new i
+    → IsTrue (list_any (reports (new.area.offset + i)) (area_changes x olds y news))
 unfolding area_changes
 reported x y olds news old new i one d =
     let all = pairs olds news in

@@ -8,8 +8,8 @@ use Rattle.flash_format.specs.Entry.{name_end}
 use Rattle.cbfs_walk.proofs.Checks.{checks_give}
 use Rattle.check_changes.specs.declared.components.listing.Listed.{Listed}
 use Rattle.check_changes.specs.declared.images.Images.{Images}
-use Rattle.check_changes.specs.Listings.{IsListedIn, spans}
-use Rattle.check_changes.specs.Images.{HasReadBoth}
+use Rattle.check_changes.specs.Components.{IsListedIn, spans}
+use Rattle.check_changes.proofs.ImageLemmas.{HasReadBoth}
 use Rattle.check_changes.proofs.ImageLemmas.{both-then, both-within}
 
 -- the name of a component ends before its content

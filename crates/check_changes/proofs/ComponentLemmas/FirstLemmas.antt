@@ -11,7 +11,7 @@ use Rattle.std.proofs.lemmas.List.Elements.{All-head, All-tail}
 use Rattle.std.proofs.lemmas.Map.Text.{hash_map_updates_str}
 use Rattle.check_changes.specs.declared.components.listing.Listed.{Listed}
 use Rattle.check_changes.specs.Components.{first_of}
-use Rattle.check_changes.specs.Listings.{Notes}
+use Rattle.check_changes.specs.Components.{Notes}
 
 -- ---- the first element that passes a test
 

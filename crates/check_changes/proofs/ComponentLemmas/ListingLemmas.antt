@@ -1,5 +1,5 @@
 -- The components of a region, cell by cell.
-use Rattle.std.proofs.Common.{◌≡◌, ℕ, ◌+◌, ◌/◌, ◌%◌, ◌≤◌, IsTrue, Bool, true, false, cond, List, [], ◌∷◌, ◌++◌, length, map, Ok, Err, refl, sym, ap, ◌∙◌, arith, append_assoc}
+use Rattle.std.proofs.Common.{None, ◌≡◌, ℕ, ◌+◌, ◌/◌, ◌%◌, ◌≤◌, IsTrue, Bool, true, false, cond, List, [], ◌∷◌, ◌++◌, length, map, Ok, Err, refl, sym, ap, ◌∙◌, arith, append_assoc}
 use Rattle.std.specs.Prelude.{All, IsErrOf, Vec, not}
 use Rattle.std.specs.declared.alloc.Global.{Global}
 use Rattle.std.proofs.lemmas.List.{append-nil}
@@ -12,7 +12,7 @@ use Rattle.flash_device.proofs.WindowLemmas.{HasRead-then}
 use Rattle.flash_device.specs.Regions.{Range, LiesOn, bytes_in}
 use Rattle.flash_device.proofs.DeviceLemmas.{honest_still}
 use Rattle.cbfs_walk.specs.Cells.{IsCellIn, cell_in}
-use Rattle.cbfs_walk.specs.Walks.{reads_over, StepResult, Walking, walk_of, answer_at, StandsIn}
+use Rattle.cbfs_walk.specs.Walks.{reads_over, StepResult, Walking, answer_at, StandsIn}
 use Rattle.cbfs_walk.specs.CellReadings.{reading_of, ReadsCells, by_answer}
 use Rattle.cbfs_walk.specs.declared.cell.Cell.{Cell}
 use Rattle.cbfs_walk.specs.declared.walk.Step.TheVariants as steps
@@ -20,9 +20,18 @@ use Rattle.cbfs_walk.specs.declared.walk.WalkFault.TheVariants as walk
 use Rattle.cbfs_walk.proofs.Shapes.{shaped_step}
 use Rattle.check_findings.proofs.RegionLemmas.WalkParts.{Answers, Reached, reached_answer, reached_more, reached_start}
 use Rattle.check_findings.specs.Lists.{only_if}
-use Rattle.check_changes.specs.Components.{listed_in, listed_of}
-use Rattle.check_changes.specs.Listings.{IsListedIn, IsListing, cell_listed, spans}
+use Rattle.check_changes.specs.Components.{listed_in}
+use Rattle.flash_format.specs.Components.{Component, cell_name}
+use Rattle.check_changes.specs.Components.{IsListedIn, spans}
 use Rattle.check_changes.specs.declared.components.listing.Listed.{Listed}
+
+-- a component by its name and cell
+abbrev listed_of : Component → Listed
+listed_of c = record { name = c.name; cell = record { at = c.at; head = head_of c.bytes; span = length c.bytes } }
+
+-- the component of a cell with these bytes; none for an empty entry
+abbrev cell_listed : List ℕ → Cell → List Listed
+cell_listed bytes c = only_if (not (is_free c.head)) (record { name = cell_name bytes; cell = c })
 
 -- ---- the components from an offset on
 
@@ -74,7 +83,7 @@ pub record ListedSoFar {F : Type 0} (r : Range) (w : Walking) (all : Vec Listed 
   pub room : spans all.items ≤ w.at
   pub so_far : IsTrue old.device.honest → all.items ++ listed_from (bytes_in r old.device.content) w.at ≡ listed_in (bytes_in r old.device.content)
 
-pub listing_start : {F : Type 0} (r : Range) (all : Vec Listed Global) (old : Pages F) → all.items ≡ [] → ListedSoFar r (walk_of r) all old old
+pub listing_start : {F : Type 0} (r : Range) (all : Vec Listed Global) (old : Pages F) → all.items ≡ [] → ListedSoFar r (record { region = r; at = 0; steps = 0; ended = None }) all old old
 listing_start r all old none = record {
   reached = reached_start r (0 / 24) old;
   cells = rw none (All-nil (IsListedIn r.size));
@@ -118,7 +127,8 @@ module _ {F : Type 0} (r : Range) (w : Walking) (all : Vec Listed Global) (old n
   })
 
   -- the walk ended
-  pub listing_lists : (a : StepResult) → IsNoCell a → (IsErrOf a walk.Device → ⊥) → Answers w now a → IsListing r old all
+  pub listing_lists : (a : StepResult) → IsNoCell a → (IsErrOf a walk.Device → ⊥) → Answers w now a
+      → All (IsListedIn r.size) all.items × (spans all.items ≤ r.size) × OnHonestIn old.device r (λ x. all.items ≡ listed_in x)
   listing_lists a none other answer = (
     i.cells,
     omega (arith, i.room, i.reached.inside),

@@ -8,7 +8,8 @@ use Rattle.std.proofs.lemmas.List.{take_all}
 use Rattle.std.proofs.lemmas.Slice.Eq.{bytes_eq-Decides}
 use Rattle.flash_device.specs.Regions.{Range, bytes_in}
 use Rattle.cbfs_walk.proofs.Parts.{part-in}
-use Rattle.check_changes.specs.Blocks.{block, differs}
+use Rattle.check_changes.specs.Areas.{differs}
+use Rattle.check_changes.proofs.AreaLemmas.BlockLemmas.{block}
 
 -- a range of a region as a region of the image
 pub bytes_in-part : (image : List ℕ) (r part : Range) (start at n end : ℕ)

@@ -4,7 +4,7 @@ ghost use Rattle.check_findings.specs.Lists.{Gains};
 ghost use Rattle.check_changes.specs.Areas.{area_change, area_changes, area_changes_in, compared};
 ghost use Rattle.check_changes.specs.Areas.{content_differences, entry_differences, left_after};
 ghost use Rattle.check_changes.specs.Areas.{same_size_regions};
-ghost use Rattle.check_changes.specs.Blocks.{blocks_of, different_blocks};
+ghost use Rattle.check_changes.specs.Areas.{blocks_of, different_blocks};
 ghost use Rattle.check_changes.specs.Images.{HasCompared, OnBoth, lengths, lengths_of};
 ghost use Rattle.flash_device.specs.Pages.{Returns};
 

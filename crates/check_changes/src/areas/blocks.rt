@@ -1,7 +1,7 @@
 //! Counts of different blocks.
 ghost use Rattle.std.specs.Prelude.{◌≡◌, ◌^◌, ◌≤◌, min, IfOk};
 ghost use Rattle.check_changes.specs.Areas.{is_difference, is_own_difference};
-ghost use Rattle.check_changes.specs.Blocks.{blocks_of, count_below};
+ghost use Rattle.check_changes.specs.Areas.{blocks_of, count_below};
 ghost use Rattle.check_changes.specs.Images.{HasCompared, LieOn, OnBoth};
 
 use crate::areas::pairs::{AreaPair, is_held};

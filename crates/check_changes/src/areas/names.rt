@@ -1,7 +1,7 @@
 //! Areas by name.
 ghost use Rattle.std.specs.Prelude.{◌≡◌, IfOk};
 ghost use Rattle.std.proofs.Props.{props};
-ghost use Rattle.flash_map.specs.Names.{Notes};
+ghost use Rattle.flash_map.specs.Areas.{Notes};
 ghost use Rattle.check_findings.specs.MapFindings.{namesake};
 ghost use Rattle.check_changes.specs.Areas.{is_reached};
 

@@ -57,8 +57,7 @@ impl AreaPair {
 /// Returns whether a pair contains this block of `outer`.
 pub fn is_held(pairs: &[AreaPair], lens: Lengths, outer: RegionPair, number: u64) -> bool
     requires fit { (lens.old < 2 ^ 32) × (lens.new < 2 ^ 32) }
-    requires inside { LieWithin lens outer }
-    requires begins { 4096 * number ≤ outer.new.size }
+    requires inside { LieWithin lens outer × (4096 * number ≤ outer.new.size) }
     ensures { result ≡ is_held lens pairs.now outer number }
 {
     let start = number * PIECE as u64;

@@ -4,9 +4,9 @@ ghost use Rattle.std.specs.List.{flat_map};
 ghost use Rattle.check_changes.specs.Areas.{if_changed};
 ghost use Rattle.check_changes.specs.Components.{changes_between, component_change};
 ghost use Rattle.check_changes.specs.Components.{component_changes, new_changes, removal_of};
-ghost use Rattle.check_changes.specs.Listings.{IsListedIn, spans};
+ghost use Rattle.check_changes.specs.Components.{IsListedIn, spans};
 ghost use Rattle.check_findings.specs.Lists.{Gains};
-ghost use Rattle.check_changes.specs.Regions.{listed_regions, lists_of};
+ghost use Rattle.check_changes.specs.Regions.{listed_regions};
 ghost use Rattle.check_changes.specs.Images.{HasCompared, HasReadFor, LieOn, OnBothIn};
 ghost use Rattle.check_changes.specs.declared.components.change.ComponentDifference.TheVariants.{MovedFrom};
 ghost use Rattle.flash_device.specs.Pages.{Lists};
@@ -70,7 +70,7 @@ fn push_changes_of<'a, F: Flash, G: Flash>(
     ensures after { HasCompared (2 + listed.now.cell.span / 4096) images.old images.new result }
     ensures changes { OnBothIn images.old (listed_regions lists.now)
         (λ x y. Gains changes.old changes.new result
-        (new_changes x y (lists_of lists.now) listed.now)) }
+        (new_changes x y lists.now.old.all.now lists.now.new.all.now listed.now)) }
 {
     if !lists.new.is_first(listed) {
         return Ok(());
@@ -95,9 +95,9 @@ fn push_changes<'a, F: Flash, G: Flash>(
     requires regions { LieOn images.old (listed_regions lists.now) }
 
     ensures after { HasCompared (spans lists.now.new.all.now / 24) images.old images.new result }
-    ensures changes { OnBothIn images.old (listed_regions lists.now)
-        (λ x y. Gains changes.old changes.new result
-        (flat_map (new_changes x y (lists_of lists.now)) lists.now.new.all.now)) }
+    ensures changes { OnBothIn images.old (listed_regions lists.now) (λ x y.
+        Gains changes.old changes.new result (flat_map (new_changes x y lists.now.old.all.now
+        lists.now.new.all.now) lists.now.new.all.now)) }
 {
     for listed in lists.new.all {
         push_changes_of(alloc, changes, images, lists, listed)?;
@@ -112,7 +112,7 @@ fn push_removed<'a>(
     lists: &Listings<'a>,
 ) -> Result<(), AllocError>
     ensures { Gains changes.old changes.new result
-        (flat_map (removal_of (lists_of lists.now)) lists.now.old.all.now) }
+        (flat_map (removal_of lists.now.old.all.now lists.now.new.all.now) lists.now.old.all.now) }
 {
     for listed in lists.old.all {
         if lists.new.namesake(listed).is_none() && lists.old.is_first(listed) {
@@ -136,7 +136,7 @@ fn list_changes<'a, F: Flash, G: Flash>(
 
     ensures after { HasCompared (spans new.now / 24) images.old images.new result }
     ensures changes { OnBothIn images.old regions
-        (λ x y. Lists result (changes_between x y (record { old = old.now; new = new.now }))) }
+        (λ x y. Lists result (changes_between x y old.now new.now)) }
 {
     let lists = Listings {
         old: with_firsts(alloc, keys, regions.old, old)?,

@@ -3,7 +3,7 @@ ghost use Rattle.std.specs.Prelude.{◌≡◌, ◌+◌, ◌-◌, ◌/◌, ◌≤
 ghost use Rattle.std.specs.Str.{bytes_eq};
 ghost use Rattle.cbfs_walk.specs.Cells.{attributes_start, content_end, content_start};
 ghost use Rattle.check_changes.specs.Components.{difference};
-ghost use Rattle.check_changes.specs.Listings.{IsListedIn};
+ghost use Rattle.check_changes.specs.Components.{IsListedIn};
 ghost use Rattle.check_changes.specs.Images.{HasCompared, LieOn, OnBothIn};
 ghost use Rattle.flash_device.specs.Pages.{Returns};
 
@@ -26,8 +26,7 @@ pub fn difference<F: Flash, G: Flash>(
     new: &Listed,
 ) -> Result<Option<ComponentDifference>, ChangeFault>
     requires regions { LieOn images.old regions }
-    requires old { IsListedIn regions.old.size old.now }
-    requires new { IsListedIn regions.new.size new.now }
+    requires listed { IsListedIn regions.old.size old.now × IsListedIn regions.new.size new.now }
 
     ensures after { HasCompared (2 + new.now.cell.span / 4096) images.old images.new result }
     ensures difference { OnBothIn images.old regions
@@ -78,10 +77,8 @@ fn same_range<F: Flash, G: Flash>(
     new: Range<u64>,
 ) -> Result<bool, ChangeFault>
     requires regions { LieOn images.old regions }
-    requires old { old.end ≤ regions.old.size }
-    requires new { new.end ≤ regions.new.size }
-    requires old_order { old.start ≤ old.end }
-    requires new_order { new.start ≤ new.end }
+    requires old { (old.start ≤ old.end) × (old.end ≤ regions.old.size) }
+    requires new { (new.start ≤ new.end) × (new.end ≤ regions.new.size) }
 
     ensures after { HasCompared (1 + (new.end - new.start) / 4096) images.old images.new result }
     ensures same { OnBothIn images.old regions (λ x y. Returns result
@@ -105,8 +102,7 @@ fn same_bytes<F: Flash, G: Flash>(
     images: &mut Images<F, G>,
     regions: RegionPair,
 ) -> Result<bool, ChangeFault>
-    requires regions { LieOn images.old regions }
-    requires same_size { regions.old.size ≡ regions.new.size }
+    requires { LieOn images.old regions × (regions.old.size ≡ regions.new.size) }
 
     ensures after { HasCompared (1 + regions.new.size / 4096) images.old images.new result }
     ensures same { OnBothIn images.old regions (λ x y. Returns result (bytes_eq x y)) }

@@ -2,7 +2,7 @@
 ghost use Rattle.std.specs.Prelude.{◌≡◌, ◌∷◌, List, All, IfOk, IfSome, OnOk, option_copied};
 ghost use Rattle.std.proofs.Props.{props};
 ghost use Rattle.check_changes.specs.Components.{first_of, is_first_of};
-ghost use Rattle.check_changes.specs.Listings.{IsListedIn, Notes};
+ghost use Rattle.check_changes.specs.Components.{IsListedIn, Notes};
 ghost use Rattle.check_changes.specs.declared.components.listing.Listed.{Listed};
 
 use crate::components::listing::Listed;
@@ -50,8 +50,7 @@ pub fn with_firsts<'a>(
 ) -> Result<Listing<'a>, AllocError>
     requires { All (IsListedIn region.size) all.now }
 
-    ensures region { IfOk result (λ l. l.region ≡ region) }
-    ensures all { IfOk result (λ l. l.all.now ≡ all.now) }
+    ensures { IfOk result (λ l. (l.region ≡ region) × (l.all.now ≡ all.now)) }
 {
     let mut left = all.len();
     let mut first = HashMap::with_capacity_and_hasher(alloc, left, keys)?;

@@ -1,10 +1,13 @@
 //! The components of a region.
-ghost use Rattle.std.specs.Prelude.{◌≡◌, ◌+◌, ◌/◌, ◌≤◌, ◌++◌, All, IfOk, OnOk};
+ghost use Rattle.std.specs.Prelude.{◌≡◌, ◌+◌, ◌/◌, ◌≤◌, All, IfOk, OnOk, not};
 ghost use Rattle.flash_device.specs.Pages.{OnHonestIn, HasReadBy};
 ghost use Rattle.flash_device.specs.Regions.{LiesOn};
 ghost use Rattle.cbfs_walk.specs.Cells.{IsCellOn, IsCellIn, cell_in};
 ghost use Rattle.cbfs_walk.specs.Walks.{StandsIn};
-ghost use Rattle.check_changes.specs.Listings.{IsListedIn, IsListing, cell_listed, spans};
+ghost use Rattle.check_changes.specs.Components.{IsListedIn, listed_in, spans};
+ghost use Rattle.check_findings.specs.Lists.{Gains, only_if};
+ghost use Rattle.flash_format.specs.Components.{cell_name};
+ghost use Rattle.flash_format.specs.Head.{is_free};
 ghost use Rattle.flash_map.specs.Faults.{by_device};
 
 use cbfs_walk::{Cell, Step, Walk, WalkFault, cells_stand_in_their_image, name};
@@ -42,7 +45,8 @@ fn list_cell<F: Flash>(
         → All (IsListedIn region.size) all.new.items) }
     ensures room { OnOk result (spans all.new.items ≤ spans all.old.items + cell.now.span) }
     ensures listed { OnHonestIn paged.old.device region (λ x. StandsIn x cell.now →
-        OnOk result (all.new.items ≡ all.old.items ++ cell_listed (cell_in x cell.now) cell.now)) }
+        Gains all.old all.new result (only_if (not (is_free cell.now.head))
+        (record { name = cell_name (cell_in x cell.now); cell = cell.now }))) }
 {
     cells_stand_in_their_image();
     if cell.head.is_free() {
@@ -63,7 +67,9 @@ pub fn components<F: Flash>(
     requires { LiesOn region paged.old.device }
 
     ensures after { HasReadBy by_device (region.size / 24 + 2) paged.old paged.new result }
-    ensures lists { IfOk result (IsListing region paged.old) }
+    ensures lists { IfOk result (λ all. All (IsListedIn region.size) all.items
+        × (spans all.items ≤ region.size)
+        × OnHonestIn paged.old.device region (λ x. all.items ≡ listed_in x)) }
 {
     let mut all = Vec::new(alloc);
     let mut walk = Walk::new(region);

@@ -32,8 +32,7 @@ fn push_changes<'a, F: Flash, G: Flash>(
     ensures after { HasReadFor ((left.old - left.new + sum_sizes (region_area finding.now)) / 24
         + 2 * length (region_area finding.now)) (sum_sizes (region_area finding.now) / 12
         + 2 * length (region_area finding.now)) images.old images.new result }
-    ensures changes { OnBoth images.old (λ x y. OnOk result
-        ((rest : List NumberedArea)
+    ensures changes { OnBoth images.old (λ x y. OnOk result ((rest : List NumberedArea)
         → changes.new.items ++ region_changes_in left.new x y olds.now.all.now rest
         ≡ changes.old.items ++ region_changes_in left.old x y olds.now.all.now
         (region_area finding.now ++ rest))) }

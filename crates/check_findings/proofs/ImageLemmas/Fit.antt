@@ -1,4 +1,5 @@
 -- Regions without bad findings.
+use Rattle.std.specs.Prelude.{◌-◌, slice_range}
 use Rattle.std.proofs.Common.{◌==◌}
 use Rattle.check_findings.specs.Lists.{only_if}
 use Rattle.std.proofs.Common.{arith, ◌≡◌, ℕ, ◌+◌, Bool, true, false, cond, List, [], ◌∷◌, Some, None, Contains, All, length, refl, sym, ap, ◌∙◌}
@@ -7,7 +8,6 @@ use Rattle.std.proofs.lemmas.Bool.{false≢true, or_parts}
 use Rattle.std.proofs.lemmas.List.Elements.{All-nil, All-cons, All-contains}
 use Rattle.std.proofs.lemmas.List.Folds.{list_any_at}
 use Rattle.flash_format.specs.Head.{head_of, is_free}
-use Rattle.flash_format.specs.Entry.{entry}
 use Rattle.flash_format.specs.Cut.{cut}
 use Rattle.flash_format.specs.Components.{Component, component_at, components, components_from}
 use Rattle.flash_format.specs.declared.digest.Digest.{Digest}
@@ -15,10 +15,15 @@ use Rattle.cbfs_walk.specs.Hashes.{hash_state}
 use Rattle.cbfs_walk.specs.declared.hashes.HashState.TheVariants.{Invalid}
 use Rattle.std.specs.Prelude.{◌≢◌}
 use Rattle.cbfs_walk.specs.CellReadings.{place_after}
-use Rattle.cbfs_walk.specs.Shapes.{has_bad_size, is_absent, refused_or}
+use Rattle.std.specs.Option.{option_map_or}
+use Rattle.flash_format.specs.Entry.{front}
+use Rattle.std.specs.Prelude.{is_some}
+use Rattle.std.specs.Prelude.{not}
+use Rattle.cbfs_walk.specs.Shapes.{has_bad_size}
 use Rattle.cbfs_walk.specs.declared.walk.WalkFault.TheVariants as faults
 use Rattle.std.proofs.lemmas.Grind.{common_steps}
-use Rattle.check_findings.specs.RegionFindings.{all_marked, cell_findings, cells_findings, component_finding, marked, region_findings, shape_findings, tail_bytes, tail_findings, walk_findings}
+use Rattle.check_findings.specs.RegionFindings.{cell_findings, cells_findings, marked, region_findings, shape_findings, tail_findings, walk_findings}
+use Rattle.check_findings.proofs.RegionLemmas.PartNames.{all_marked, component_finding}
 use Rattle.check_findings.specs.declared.region.finding.RegionFinding.{RegionFinding}
 use Rattle.check_findings.specs.declared.region.finding.RegionFinding.TheVariants as findings
 use Rattle.check_findings.proofs.MapLemmas.Sound.{none_of}
@@ -36,7 +41,7 @@ abbrev IsIntact : Component → Type 0
 IsIntact c = (stored : Digest) → hash_state c.attributes c.content ≢ Invalid stored
 
 good_shape : (needs : Bool) (size absent : Bool) (rest : List RegionFinding)
-    → list_any (is_bad_region needs) (refused_or shape_findings (cond size (Some faults.RegionShape) (cond absent (Some faults.NotCbfs) None)) rest) ≡ false
+    → list_any (is_bad_region needs) (option_map_or shape_findings (cond size (Some faults.RegionShape) (cond absent (Some faults.NotCbfs) None)) rest) ≡ false
     → (cond size (Some faults.RegionShape) (cond absent (Some faults.NotCbfs) None) ≡ None) × (list_any (is_bad_region needs) rest ≡ false)
 good_shape needs size absent rest fit = grind (arith, common_steps, fit)
 
@@ -67,14 +72,14 @@ none_bad needs earlier (f ∷ all) fit =
 
 -- a region without bad findings is whole
 pub fit_region : (needs : Bool) (x : List ℕ) → list_any (is_bad_region needs) (region_findings x) ≡ false → IsWhole x
-unfolding region_findings walk_findings tail_findings
+unfolding all_marked region_findings walk_findings tail_findings
 fit_region needs x fit =
-    let all = good_shape needs (has_bad_size (length x)) (is_absent (entry x)) _ (none_bad needs [] _ fit) in
+    let all = good_shape needs (has_bad_size (length x)) (not (is_some (front x))) _ (none_bad needs [] (walk_findings x) fit) in
     let parts = none_of (is_bad_region needs) (cells_findings 0 (cut x).cells) _ all.1 in
     record {
       shaped = all.0;
       undamaged = λ kind is. false≢true (sym (rw is at parts.1));
       intact = λ c stored listed. All-contains IsIntact (components x) c (intact needs 0 (cut x).cells parts.0) listed stored;
-      blank = λ is. let at = place_after 0 (cut x).cells in let fit = rw is at parts.1 in none_filled at (tail_bytes at x) (grind (arith, common_steps, fit));
+      blank = λ is. let at = place_after 0 (cut x).cells in let fit = rw is at parts.1 in none_filled at (slice_range x at (length x - 4)) (grind (arith, common_steps, fit));
       found = λ c listed. unshadowed_found x c all.0 listed (λ there. false≢true (sym fit ∙ bad_among needs _ _ there refl));
     }

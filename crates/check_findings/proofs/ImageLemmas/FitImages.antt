@@ -1,7 +1,8 @@
 -- Images without bad findings.
+use lib.Chars.{codes}
 use Rattle.std.proofs.lemmas.List.Folds.{list_any-append}
 use Rattle.check_findings.specs.declared.image.finding.ImageFinding.TheVariants.{Region}
-use Rattle.std.proofs.Common.{arith, ◌≡◌, ◌∙◌, ℕ, ◌+◌, ◌≤◌, Bool, true, false, ◌||◌, cond, All, Contains, List, [], ◌∷◌, ◌++◌, ◌*◌, drop, length, nat_le, Option, Some, None, Ok, refl, sym, ap, subst}
+use Rattle.std.proofs.Common.{arith, ◌≡◌, ◌∙◌, ℕ, ◌+◌, ◌≤◌, Bool, true, false, ◌||◌, cond, All, Contains, List, [], ◌∷◌, ◌++◌, ◌*◌, length, nat_le, Option, Some, None, Ok, refl, sym, ap, subst}
 use Rattle.std.specs.Prelude.{filter, map}
 use Rattle.std.specs.List.{find, list_any}
 use Rattle.std.specs.Option.{option_map, option_map_or}
@@ -9,20 +10,21 @@ use Rattle.std.proofs.lemmas.Bool.{and_parts, le-ltb, leb-true, or_parts}
 use Rattle.std.proofs.lemmas.List.Elements.{All-nil, All-cons, All-head, All-tail, All-filter, All-weaker, All-contains_itself, filter_passes}
 use Rattle.std.proofs.lemmas.Grind.{common_steps}
 use Rattle.flash_format.specs.declared.flashmap.Area.{Area}
-use Rattle.flash_format.specs.Flashmap.{areas_at, fmap_head_of, is_area, map_of, text_of}
+use Rattle.flash_format.specs.Flashmap.{is_area, text_of}
 use Rattle.flash_map.specs.declared.search.FoundMap.{FoundMap}
-use Rattle.flash_map.specs.Fmap.{found_from, found_in}
-use Rattle.flash_map.specs.Regions.{region_of, region_under}
+use Rattle.flash_map.specs.Fmap.{areas_of, found_from, found_in}
+use Rattle.flash_map.specs.Regions.{region_of}
+use Rattle.flash_map.proofs.MapAreas.{numbered_from}
 use Rattle.check_findings.specs.declared.map.finding.MapFinding.{MapFinding}
 use Rattle.check_findings.specs.declared.map.finding.MapFinding.TheVariants as of_map
 use Rattle.flash_map.specs.declared.areas.NumberedArea.{NumberedArea}
 use Rattle.check_findings.specs.MapFindings.{findings_of, map_findings}
-use Rattle.flash_map.specs.Areas.{area_end, has_name, image_areas, map_areas, numbered_from}
+use Rattle.flash_map.specs.Areas.{area_end, has_name, image_areas, map_areas}
 use Rattle.check_findings.proofs.MapLemmas.Sound.{named, none_of}
 use Rattle.check_findings.specs.declared.image.finding.ImageFinding.{ImageFinding}
 use Rattle.check_findings.specs.declared.image.finding.ImageFinding.TheVariants.{Map, NotChecked}
 use Rattle.check_findings.specs.RegionFindings.{region_findings}
-use Rattle.check_findings.specs.ImageFindings.{areas_findings, has_smaller, bytes_of, expected_names, has_one_of, image_findings, is_wanted, left_after, range_of}
+use Rattle.check_findings.specs.ImageFindings.{areas_findings, has_smaller, bytes_of, has_one_of, image_findings, is_wanted, left_after, range_of}
 use Rattle.check_findings.specs.Laws.{InFitImages, IsFit}
 use Rattle.check_findings.specs.ImageFindings.{region_areas}
 use Rattle.check_findings.specs.Verdicts.{is_bad, is_bad_map, is_bad_region}
@@ -37,15 +39,9 @@ find_area name k (area ∷ areas) = grind (arith, common_steps, find_area name (
 
 reached : (image name : List ℕ) (map : FoundMap) (a : NumberedArea) → found_in image ≡ Some map → find (has_name name) (map_areas image map) ≡ Some a → area_end a.area ≤ length image → region_of image name ≡ Ok (range_of a)
 unfolding region_of
-reached image name map a found is fits = go (map_of image) found
-  where
-    go : (o : Option ℕ) → option_map (λ q. record { at = q; head = fmap_head_of (drop q image) }) o ≡ Some map → region_under image name o ≡ Ok (range_of a)
-    go None e = absurd cc
-    go (Some q) e =
-        let same : map ≡ record { at = q; head = fmap_head_of (drop q image) } = cc in
-        let here = subst (λ (m : FoundMap). find (has_name name) (map_areas image m) ≡ Some a) same is in
-        let area = sym (find_area name 0 (areas_at image q)) ∙ ap (option_map (λ (b : NumberedArea). b.area)) here in
-        rw (area, le-ltb (length image) (area_end a.area) fits) refl
+reached image name map a found is fits =
+    let area = sym (find_area name 0 (areas_of image map)) ∙ ap (option_map (λ (b : NumberedArea). b.area)) is in
+    rw (found, area, le-ltb (length image) (area_end a.area) fits) refl
 
 -- the name of an area inside the image finds the area
 IsReached : List ℕ → NumberedArea → Type 0
@@ -81,7 +77,7 @@ module _ (needs : Bool) (image : List ℕ) (expects : NumberedArea → Bool) whe
       go true is fit later =
           let x = bytes_of image a in
           let good = or_parts (list_any (is_bad_region needs) (region_findings x)) _ fit in
-          All-cons (IsFit image) a (region_areas rest) (record { reached = is; whole = fit_region needs x good.0 }) (later good.1)
+          All-cons (IsFit image) a (region_areas rest) (is, fit_region needs x good.0) (later good.1)
 
 -- ---- the image
 
@@ -92,7 +88,7 @@ maps_bad needs (finding ∷ all) = ap (λ b. is_bad_map finding || b) (maps_bad 
 pub fit_image : InFitImages IsFit
 unfolding image_findings image_areas map_findings IsReached
 fit_image needs image names expected fit =
-    let all = has_one_of (expected_names names expected) in
+    let all = has_one_of (names ++ codes "COREBOOT" ∷ expected) in
     let areas = image_areas image in
     let wanted = is_wanted image all (has_smaller areas) in
     let regions = areas_findings image all (2 * length image) (filter wanted areas) in

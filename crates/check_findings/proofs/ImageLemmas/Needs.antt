@@ -1,4 +1,5 @@
 -- The first content of a name in the findings belongs to the component that a search finds.
+use lib.Chars.{codes}
 use Rattle.std.proofs.Common.{◌≡◌, ℕ, ◌+◌, Bool, true, false, cond, List, [], ◌∷◌, ◌++◌, length, Option, Some, None, Ok, refl, sym, ap, subst, ◌∙◌, append_assoc, append-nil, arith}
 use Rattle.std.specs.Prelude.{map, ◌*◌, nat_le, All}
 use Rattle.std.proofs.lemmas.List.Elements.{All-head, All-tail, All-weaker}
@@ -8,19 +9,23 @@ use Rattle.std.proofs.lemmas.Grind.{common_steps}
 use Rattle.flash_format.specs.Cut.{cut}
 use Rattle.flash_format.specs.Components.{Component, components_from, components}
 use Rattle.cbfs_walk.specs.Search.{component_in, first_named}
-use Rattle.cbfs_walk.specs.Shapes.{shape_fault, refused_or}
+use Rattle.cbfs_walk.specs.Shapes.{shape_fault}
 use Rattle.cbfs_walk.specs.CellReadings.{place_after}
 use Rattle.cbfs_walk.specs.declared.walk.WalkFault.{WalkFault}
 use Rattle.cbfs_walk.specs.declared.walk.WalkFault.TheVariants as walk
-use Rattle.check_findings.specs.RegionFindings.{all_marked, cells_findings, component_content, count_findings, end_findings, marked, nothing, region_findings, shape_findings, walk_findings}
+use Rattle.check_findings.specs.RegionFindings.{cells_findings, component_content, content_named, count_findings, end_findings, first_content, marked, entry_counts, region_findings, shape_findings, walk_findings}
+use Rattle.check_findings.proofs.RegionLemmas.PartNames.{all_marked}
 use Rattle.flash_format.specs.Flashmap.{is_area}
-use Rattle.check_findings.specs.Needs.{Wish, content_named, first_content, is_met, unmet}
+use Rattle.check_findings.specs.Needs.{is_met, unmet}
+use Rattle.check_findings.specs.declared.image.needs.Need.{Need}
 use Rattle.check_findings.specs.declared.image.needs.NeedFinding.TheVariants.{Missing, Elsewhere}
 use Rattle.std.specs.Bool.{then_some}
 use Rattle.std.specs.Option.{option_map_or}
 use Rattle.std.specs.Prelude.{not}
-use Rattle.check_findings.specs.Laws.{IsMet}
-use Rattle.check_findings.specs.ImageFindings.{areas_findings, bytes_of, expected_names, has_one_of, image_findings, left_after, missing_name, wanted_areas}
+use Rattle.std.specs.Prelude.{IsOkAnd, IsSomeAnd}
+use Rattle.std.specs.List.{find}
+use Rattle.flash_map.specs.Areas.{has_name}
+use Rattle.check_findings.specs.ImageFindings.{areas_findings, bytes_of, has_one_of, image_findings, left_after, missing_name, wanted_areas}
 use Rattle.check_findings.specs.ImageFindings.{region_areas}
 use Rattle.check_findings.specs.MapFindings.{map_findings}
 use Rattle.flash_map.specs.Areas.{image_areas}
@@ -33,6 +38,12 @@ use Rattle.check_findings.specs.declared.region.finding.RegionFinding.{RegionFin
 use Rattle.check_findings.specs.declared.region.finding.RegionFinding.TheVariants.{Component as OfComponent}
 use Rattle.check_findings.proofs.RegionLemmas.Parts.{Part, IsIn, cell_part, end_part, of_end}
 use Rattle.check_findings.proofs.ImageLemmas.Regions.{no_map_areas, no_name_areas, regions_of}
+
+-- a search in the first checked area of the name finds the component at the position
+abbrev IsMet : List ℕ → List NumberedArea → Need → Type 0
+IsMet image areas need = IsSomeAnd (find (has_name need.area.now) areas)
+    (λ a. IsOkAnd (component_in (bytes_of image a) need.name.now) (λ found. IsSomeAnd found
+    (λ c. is_met need.place (component_content c) a.area.size ≡ true)))
 
 -- ---- a region
 
@@ -68,7 +79,7 @@ HasContent x name content = (c : Component) × (component_in x name ≡ Ok (Some
 
 -- a content of the name belongs to the component that a search finds
 has_content : (x name : List ℕ) (content : Content) → first_content name (region_findings x) ≡ Some content → HasContent x name content
-unfolding region_findings walk_findings component_in
+unfolding all_marked region_findings walk_findings component_in
 has_content x name content is = go (shape_fault x) refl (sym (of_marks name [] (walk_findings x)) ∙ is)
   where
     cells : List (List ℕ)
@@ -78,57 +89,57 @@ has_content x name content is = go (shape_fault x) refl (sym (of_marks name [] (
     ended = end_findings x (place_after 0 cells) (cut x).end
 
     -- the findings after the entries have no content
-    none : first_content name (ended ++ count_findings (nothing (length x)) 0 cells) ≡ None
+    none : first_content name (ended ++ count_findings (entry_counts (length x) cells)) ≡ None
     none = none_among name ended _ (All-weaker (IsIn end_part) (λ f. content_named name f ≡ None) (λ f. no_content name end_part f (λ e. cc)) ended (of_end x (place_after 0 cells) (cut x).end))
 
     listed : (o : Option Component) → option_map component_content o ≡ Some content → first_named name (components x) ≡ o → shape_fault x ≡ None → HasContent x name content
     listed None e here good = absurd cc
     listed (Some c) e here good = (c, rw (good, here) refl, cc)
 
-    go : (o : Option WalkFault) → shape_fault x ≡ o → first_content name (refused_or shape_findings o (cells_findings 0 cells ++ (ended ++ count_findings (nothing (length x)) 0 cells))) ≡ Some content → HasContent x name content
+    go : (o : Option WalkFault) → shape_fault x ≡ o → first_content name (option_map_or shape_findings o (cells_findings 0 cells ++ (ended ++ count_findings (entry_counts (length x) cells)))) ≡ Some content → HasContent x name content
     go (Some walk.RegionShape) bad e = absurd cc
     go (Some other) bad e = absurd cc
     go None good e = listed (first_named name (components x)) (sym (of_cells name 0 cells _ none) ∙ e) refl good
 
 -- ---- an image
 
-module _ (image : List ℕ) (wish : Wish) where
-  met_here : (a : NumberedArea) (areas : List NumberedArea) (o : Option Content) → is_area wish.area a.area ≡ true
-      → first_content wish.name (region_findings (bytes_of image a)) ≡ o → option_map_or (λ c. then_some (not (is_met wish.place c a.area.size)) (Elsewhere c.start)) o (Some Missing) ≡ None → IsMet image (a ∷ areas) wish
+module _ (image : List ℕ) (need : Need) where
+  met_here : (a : NumberedArea) (areas : List NumberedArea) (o : Option Content) → is_area need.area.now a.area ≡ true
+      → first_content need.name.now (region_findings (bytes_of image a)) ≡ o → option_map_or (λ c. then_some (not (is_met need.place c a.area.size)) (Elsewhere c.start)) o (Some Missing) ≡ None → IsMet image (a ∷ areas) need
   met_here a areas None named first none = absurd cc
   met_here a areas (Some content) named first none =
-      let has = has_content (bytes_of image a) wish.name content first in
+      let has = has_content (bytes_of image a) need.name.now content first in
       rw (named, has.1, has.2) (grind (arith, common_steps, none))
 
   -- the first area with the name meets the need
-  met_in : (expects : NumberedArea → Bool) (last : List ImageFinding) → unmet last wish ≡ Some Missing → (left : ℕ) (areas : List NumberedArea)
-      → unmet (areas_findings image expects left areas ++ last) wish ≡ None → IsMet image (region_areas (areas_findings image expects left areas)) wish
+  met_in : (expects : NumberedArea → Bool) (last : List ImageFinding) → unmet last need ≡ Some Missing → (left : ℕ) (areas : List NumberedArea)
+      → unmet (areas_findings image expects left areas ++ last) need ≡ None → IsMet image (region_areas (areas_findings image expects left areas)) need
   met_in expects last missing left [] none = absurd cc
-  met_in expects last missing left (a ∷ areas) none = go (nat_le a.area.size left) (is_area wish.area a.area) refl none (met_in expects last missing (left_after left a) areas)
+  met_in expects last missing left (a ∷ areas) none = go (nat_le a.area.size left) (is_area need.area.now a.area) refl none (met_in expects last missing (left_after left a) areas)
     where
       rest : List ImageFinding
       rest = areas_findings image expects (left_after left a) areas
 
-      go : (checked named : Bool) → is_area wish.area a.area ≡ named → unmet (cond checked (Region a (region_findings (bytes_of image a))) (NotChecked a (expects a)) ∷ (rest ++ last)) wish ≡ None
-          → (unmet (rest ++ last) wish ≡ None → IsMet image (region_areas rest) wish) → IsMet image (region_areas (cond checked (Region a (region_findings (bytes_of image a))) (NotChecked a (expects a)) ∷ rest)) wish
+      go : (checked named : Bool) → is_area need.area.now a.area ≡ named → unmet (cond checked (Region a (region_findings (bytes_of image a))) (NotChecked a (expects a)) ∷ (rest ++ last)) need ≡ None
+          → (unmet (rest ++ last) need ≡ None → IsMet image (region_areas rest) need) → IsMet image (region_areas (cond checked (Region a (region_findings (bytes_of image a))) (NotChecked a (expects a)) ∷ rest)) need
       go false named is e later = later e
-      go true true is e later = met_here a (region_areas rest) (first_content wish.name (region_findings (bytes_of image a))) is refl (rw is at e)
+      go true true is e later = met_here a (region_areas rest) (first_content need.name.now (region_findings (bytes_of image a))) is refl (rw is at e)
       go true false is e later = rw is (later (rw is at e))
 
 -- findings without a region meet no need
-passed : (l rest : List ImageFinding) (wish : Wish) → region_areas l ≡ [] → unmet (l ++ rest) wish ≡ unmet rest wish
-passed [] rest wish none = refl
-passed (Region a findings ∷ l) rest wish none = absurd cc
-passed (other ∷ l) rest wish none = passed l rest wish none
+passed : (l rest : List ImageFinding) (need : Need) → region_areas l ≡ [] → unmet (l ++ rest) need ≡ unmet rest need
+passed [] rest need none = refl
+passed (Region a findings ∷ l) rest need none = absurd cc
+passed (other ∷ l) rest need none = passed l rest need none
 
-pub needs_met : (image : List ℕ) (names expected : List (List ℕ)) (wish : Wish) → let all = image_findings image names expected in unmet all wish ≡ None → IsMet image (region_areas all) wish
+pub needs_met : (image : List ℕ) (names expected : List (List ℕ)) (need : Need) → let all = image_findings image names expected in unmet all need ≡ None → IsMet image (region_areas all) need
 unfolding image_findings
-needs_met image names expected wish none =
-    let all = has_one_of (expected_names names expected) in
+needs_met image names expected need none =
+    let all = has_one_of (names ++ codes "COREBOOT" ∷ expected) in
     let areas = image_areas image in
     let last = flat_map (missing_name areas) (enumerate_from 0 names) in
     let regions = areas_findings image all (2 * length image) (wanted_areas image all areas) in
     let found = map Map (map_findings image) in
-    subst (λ l. IsMet image l wish) (sym (regions_of (map_findings image) areas names _ regions _ _ refl refl refl))
-    (met_in image wish all last (ap (λ l. unmet l wish) (sym (append-nil last)) ∙ passed last [] wish (no_name_areas areas (enumerate_from 0 names))) (2 * length image) (wanted_areas image all areas)
-    (sym (ap (λ l. unmet l wish) (append_assoc found regions last) ∙ passed found (regions ++ last) wish (no_map_areas (map_findings image))) ∙ none))
+    subst (λ l. IsMet image l need) (sym (regions_of (map_findings image) areas names _ regions _ _ refl refl refl))
+    (met_in image need all last (ap (λ l. unmet l need) (sym (append-nil last)) ∙ passed last [] need (no_name_areas areas (enumerate_from 0 names))) (2 * length image) (wanted_areas image all areas)
+    (sym (ap (λ l. unmet l need) (append_assoc found regions last) ∙ passed found (regions ++ last) need (no_map_areas (map_findings image))) ∙ none))

@@ -1,4 +1,5 @@
 -- The checked areas in order, and all findings.
+use lib.Chars.{codes}
 use Rattle.std.specs.List.{enumerate_from, flat_map}
 use Rattle.std.proofs.Common.{◌≡◌, ℕ, ◌+◌, ◌-◌, ◌*◌, ◌<◌, ◌≤◌, Bool, true, false, cond, All, IsTrue, List, [], ◌∷◌, ◌++◌, length, get_or, drop, take, nat_le, refl, sym, arith, add-one, append_assoc, append-nil, drop-cons, length-append}
 use Rattle.std.specs.Prelude.{filter, map}
@@ -13,7 +14,7 @@ use Rattle.check_findings.specs.MapFindings.{map_findings}
 use Rattle.flash_map.specs.Areas.{area_end, image_areas}
 use Rattle.check_findings.specs.declared.image.finding.ImageFinding.{ImageFinding}
 use Rattle.check_findings.specs.declared.image.finding.ImageFinding.TheVariants.{Map}
-use Rattle.check_findings.specs.ImageFindings.{area_finding, areas_findings, expected_names, has_one_of, image_findings, left_after, missing_name, wanted_areas}
+use Rattle.check_findings.specs.ImageFindings.{area_finding, areas_findings, has_one_of, image_findings, left_after, missing_name, wanted_areas}
 use Rattle.check_findings.specs.ImageFindings.{AreChecked, region_area, region_areas}
 
 pub filtered : (p : NumberedArea → Bool) (xs : List NumberedArea) (i : ℕ) (d : NumberedArea) (before after : List NumberedArea) → i < length xs → before ≡ filter p (take i xs) → after ≡ before ++ cond (p (get_or xs i d)) (get_or xs i d ∷ []) [] → after ≡ filter p (take (i + 1) xs)
@@ -60,6 +61,6 @@ regions_of found areas names first regions second all is pushed last =
     rw (last, flat_map-append region_area second (flat_map (missing_name areas) (enumerate_from 0 names)), no_name_areas areas (enumerate_from 0 names), append-nil (region_areas second), pushed, flat_map-append region_area first regions, is, no_map_areas found) refl
 
 pub found_image : (image : List ℕ) (names expected : List (List ℕ)) (found : List MapFinding) (areas : List NumberedArea) (first regions second all : List ImageFinding) → first ≡ map Map found → second ≡ first ++ regions → all ≡ second ++ flat_map (missing_name areas) (enumerate_from 0 names)
-    → found ≡ map_findings image → areas ≡ image_areas image → regions ≡ areas_findings image (has_one_of (expected_names names expected)) (2 * length image) (wanted_areas image (has_one_of (expected_names names expected)) areas) → all ≡ image_findings image names expected
+    → found ≡ map_findings image → areas ≡ image_areas image → regions ≡ areas_findings image (has_one_of (names ++ codes "COREBOOT" ∷ expected)) (2 * length image) (wanted_areas image (has_one_of (names ++ codes "COREBOOT" ∷ expected)) areas) → all ≡ image_findings image names expected
 unfolding image_findings
 found_image image names expected found areas first regions second all is pushed last from_map from_areas from_wanted = rw (last, pushed, is, from_wanted, from_map, from_areas) refl

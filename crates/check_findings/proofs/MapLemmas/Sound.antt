@@ -1,4 +1,5 @@
 -- A map without other findings is sound.
+use Rattle.std.specs.Prelude.{◌⊎◌}
 use Rattle.std.proofs.Common.{◌≡◌, ℕ, zero, suc, ◌+◌, ◌<◌, ◌≤◌, Bool, true, false, not, nat_lt, nat_eq, All, List, [], ◌∷◌, ◌++◌, drop, length, Option, Some, None, refl, sym, ap, subst, ◌∙◌, arith}
 use Rattle.std.specs.Prelude.{Contains, IsSomeAnd}
 use Rattle.std.specs.List.{find, flat_map, list_any}
@@ -19,8 +20,9 @@ use Rattle.check_findings.specs.Lists.{only_if}
 use Rattle.check_findings.specs.declared.map.finding.MapFinding.{MapFinding}
 use Rattle.check_findings.specs.declared.map.finding.MapFinding.TheVariants as findings
 use Rattle.check_findings.specs.MapFindings.{area_findings, ends_inside, findings_of, holds_map, map_area_findings, map_findings, name_findings, namesake, overlap, overlap_findings}
-use Rattle.flash_map.specs.Areas.{area_end, has_name, map_areas, numbered_from}
-use Rattle.check_findings.specs.Laws.{IsSound, Nest}
+use Rattle.flash_map.specs.Areas.{area_end, has_name, map_areas}
+use Rattle.flash_map.proofs.MapAreas.{numbered_from}
+use Rattle.check_findings.specs.Laws.{IsSound}
 
 -- ---- no findings
 
@@ -80,16 +82,16 @@ named test areas a passes none there =
 
 -- ---- overlaps
 
-nest : (a b : Area) → ends_inside a b ≡ false → ends_inside b a ≡ false → Nest a b
-nest a b one other = grind (arith, common_steps, one, other)
+nest : (a b : Area) → ends_inside a b ≡ false → a.offset < b.offset → (area_end a ≤ b.offset) ⊎ (area_end b ≤ area_end a)
+nest a b one before = grind (arith, common_steps, one, before)
 
-nested : (areas : List NumberedArea) → list_any every (overlap_findings areas) ≡ false → (a b : NumberedArea) → Contains areas a → Contains areas b → Nest a.area b.area
+nested : (areas : List NumberedArea) → list_any every (overlap_findings areas) ≡ false → (a b : NumberedArea) → Contains areas a → Contains areas b → a.area.offset < b.area.offset → (area_end a.area ≤ b.area.offset) ⊎ (area_end b.area ≤ area_end a.area)
 unfolding every
 nested areas none a b there here =
     let each = none_each every (λ (c : NumberedArea). option_to_list (option_map (findings.Overlap c) (find (overlap c) areas))) areas (grind (arith, common_steps, none)) in
     let alone = uncaused (findings.Overlap a) (find (overlap a) areas) (All-contains (λ (c : NumberedArea). list_any every (option_to_list (option_map (findings.Overlap c) (find (overlap c) areas))) ≡ false) areas a each there) in
     let parts = or_parts (ends_inside a.area b.area) (ends_inside b.area a.area) (All-contains (λ (c : NumberedArea). overlap a c ≡ false) areas b (find-none (overlap a) areas alone) here) in
-    nest a.area b.area parts.0 parts.1
+    nest a.area b.area parts.0
 
 -- ---- the whole map
 

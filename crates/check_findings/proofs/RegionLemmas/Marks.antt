@@ -1,14 +1,16 @@
 -- Marks of shadowed components.
-use Rattle.std.proofs.Common.{arith, ◌≡◌, ◌∙◌, ℕ, ◌+◌, ◌≤◌, ◌<◌, get_or, Bool, true, false, not, cond, ◌||◌, List, [], ◌∷◌, ◌++◌, length, drop, refl, sym, ap, subst, append_assoc, append-nil, length-append}
+use Rattle.std.proofs.Common.{arith, ◌≡◌, ◌∙◌, ℕ, ◌+◌, ◌≤◌, ◌<◌, get_or, Bool, true, false, not, cond, List, [], ◌∷◌, ◌++◌, length, drop, refl, sym, ap, subst, append_assoc, append-nil, length-append}
 use Rattle.std.specs.Borrow.{Bor}
 use Rattle.std.proofs.Math.ListN.{set}
-use Rattle.std.specs.List.{fold, list_any}
+use Rattle.std.specs.List.{cons_option, filter_map, fold, list_any, slice_get}
+use Rattle.std.specs.Prelude.{Option, None, is_some}
 use Rattle.std.specs.Str.{bytes_eq}
 use Rattle.std.specs.HashSet.{HashSet, Updates}
 use Rattle.std.specs.Cmp.Lexicographic.{nat_list_eq_equiv}
 use Rattle.std.proofs.lemmas.Grind.{common_steps, fold-append}
 use Rattle.std.proofs.lemmas.List.{drop_all}
-use Rattle.check_findings.specs.RegionFindings.{all_marked, is_named, marked}
+use Rattle.check_findings.proofs.RegionLemmas.PartNames.{all_marked}
+use Rattle.check_findings.specs.RegionFindings.{content_named, first_content, marked}
 use Rattle.check_findings.specs.declared.region.finding.Content.{Content}
 use Rattle.check_findings.specs.declared.region.finding.RegionFinding.{RegionFinding}
 use Rattle.check_findings.specs.declared.region.finding.RegionFinding.TheVariants.{Component, NotCbfs}
@@ -41,7 +43,7 @@ marked_beyond xs i over = grind (arith, common_steps)
 pub record Marking (keys : List Key) (all : List RegionFinding) (indices : List ℕ) (i : ℕ) : Type 0 where
   pub earlier : List RegionFinding
   pub done : List RegionFinding
-  pub names : (q : Key) → list_any (λ k. bytes_eq q.now k.now) keys ≡ list_any (is_named q.now) earlier
+  pub names : (q : Key) → list_any (λ k. bytes_eq q.now k.now) keys ≡ is_some (first_content q.now earlier)
   pub count : length done ≡ i
   pub so_far : fold mark_at all indices ≡ done ++ drop i all
   pub rest : all_marked [] all ≡ done ++ all_marked earlier (drop i all)
@@ -66,7 +68,7 @@ module _ (keys now : List Key) (all : List RegionFinding) (indices : List ℕ) (
       ∙ subst (λ k. mark_at (m.done ++ f ∷ drop (i + 1) all) k ≡ m.done ++ shadowed f ∷ drop (i + 1) all) m.count (mark_there m.done f _)
   with_mark false = ap (fold mark_at all) (append-nil indices) ∙ m.so_far ∙ ap (λ (l : List RegionFinding). m.done ++ l) here
 
-  more : (b : Bool) → marked m.earlier f ≡ cond b (shadowed f) f → ((q : Key) → list_any (λ k. bytes_eq q.now k.now) now ≡ list_any (is_named q.now) (f ∷ m.earlier)) → Marking now all (indices ++ cond b (i ∷ []) []) (i + 1)
+  more : (b : Bool) → marked m.earlier f ≡ cond b (shadowed f) f → ((q : Key) → list_any (λ k. bytes_eq q.now k.now) now ≡ is_some (first_content q.now (f ∷ m.earlier))) → Marking now all (indices ++ cond b (i ∷ []) []) (i + 1)
   unfolding all_marked
   more b is names =
       let end = marked m.earlier f ∷ [] in
@@ -80,7 +82,7 @@ module _ (keys now : List Key) (all : List RegionFinding) (indices : List ℕ) (
       }
 
 -- another finding than a component
-plain : (f : RegionFinding) → ((at : ℕ) (name : List ℕ) (is : Bool) (content : Content) → f ≡ Component at name is content → ⊥) → ((q : List ℕ) → is_named q f ≡ false) × ((earlier : List RegionFinding) → marked earlier f ≡ f)
+plain : (f : RegionFinding) → ((at : ℕ) (name : List ℕ) (is : Bool) (content : Content) → f ≡ Component at name is content → ⊥) → ((q : List ℕ) → content_named q f ≡ None) × ((earlier : List RegionFinding) → marked earlier f ≡ f)
 plain (Component at name is content) not = absurd (not at name is content refl)
 plain other not = (λ q. refl, λ earlier. refl)
 
@@ -88,7 +90,7 @@ pub marking_other : (keys : List Key) (all : List RegionFinding) (indices : List
     → ((at : ℕ) (name : List ℕ) (is : Bool) (content : Content) → f ≡ Component at name is content → ⊥) → Marking keys all indices (i + 1)
 marking_other keys all indices i f m here not =
     let same = plain f not in
-    subst (λ l. Marking keys all l (i + 1)) (append-nil indices) (more keys keys all indices i f m here false (same.1 m.earlier) (λ q. m.names q ∙ sym (ap (λ b. b || list_any (is_named q.now) m.earlier) (same.0 q.now))))
+    subst (λ l. Marking keys all l (i + 1)) (append-nil indices) (more keys keys all indices i f m here false (same.1 m.earlier) (λ q. m.names q ∙ sym (ap (λ (o : Option Content). is_some (slice_get (cons_option o (filter_map (content_named q.now) m.earlier)) 0)) (same.0 q.now))))
 
 -- a component, whose name was inserted
 pub marking_component : {S : Type 0} (old now : HashSet Key S) (all : List RegionFinding) (indices : List ℕ) (i at : ℕ) (x : Key) (is new : Bool) (content : Content) → Marking old.keys all indices i → drop i all ≡ Component at x.now is content ∷ drop (i + 1) all

@@ -3,12 +3,13 @@ use Rattle.std.specs.Option.{option_map_or}
 use Rattle.check_findings.specs.Lists.{only_if}
 use Rattle.std.proofs.Common.{◌≡◌, ℕ, ◌+◌, ◌-◌, ◌/◌, ◌==◌, Bool, true, false, cond, List, [], ◌∷◌, length, Option, Some, None, All, refl}
 use Rattle.std.specs.Prelude.{map}
-use Rattle.std.specs.List.{position_from}
 use Rattle.std.proofs.lemmas.List.Elements.{All-nil, All-cons, All-append}
 use Rattle.flash_format.specs.Cut.{End, complete, tail, damage}
 use Rattle.flash_format.specs.Head.{head_of, is_free}
 use Rattle.flash_format.specs.Components.{component_at}
-use Rattle.check_findings.specs.RegionFindings.{cell_findings, cells_findings, component_finding, end_findings, entries_findings, is_filled, tail_bytes, tail_findings}
+use Rattle.check_findings.specs.RegionFindings.{cell_findings, cells_findings, end_findings, first_filled, tail_findings}
+use Rattle.check_findings.proofs.RegionLemmas.PartNames.{entries_findings}
+use Rattle.check_findings.proofs.RegionLemmas.PartNames.{component_finding}
 use Rattle.check_findings.specs.declared.region.finding.RegionFinding.{RegionFinding}
 use Rattle.check_findings.specs.declared.region.finding.RegionFinding.TheVariants.{Component, Deleted, Complete, Tail, TailFilled, TailEntry, Damaged, Components, FreeBytes, LargestContent}
 
@@ -48,7 +49,7 @@ of_entries x (at ∷ places) = All-cons (IsIn end_part) (TailEntry at) _ refl (o
 
 of_tail : (at : ℕ) (x : List ℕ) → All (IsIn end_part) (tail_findings at x)
 unfolding tail_findings
-of_tail at x = All-cons (IsIn end_part) (Tail at) _ refl (go (position_from is_filled at (tail_bytes at x)))
+of_tail at x = All-cons (IsIn end_part) (Tail at) _ refl (go (first_filled at x))
   where
     go : (o : Option ℕ) → All (IsIn end_part) (option_map_or (λ place. TailFilled place ∷ entries_findings ((length x - at) / 64) at x) o [])
     go None = All-nil (IsIn end_part)

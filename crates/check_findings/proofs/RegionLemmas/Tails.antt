@@ -11,8 +11,11 @@ use Rattle.flash_device.specs.Pages.{Pages, HasRead}
 use Rattle.flash_device.specs.Regions.{LiesOn, Range, bytes_in}
 use Rattle.flash_device.proofs.DeviceLemmas.{honest_still, length-bytes_in}
 use Rattle.cbfs_walk.proofs.Parts.{length-range, part-in, range_is, range-after}
+use Rattle.flash_format.specs.Entry.{front}
+use Rattle.std.specs.Prelude.{is_some}
 use Rattle.check_findings.specs.Laws.{IsBlankTail}
-use Rattle.check_findings.specs.RegionFindings.{begins_with_entry, entries_findings, is_filled, tail_bytes, tail_findings}
+use Rattle.check_findings.specs.RegionFindings.{is_filled, tail_findings}
+use Rattle.check_findings.proofs.RegionLemmas.PartNames.{entries_findings}
 use Rattle.check_findings.specs.Lists.{only_if}
 use Rattle.check_findings.specs.declared.region.finding.RegionFinding.TheVariants.{Tail, TailEntry}
 use Rattle.std.proofs.lemmas.List.FromFn.{filter_of_map_range_with_len_more}
@@ -44,11 +47,11 @@ piece_is x at k end n inside is =
 -- of a piece that was read, or else of the later bytes
 pub filled_next : {F : Type 0} (r : Range) (at k n m : ℕ) (old now : Pages F) (bytes : List ℕ) → LiesOn r old.device → HasRead m 0 old now
     → at + k < r.size - 4 → n ≡ min (r.size - at - 4 - k) 4096 → (IsTrue now.device.honest → bytes ≡ slice_range now.device.content (r.start + (at + k)) (r.start + (at + k) + n)) → IsTrue old.device.honest
-    → (let l = tail_bytes at (bytes_in r old.device.content) in position_from is_filled (at + k) (drop k l) ≡ option_or (position_from is_filled (at + k) bytes) (position_from is_filled (at + (k + 4096)) (drop (k + 4096) l)))
+    → (let x = bytes_in r old.device.content in let l = slice_range x at (length x - 4) in position_from is_filled (at + k) (drop k l) ≡ option_or (position_from is_filled (at + k) bytes) (position_from is_filled (at + (k + 4096)) (drop (k + 4096) l)))
 filled_next r at k n m old now bytes lies read inside is shown h =
     let image = old.device.content in
     let x = bytes_in r image in
-    let l = drop k (tail_bytes at x) in
+    let l = drop k (slice_range x at (length x - 4)) in
     let len : length x ≡ r.size = length-bytes_in r image lies.inside in
     let piece : take 4096 l ≡ bytes = sym (
     shown (honest_still read.device.calls.same_honesty h) ∙ ap (λ i. slice_range i (r.start + (at + k)) (r.start + (at + k) + n)) (read.device.unchanged h)
@@ -56,12 +59,12 @@ filled_next r at k n m old now bytes lies read inside is shown h =
     ) in
     filled_parts (at + k) 4096 l
     ∙ ap (λ b. option_or (position_from is_filled (at + k) b) (position_from is_filled (at + k + 4096) (drop 4096 l))) piece
-    ∙ ap (λ b. option_or (position_from is_filled (at + k) bytes) (position_from is_filled (at + k + 4096) b)) (drop-drop 4096 k (tail_bytes at x))
-    ∙ ap (λ p. option_or (position_from is_filled (at + k) bytes) (position_from is_filled p (drop (k + 4096) (tail_bytes at x)))) {x = at + k + 4096} {y = at + (k + 4096)} (omega arith)
+    ∙ ap (λ b. option_or (position_from is_filled (at + k) bytes) (position_from is_filled (at + k + 4096) b)) (drop-drop 4096 k (slice_range x at (length x - 4)))
+    ∙ ap (λ p. option_or (position_from is_filled (at + k) bytes) (position_from is_filled p (drop (k + 4096) (slice_range x at (length x - 4))))) {x = at + k + 4096} {y = at + (k + 4096)} (omega arith)
 
 -- no byte follows the last piece
-pub none_left : (x : List ℕ) (at k : ℕ) → length x - at - 4 ≤ k → position_from is_filled (at + k) (drop k (tail_bytes at x)) ≡ None
-none_left x at k over = ap (position_from is_filled (at + k)) (drop_all k (tail_bytes at x) (omega (arith, length-range x at (length x - 4) (omega arith))))
+pub none_left : (x : List ℕ) (at k : ℕ) → length x - at - 4 ≤ k → position_from is_filled (at + k) (drop k (slice_range x at (length x - 4))) ≡ None
+none_left x at k over = ap (position_from is_filled (at + k)) (drop_all k (slice_range x at (length x - 4)) (omega (arith, length-range x at (length x - 4) (omega arith))))
 
 -- ---- entries
 
@@ -69,10 +72,10 @@ if_entry : (at : ℕ) (b : Bool) → map TailEntry (cond b (at ∷ []) []) ≡ o
 if_entry at true = refl
 if_entry at false = refl
 
-pub entries_last : (n at : ℕ) (x : List ℕ) → entries_findings (n + 1) at x ≡ entries_findings n at x ++ only_if (begins_with_entry (drop (at + 64 * n) x)) (TailEntry (at + 64 * n))
+pub entries_last : (n at : ℕ) (x : List ℕ) → entries_findings (n + 1) at x ≡ entries_findings n at x ++ only_if (is_some (front (drop (at + 64 * n) x))) (TailEntry (at + 64 * n))
 entries_last n at x =
-    ap (map TailEntry) (filter_of_map_range_with_len_more (λ p. begins_with_entry (drop p x)) (λ i. at + 64 * i) 0 n n (omega arith))
-    ∙ map-append TailEntry _ _ ∙ ap (λ l. entries_findings n at x ++ l) (if_entry (at + 64 * n) (begins_with_entry (drop (at + 64 * n) x)))
+    ap (map TailEntry) (filter_of_map_range_with_len_more (λ p. is_some (front (drop p x))) (λ i. at + 64 * i) 0 n n (omega arith))
+    ∙ map-append TailEntry _ _ ∙ ap (λ l. entries_findings n at x ++ l) (if_entry (at + 64 * n) (is_some (front (drop (at + 64 * n) x))))
 
 -- ---- a blank tail
 
@@ -87,6 +90,6 @@ all_blank at (b ∷ xs) blank = rw (All-head (λ b. is_filled b ≡ false) b xs 
 pub blank_tails : (at : ℕ) (x : List ℕ) → IsBlankTail at x ↔ (tail_findings at x ≡ Tail at ∷ [])
 unfolding tail_findings
 blank_tails at x = (
-  λ blank. rw (all_blank at (tail_bytes at x) blank) refl,
-  λ only. none_filled at (tail_bytes at x) (grind (arith, common_steps, only)),
+  λ blank. rw (all_blank at (slice_range x at (length x - 4)) blank) refl,
+  λ only. none_filled at (slice_range x at (length x - 4)) (grind (arith, common_steps, only)),
 )

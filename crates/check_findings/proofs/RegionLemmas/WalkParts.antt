@@ -6,7 +6,7 @@ use Rattle.flash_device.proofs.WindowLemmas.{HasRead-none, HasRead-then, HasRead
 use Rattle.flash_device.specs.Regions.{Range, LiesOn, bytes_in}
 use Rattle.flash_device.proofs.DeviceLemmas.{honest_still, length-bytes_in}
 use Rattle.cbfs_walk.specs.Cells.{IsCellIn}
-use Rattle.cbfs_walk.specs.Walks.{StepResult, Walking, walk_of, answer_at}
+use Rattle.cbfs_walk.specs.Walks.{StepResult, Walking, answer_at}
 use Rattle.cbfs_walk.specs.declared.cell.Cell.{Cell}
 use Rattle.cbfs_walk.specs.declared.walk.WalkFault.TheVariants as walk
 
@@ -18,7 +18,7 @@ pub record Reached {F : Type 0} (r : Range) (w : Walking) (n : ℕ) (old now : P
   pub aligned : w.at % 64 ≡ 0
   pub read : HasRead n 0 old now
 
-pub reached_start : {F : Type 0} (r : Range) (n : ℕ) (old : Pages F) → Reached r (walk_of r) n old old
+pub reached_start : {F : Type 0} (r : Range) (n : ℕ) (old : Pages F) → Reached r (record { region = r; at = 0; steps = 0; ended = None }) n old old
 reached_start r n old =
     record { region = refl; going = refl; inside = omega arith; aligned = refl; read = HasRead-within 0 n 0 old old (omega arith) (HasRead-none old) }
 

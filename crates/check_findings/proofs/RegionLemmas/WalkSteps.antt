@@ -9,8 +9,9 @@ use Rattle.flash_device.proofs.WindowLemmas.{HasRead-then}
 use Rattle.flash_device.specs.Regions.{Range, LiesOn, bytes_in}
 use Rattle.flash_device.proofs.DeviceLemmas.{honest_still, length-bytes_in}
 use Rattle.cbfs_walk.specs.Cells.{IsCellIn, cell_in}
-use Rattle.cbfs_walk.specs.Walks.{reads_over, StepResult, Walking, walk_of, answer_at, StandsIn}
-use Rattle.cbfs_walk.specs.Shapes.{shape_fault, refused_or}
+use Rattle.cbfs_walk.specs.Walks.{reads_over, StepResult, Walking, answer_at, StandsIn}
+use Rattle.std.specs.Option.{option_map_or}
+use Rattle.cbfs_walk.specs.Shapes.{shape_fault}
 use Rattle.cbfs_walk.specs.CellReadings.{reading_of, ReadsCells, by_answer, place_after}
 use Rattle.cbfs_walk.specs.declared.cell.Cell.{Cell}
 use Rattle.cbfs_walk.specs.declared.walk.Step.TheVariants as steps
@@ -19,12 +20,12 @@ use Rattle.cbfs_walk.specs.declared.walk.WalkFault.TheVariants as walk
 use Rattle.cbfs_walk.proofs.Shapes.{shaped_step}
 use Rattle.flash_format.specs.Head.{head_of, is_free}
 use Rattle.flash_format.specs.declared.head.DamageKind.{DamageKind}
-use Rattle.check_findings.specs.RegionFindings.{cell_findings, cells_findings, count_after, count_findings, end_findings, nothing, tail_findings, shape_findings, walk_findings}
+use Rattle.check_findings.specs.RegionFindings.{cell_findings, cells_findings, count_after, count_findings, end_findings, entry_counts, tail_findings, shape_findings, walk_findings}
 use Rattle.check_findings.specs.declared.region.finding.RegionFinding.{RegionFinding}
 use Rattle.check_findings.specs.declared.region.finding.RegionFinding.TheVariants as findings
 use Rattle.check_findings.specs.declared.region.count.Count.{Count}
 use Rattle.check_findings.proofs.RegionLemmas.WalkParts.{Answers, Reached, reached_answer, reached_more, reached_start}
-use Rattle.check_findings.proofs.RegionLemmas.CountLemmas.{count_more}
+use Rattle.std.specs.List.{fold}
 
 -- ---- by the cut
 
@@ -32,23 +33,23 @@ use Rattle.check_findings.proofs.RegionLemmas.CountLemmas.{count_more}
 last : List ℕ → End → ℕ → List RegionFinding → List RegionFinding
 last bytes end at counts = end_findings bytes at end ++ counts
 
+count_all : Count → List (List ℕ) → Count
+count_all = fold (λ (n : Count) x. count_after n (is_free (head_of x)) (length x))
+
 -- the findings of a region after these counts, if the cut continues at an offset
 cut_findings : List ℕ → ℕ → Cut → Count → List RegionFinding
-cut_findings bytes at k n = cells_findings at k.cells ++ last bytes k.end (place_after at k.cells) (count_findings n at k.cells)
+cut_findings bytes at k n = cells_findings at k.cells ++ last bytes k.end (place_after at k.cells) (count_findings (count_all n k.cells))
 
 cell_step : List ℕ → Cell → (Count → List RegionFinding) → Count → List RegionFinding
-cell_step x given later n = cell_findings given.at x ++ later (count_after n (is_free given.head) given.at given.span)
+cell_step x given later n = cell_findings given.at x ++ later (count_after n (is_free given.head) given.span)
 
 fault_findings : WalkFault → Count → List RegionFinding
 fault_findings fault n = shape_findings fault
 
 cell_more : (bytes : List ℕ) (at : ℕ) (x : List ℕ) (k : Cut) (n : Count)
-    → cut_findings bytes at (after (x ∷ []) k) n ≡ cell_findings at x ++ cut_findings bytes (at + length x) k (count_after n (is_free (head_of x)) at (length x))
-unfolding cut_findings cells_findings last
-cell_more bytes at x k n =
-    let later = cells_findings (at + length x) k.cells in
-    ap (λ (m : List RegionFinding). (cell_findings at x ++ later) ++ last bytes k.end (place_after (at + length x) k.cells) m) (count_more n at x k.cells)
-    ∙ append_assoc (cell_findings at x) later _
+    → cut_findings bytes at (after (x ∷ []) k) n ≡ cell_findings at x ++ cut_findings bytes (at + length x) k (count_after n (is_free (head_of x)) (length x))
+unfolding cut_findings cells_findings last count_all
+cell_more bytes at x k n = append_assoc (cell_findings at x) (cells_findings (at + length x) k.cells) _
 
 law : (bytes : List ℕ) → ReadsCells (cut_findings bytes) cell_step
 unfolding cell_step
@@ -58,11 +59,11 @@ law bytes at x k = fun_ext (λ (n : Count). cell_more bytes at x k n)
 pub findings_from : List ℕ → Count → ℕ → List RegionFinding
 findings_from x n at = reading_of fault_findings (cut_findings x) x at n
 
-whole_findings : (x : List ℕ) → walk_findings x ≡ findings_from x (nothing (length x)) 0
-unfolding findings_from fault_findings walk_findings reading_of cut_findings last
+whole_findings : (x : List ℕ) → walk_findings x ≡ findings_from x (entry_counts (length x) []) 0
+unfolding findings_from fault_findings walk_findings reading_of cut_findings last count_all
 whole_findings x = go (shape_fault x)
   where
-    go : (o : Option WalkFault) → refused_or shape_findings o (cells_findings 0 (cut x).cells ++ last x (cut x).end (place_after 0 (cut x).cells) (count_findings (nothing (length x)) 0 (cut x).cells)) ≡ refused_or fault_findings o (cut_findings x 0 (cut x)) (nothing (length x))
+    go : (o : Option WalkFault) → option_map_or shape_findings o (cells_findings 0 (cut x).cells ++ last x (cut x).end (place_after 0 (cut x).cells) (count_findings (entry_counts (length x) (cut x).cells))) ≡ option_map_or fault_findings o (cut_findings x 0 (cut x)) (entry_counts (length x) [])
     go None = refl
     go (Some fault) = refl
 
@@ -84,22 +85,24 @@ tail_place x place at is = grind (arith, common_steps, is)
 -- the check has reached the walk's offset
 pub record Checking {F : Type 0} (r : Range) (w : Walking) (found : List RegionFinding) (count : Count) (old now : Pages F) : Type 0 where
   pub reached : Reached r w (w.at / 16) old now
-  pub before : (count.components ≤ w.at) × (count.free ≤ w.at)
+  pub place : count.at ≡ w.at
+  pub before : (count.components ≤ count.at) × (count.free ≤ count.at)
   pub so_far : OnHonestIn old.device r (λ x. walk_findings x ≡ found ++ findings_from x count w.at)
 
-pub checking_start : {F : Type 0} (r : Range) (old : Pages F) → LiesOn r old.device → Checking r (walk_of r) [] (nothing r.size) old old
+pub checking_start : {F : Type 0} (r : Range) (old : Pages F) → LiesOn r old.device → Checking r (record { region = r; at = 0; steps = 0; ended = None }) [] (entry_counts r.size []) old old
 checking_start r old lies = record {
   reached = reached_start r (0 / 16) old;
+  place = refl;
   before = (omega arith, omega arith);
   so_far = λ h.
       let x = bytes_in r old.device.content in
-      whole_findings x ∙ ap (λ n. findings_from x (nothing n) 0) (length-bytes_in r old.device.content lies.inside);
+      whole_findings x ∙ ap (λ n. findings_from x (entry_counts n []) 0) (length-bytes_in r old.device.content lies.inside);
 }
 
-counted : (free : Bool) (n : Count) (at place len : ℕ) → (n.components ≤ at) × (n.free ≤ at) → place ≡ at → 64 ≤ len
-    → ((count_after n free place len).components ≤ at + len) × ((count_after n free place len).free ≤ at + len)
-counted true n at place len had is some = (omega (arith, had.0), omega (arith, had.1))
-counted false n at place len had is some = (omega (arith, had.0, some), omega (arith, had.1))
+counted : (free : Bool) (n : Count) (at len : ℕ) → n.at ≡ at → (n.components ≤ n.at) × (n.free ≤ n.at) → 64 ≤ len
+    → (let m = count_after n free len in (m.at ≡ at + len) × ((m.components ≤ m.at) × (m.free ≤ m.at)))
+counted true n at len is had some = (omega (arith, is), (omega (arith, had.0), omega (arith, had.1)))
+counted false n at len is had some = (omega (arith, is), (omega (arith, had.0, some), omega (arith, had.1)))
 
 module _ {F : Type 0} (r : Range) (w : Walking) (found : List RegionFinding) (count : Count) (old now : Pages F) (lies : LiesOn r old.device) (i : Checking r w found count old now) where
   abbrev x : List ℕ
@@ -116,13 +119,14 @@ module _ {F : Type 0} (r : Range) (w : Walking) (found : List RegionFinding) (co
       → HasRead n 0 now mid → n ≡ reads_over c.span → HasRead m 0 mid new → m ≡ 3 + c.span / 1920
       → Answers w now (Ok (steps.Cell c))
       → v ≡ record w { at = w.at + c.span; steps = w.steps + 1 }
-      → more ≡ count_after count (is_free c.head) c.at c.span
+      → more ≡ count_after count (is_free c.head) c.span
       → OnHonestIn mid.device r (λ y. StandsIn y c → next ≡ found ++ cell_findings c.at (cell_in y c))
       → Checking r v next more old new
   unfolding findings_by cell_step findings_from
   checking_more c v next more mid new n m given reads few over fewer answer moved is_more gains = rw moved (record {
     reached = reached_more i.reached c (n + m) ((w.at + c.span) / 16) new given (HasRead-then n m 0 now mid new reads over) (omega (arith, few, fewer, given.0.positive, given.0.whole, i.reached.aligned));
-    before = rw is_more (counted (is_free c.head) count w.at c.at c.span i.before given.1 given.0.positive);
+    place = rw is_more (counted (is_free c.head) count w.at c.span i.place i.before given.0.positive).0;
+    before = rw is_more (counted (is_free c.head) count w.at c.span i.place i.before given.0.positive).1;
     so_far = λ h.
         let k = honest_still i.reached.read.device.calls.same_honesty h in
         let same : mid.device.content ≡ old.device.content = reads.device.unchanged k ∙ i.reached.read.device.unchanged h in
@@ -130,7 +134,7 @@ module _ {F : Type 0} (r : Range) (w : Walking) (found : List RegionFinding) (co
         let stands : StandsIn x c = ap (λ p. answer_at x p) given.1 ∙ sym known.0 in
         let cells = cell_findings c.at (cell_in x c) in
         let gained = (rw same at (gains (honest_still reads.device.calls.same_honesty k))) stands in
-        known.1 ∙ sym (append_assoc found cells _) ∙ ap (λ p. (found ++ cells) ++ findings_from x (count_after count (is_free c.head) c.at c.span) (p + c.span)) given.1 ∙ rw (gained, is_more) refl;
+        known.1 ∙ sym (append_assoc found cells _) ∙ ap (λ p. (found ++ cells) ++ findings_from x (count_after count (is_free c.head) c.span) (p + c.span)) given.1 ∙ rw (gained, is_more) refl;
   })
 
   -- ---- the walk ended
@@ -141,33 +145,31 @@ module _ {F : Type 0} (r : Range) (w : Walking) (found : List RegionFinding) (co
       is_all ∙ sym ((answered a answer other h).1 ∙ ap (λ (l : List RegionFinding). found ++ l) is)
 
   -- the last findings and the counts
-  with_counts : (more next all : List RegionFinding) (end : ℕ) → next ≡ found ++ more → all ≡ next ++ count_findings count end [] → all ≡ found ++ (more ++ count_findings count end [])
-  with_counts more next all end pushed is_all = is_all ∙ ap (λ (l : List RegionFinding). l ++ count_findings count end []) pushed ∙ append_assoc found more (count_findings count end [])
+  with_counts : (more next all : List RegionFinding) → next ≡ found ++ more → all ≡ next ++ count_findings count → all ≡ found ++ (more ++ count_findings count)
+  with_counts more next all pushed is_all = is_all ∙ ap (λ (l : List RegionFinding). l ++ count_findings count) pushed ∙ append_assoc found more (count_findings count)
 
-  pub checking_end : (end : ℕ) (next all : List RegionFinding) → Answers w now (Ok steps.End) → end ≡ r.size → next ≡ found ++ findings.Complete ∷ [] → all ≡ next ++ count_findings count end []
+  pub checking_end : (next all : List RegionFinding) → Answers w now (Ok steps.End) → next ≡ found ++ findings.Complete ∷ [] → all ≡ next ++ count_findings count
       → IsTrue old.device.honest → all ≡ walk_findings x
-  unfolding findings_by cut_findings cells_findings last
-  checking_end end next all answer place pushed is_all =
-      let same : end ≡ length x = place ∙ sym (length-bytes_in r old.device.content lies.inside) in
-      stopped (Ok steps.End) (findings.Complete ∷ count_findings count end []) all answer (λ e. cc) (with_counts (findings.Complete ∷ []) next all end pushed is_all)
-      (ap (λ p. findings.Complete ∷ count_findings count p []) (sym same))
+  unfolding findings_by cut_findings cells_findings last count_all
+  checking_end next all answer pushed is_all =
+      stopped (Ok steps.End) (findings.Complete ∷ count_findings count) all answer (λ e. cc) (with_counts (findings.Complete ∷ []) next all pushed is_all) refl
 
-  pub checking_tail : (at here n : ℕ) (mid : Pages F) (next all : List RegionFinding) → Answers w now (Ok (steps.Tail at)) → here ≡ w.at → HasRead n 0 now mid
-      → OnHonestIn mid.device r (λ y. next ≡ found ++ tail_findings here y) → all ≡ next ++ count_findings count here [] → IsTrue old.device.honest → all ≡ walk_findings x
-  unfolding findings_by cut_findings cells_findings last
-  checking_tail at here n mid next all answer place reads pushed is_all h =
+  pub checking_tail : (at n : ℕ) (mid : Pages F) (next all : List RegionFinding) → Answers w now (Ok (steps.Tail at)) → HasRead n 0 now mid
+      → OnHonestIn mid.device r (λ y. next ≡ found ++ tail_findings count.at y) → all ≡ next ++ count_findings count → IsTrue old.device.honest → all ≡ walk_findings x
+  unfolding findings_by cut_findings cells_findings last count_all
+  checking_tail at n mid next all answer reads pushed is_all h =
       let k = honest_still i.reached.read.device.calls.same_honesty h in
       let content : mid.device.content ≡ old.device.content = reads.device.unchanged k ∙ i.reached.read.device.unchanged h in
-      let same : at ≡ here = tail_place x w.at at (answered (Ok (steps.Tail at)) answer (λ e. cc) h).0 ∙ sym place in
-      stopped (Ok (steps.Tail at)) (tail_findings here x ++ count_findings count here []) all answer (λ e. cc)
-      (with_counts (tail_findings here x) next all here (rw content at (pushed (honest_still reads.device.calls.same_honesty k))) is_all)
-      (ap (λ p. tail_findings p x ++ count_findings count p []) same) h
+      let same : at ≡ count.at = tail_place x w.at at (answered (Ok (steps.Tail at)) answer (λ e. cc) h).0 ∙ sym i.place in
+      stopped (Ok (steps.Tail at)) (tail_findings count.at x ++ count_findings count) all answer (λ e. cc)
+      (with_counts (tail_findings count.at x) next all (rw content at (pushed (honest_still reads.device.calls.same_honesty k))) is_all)
+      (ap (λ p. tail_findings p x ++ count_findings count) same) h
 
-  pub checking_damage : (at : ℕ) (kind : DamageKind) (next all : List RegionFinding) → Answers w now (Err (walk.Damaged at kind)) → next ≡ found ++ findings.Damaged at kind ∷ [] → all ≡ next ++ count_findings count at []
+  pub checking_damage : (at : ℕ) (kind : DamageKind) (next all : List RegionFinding) → Answers w now (Err (walk.Damaged at kind)) → next ≡ found ++ findings.Damaged at kind ∷ [] → all ≡ next ++ count_findings count
       → IsTrue old.device.honest → all ≡ walk_findings x
-  unfolding findings_by cut_findings cells_findings last
+  unfolding findings_by cut_findings cells_findings last count_all
   checking_damage at kind next all answer pushed is_all =
-      stopped (Err (walk.Damaged at kind)) (findings.Damaged at kind ∷ count_findings count at []) all answer (λ e. cc) (with_counts (findings.Damaged at kind ∷ []) next all at pushed is_all) refl
+      stopped (Err (walk.Damaged at kind)) (findings.Damaged at kind ∷ count_findings count) all answer (λ e. cc) (with_counts (findings.Damaged at kind ∷ []) next all pushed is_all) refl
 
   pub checking_size : (all : List RegionFinding) → Answers w now (Err walk.RegionShape) → all ≡ found ++ findings.BadSize ∷ [] → IsTrue old.device.honest → all ≡ walk_findings x
   unfolding findings_by fault_findings

@@ -1,6 +1,7 @@
 //! Expected names of areas.
-ghost use Rattle.std.specs.Prelude.{◌≡◌, [], ◌++◌, List, ℕ, IfOk, OnOk};
-ghost use Rattle.check_findings.specs.ImageFindings.{expected_names, has_one_of};
+ghost use Rattle.std.specs.Prelude.{◌≡◌, [], ◌++◌, ◌∷◌, List, ℕ, IfOk, OnOk};
+ghost use Rattle.check_findings.specs.ImageFindings.{has_one_of};
+ghost use lib.Chars.{codes};
 ghost use Rattle.std.specs.List.{enumerate_from, flat_map};
 ghost use Rattle.check_findings.specs.ImageFindings.{is_named_in, missing_name, names_in};
 ghost use Rattle.check_findings.specs.Lists.{Gains};
@@ -32,7 +33,7 @@ impl<'a> NameSet<'a> {
         expected: &[&'a [u8]],
     ) -> Result<NameSet<'a>, AllocError>
         ensures { IfOk result (λ set. is_named_in set
-            ≡ has_one_of (expected_names (names_in names.now) (names_in expected.now))) }
+            ≡ has_one_of (names_in names.now ++ codes "COREBOOT" ∷ names_in expected.now)) }
     {
         let mut set = NameSet::new(alloc);
         set.add_all(names)?;

@@ -1,6 +1,7 @@
 //! Required components.
 ghost use Rattle.std.specs.Prelude.{◌≡◌};
 ghost use Rattle.check_findings.specs.Needs as needs;
+ghost use Rattle.check_findings.specs.RegionFindings.{first_content};
 
 use crate::image::finding::ImageFinding;
 use crate::region::{Content, RegionFinding};
@@ -47,7 +48,7 @@ pub enum NeedFinding {
 }
 
 fn first_content(findings: &[RegionFinding], wanted: &[u8]) -> Option<Content>
-    ensures { result ≡ needs.first_content wanted.now findings.now }
+    ensures { result ≡ first_content wanted.now findings.now }
 {
     for finding in findings {
         if let RegionFinding::Component { name, content, .. } = finding {
@@ -62,7 +63,7 @@ fn first_content(findings: &[RegionFinding], wanted: &[u8]) -> Option<Content>
 /// Returns the reason if the findings don't meet the need. The first component with its name, in
 /// the first checked area with its area name, must have the required position.
 pub fn unmet(findings: &[ImageFinding], need: Need<'_>) -> Option<NeedFinding>
-    ensures { result ≡ needs.unmet findings.now (needs.wish_of need.entry) }
+    ensures { result ≡ needs.unmet findings.now need.entry }
 {
     for finding in findings {
         if let ImageFinding::Region { area, findings } = finding {

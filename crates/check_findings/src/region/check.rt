@@ -71,28 +71,25 @@ fn walk_region<F: Flash>(
     ensures findings { OnHonestIn paged.old.device region (λ x. Lists result (walk_findings x)) }
 {
     let mut findings = Vec::new(alloc);
-    let size = region.size();
-    let mut count = Count::new(size);
+    let mut count = Count::new(region.size());
     let mut walk = Walk::new(region);
-    let mut at = 0;
     loop {
         match walk.next(paged) {
             Ok(Step::Cell(cell)) => {
                 push_cell(alloc, paged, region, &cell, &mut findings)?;
                 count = count.with(&cell);
-                at = cell.at + cell.span;
             }
             Ok(Step::Tail(_)) => {
-                push_tail(paged, region, at, &mut findings)?;
-                return Ok(count.counts_at_end(findings, at)?);
+                push_tail(paged, region, count.at, &mut findings)?;
+                return Ok(count.counts_at_end(findings)?);
             }
             Ok(Step::End) => {
                 findings.push(RegionFinding::Complete)?;
-                return Ok(count.counts_at_end(findings, size)?);
+                return Ok(count.counts_at_end(findings)?);
             }
             Err(WalkFault::Damaged { at, kind }) => {
                 findings.push(RegionFinding::Damaged { at, kind })?;
-                return Ok(count.counts_at_end(findings, at)?);
+                return Ok(count.counts_at_end(findings)?);
             }
             Err(WalkFault::RegionShape) => {
                 findings.push(RegionFinding::BadSize)?;

@@ -1,5 +1,5 @@
 //! Sums over entries.
-ghost use Rattle.std.specs.Prelude.{◌≡◌, ◌+◌, ◌^◌, ◌<◌, ◌≤◌, [], ◌++◌, max};
+ghost use Rattle.std.specs.Prelude.{◌≡◌, ◌+◌, ◌^◌, ◌<◌, ◌≤◌, [], ◌++◌};
 ghost use Rattle.flash_format.specs.Head.{is_free};
 ghost use Rattle.flash_device.specs.Pages.{Lists};
 
@@ -15,6 +15,8 @@ const METADATA: u64 = 28;
 pub struct Count {
     /// The region's size in bytes.
     pub size: u64,
+    /// The offset after the last entry.
+    pub at: u64,
     pub components: u64,
     /// The bytes of all empty entries.
     pub free: u64,
@@ -26,10 +28,10 @@ pub struct Count {
 
 impl Count {
     ghost use Rattle.check_findings.specs.RegionFindings.{count_after, count_findings};
-    ghost use Rattle.check_findings.specs.RegionFindings.{nothing, usable};
+    ghost use Rattle.check_findings.specs.RegionFindings.{entry_counts, usable_room};
 
     pub fn new(size: u64) -> Count
-        ensures { result ≡ nothing size }
+        ensures { result ≡ entry_counts size [] }
     {
         Count {
             size,
@@ -39,27 +41,28 @@ impl Count {
 
     /// Returns the most usable bytes of an empty run, if the entries end here: all but the region's
     /// last four.
-    fn room_to(self, end: u64) -> u64
-        ensures { result ≡ max self.room (usable self.size self.start end) }
+    fn usable_room(self) -> u64
+        ensures { result ≡ usable_room self }
     {
-        let kept = if end == self.size { 4 } else { 0 };
-        let usable = end.saturating_sub(self.start).saturating_sub(kept);
+        let kept = if self.at == self.size { 4 } else { 0 };
+        let usable = self.at.saturating_sub(self.start).saturating_sub(kept);
         self.room.max(usable)
     }
 
     pub fn with(self, cell: &Cell) -> Count
-        requires before { (self.components ≤ cell.now.at) × (self.free ≤ cell.now.at) }
-        requires small { cell.now.at + cell.now.span < 2 ^ 32 }
+        requires before { (self.components ≤ self.at) × (self.free ≤ self.at) }
+        requires small { self.at + cell.now.span < 2 ^ 32 }
 
-        ensures { result ≡ count_after self (is_free cell.now.head) cell.now.at cell.now.span }
+        ensures { result ≡ count_after self (is_free cell.now.head) cell.now.span }
     {
         let mut next = self;
+        next.at += cell.span;
         if cell.head.is_free() {
             next.free += cell.span;
         } else {
             next.components += 1;
-            next.room = self.room_to(cell.at);
-            next.start = cell.at + cell.span;
+            next.room = self.usable_room();
+            next.start = next.at;
         }
         next
     }
@@ -68,13 +71,12 @@ impl Count {
     pub fn counts_at_end(
         self,
         mut findings: Vec<RegionFinding>,
-        end: u64,
     ) -> Result<Vec<RegionFinding>, AllocError>
-        ensures { Lists result (findings.items ++ count_findings self end []) }
+        ensures { Lists result (findings.items ++ count_findings self) }
     {
         findings.push(RegionFinding::Components(self.components))?;
         findings.push(RegionFinding::FreeBytes(self.free))?;
-        let largest = self.room_to(end).checked_sub(METADATA);
+        let largest = self.usable_room().checked_sub(METADATA);
         findings.push(RegionFinding::LargestContent(largest))?;
         Ok(findings)
     }

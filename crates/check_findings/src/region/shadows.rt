@@ -1,6 +1,7 @@
 //! Components with the name of an earlier component.
-ghost use Rattle.std.specs.Prelude.{◌≡◌, [], OnOk};
-ghost use Rattle.check_findings.specs.RegionFindings.{all_marked};
+ghost use Rattle.std.specs.Prelude.{◌≡◌, [], ◌∷◌, OnOk};
+ghost use Rattle.std.specs.List.{scan};
+ghost use Rattle.check_findings.specs.RegionFindings.{marked};
 
 use crate::lists::{Pushed, push_if};
 use crate::region::finding::{Name, RegionFinding};
@@ -13,7 +14,8 @@ type Names<'a> = HashSet<&'a Name, RandomState>;
 
 /// Marks each component with the name of an earlier component.
 pub fn mark_shadowed(alloc: Global, keys: RandomState, findings: &mut Vec<RegionFinding>) -> Pushed
-    ensures { OnOk result (findings.new.items ≡ all_marked [] findings.old.items) }
+    ensures { OnOk result (findings.new.items
+        ≡ scan (λ earlier finding. finding ∷ earlier) marked [] findings.old.items) }
 {
     let mut names: Names = HashSet::with_capacity_and_hasher(alloc, findings.len(), keys)?;
     let mut indices = Vec::new(alloc);

@@ -7,10 +7,10 @@ ghost use Rattle.json.specs.Reads.{token_of};
 ghost use Rattle.json.specs.Token.{string};
 ghost use Rattle.json.specs.Tree.{json_tokens};
 ghost use Rattle.check_report.specs.declared.rows.form.Form.TheVariants as forms;
-ghost use Rattle.check_report.specs.Rows.Fields.{name_json, seen_field, seen_line};
-ghost use Rattle.check_report.specs.Rows.Reports.{ending, first_fields, member_tokens};
-ghost use Rattle.check_report.specs.Rows.Reports.{parts, start_tokens};
-ghost use Rattle.check_report.specs.Rows.Effects.{AddsTokens};
+ghost use Rattle.check_report.specs.Fields.{name_json, seen_field, seen_line};
+ghost use Rattle.check_report.specs.Reports.{ending, first_fields, member_tokens};
+ghost use Rattle.check_report.specs.Reports.{parts, start_tokens};
+ghost use Rattle.check_report.specs.Effects.{AddsTokens};
 ghost use Rattle.flash_device.specs.Pages.{Lists};
 
 use crate::request::Files;

@@ -1,9 +1,9 @@
 //! Kinds of rows. A kind is a verdict and a code.
 ghost use Rattle.std.specs.Prelude.{◌≡◌, ◌+◌, ◌++◌, ◌∷◌, [], List, count_by, map, IfOk};
-ghost use Rattle.check_report.specs.Rows.Rows.{SeenRow, counts_of, is_like, kinds_of, row_of};
-ghost use Rattle.check_report.specs.Rows.Rows.{seen_kind, seen_row};
-ghost use Rattle.check_report.specs.Rows.Fields.{seen_field};
-ghost use Rattle.check_report.specs.Rows.Reports.{count_fields};
+ghost use Rattle.check_report.specs.Rows.{SeenRow, counts_of, is_like, kinds_of, row_of};
+ghost use Rattle.check_report.specs.Rows.{seen_kind, seen_row};
+ghost use Rattle.check_report.specs.Fields.{seen_field};
+ghost use Rattle.check_report.specs.Reports.{count_fields};
 ghost use Rattle.flash_device.specs.Pages.{Returns};
 
 use crate::rows::field::{Field, Value};

@@ -2,9 +2,9 @@
 ghost use Rattle.std.specs.Prelude.{◌≡◌, ◌∷◌, [], None, false};
 ghost use lib.Chars.{codes};
 ghost use Rattle.json.specs.Token.{begin_array, end_array, key};
-ghost use Rattle.check_report.specs.Rows.Fields.{seen_line};
-ghost use Rattle.check_report.specs.Rows.Reports.{ending, first_fields, part, start_tokens};
-ghost use Rattle.check_report.specs.Rows.Effects.{Prints, PrintsLines};
+ghost use Rattle.check_report.specs.Fields.{seen_line};
+ghost use Rattle.check_report.specs.Reports.{ending, first_fields, part, start_tokens};
+ghost use Rattle.check_report.specs.Effects.{Prints, PrintsLines};
 
 use crate::fault::WriteFault;
 use crate::request::Files;

@@ -1,9 +1,9 @@
 //! Rows.
 
 ghost use Rattle.std.specs.Prelude.{◌≡◌, if◌then◌else◌, map};
-ghost use Rattle.check_report.specs.Rows.Rows as rows;
-ghost use Rattle.check_report.specs.Rows.Rows.{row_fields, seen_row, verdict_word};
-ghost use Rattle.check_report.specs.Rows.Fields.{seen_field};
+ghost use Rattle.check_report.specs.Rows as rows;
+ghost use Rattle.check_report.specs.Rows.{row_fields, seen_row, verdict_word};
+ghost use Rattle.check_report.specs.Fields.{seen_field};
 ghost use Rattle.check_report.specs.declared.rows.row.Verdict.TheVariants.{Bad, Remark};
 
 use crate::rows::field::{Field, Value};

@@ -2,8 +2,8 @@
 ghost use Rattle.std.specs.Prelude.{◌≡◌, ◌++◌, OnOk};
 ghost use Rattle.std.specs.Fmt.{decimal};
 ghost use Rattle.flash_format.specs.Texts.{line_feed, printed_name};
-ghost use Rattle.check_report.specs.Rows.Fields.{field_text, line_text, seen_field, seen_line};
-ghost use Rattle.check_report.specs.Rows.Rows.{summary};
+ghost use Rattle.check_report.specs.Fields.{field_text, line_text, seen_field, seen_line};
+ghost use Rattle.check_report.specs.Rows.{summary};
 ghost use Rattle.flash_device.specs.Pages.{Lists};
 
 use crate::rows::field::{Field, Value};
@@ -64,7 +64,7 @@ pub fn line(alloc: Global, head: &str, fields: &[Field<'_>]) -> Result<Vec<u8>, 
 }
 
 /// Returns the line after all rows.
-#[tactic(auto, unfolding(crate::specs::Rows::Rows::summary))]
+#[tactic(auto, unfolding(crate::specs::Rows::summary))]
 pub fn summary(alloc: Global, counts: Counts) -> Result<Vec<u8>, AllocError>
     ensures { Lists result (summary counts ++ line_feed) }
 {

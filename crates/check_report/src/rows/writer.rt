@@ -2,8 +2,8 @@
 ghost use Rattle.std.specs.Prelude.{◌≡◌, ◌∷◌, ◌||◌, [], false, map, if◌then◌else◌};
 ghost use Rattle.std.specs.List.{flat_map};
 ghost use Rattle.check_findings.specs.Lists.{only_if};
-ghost use Rattle.check_report.specs.Rows.Rows.{more_of, row_line, seen_kind, seen_row};
-ghost use Rattle.check_report.specs.Rows.Effects.{Adds, Ends, HasWritten, PrintsLines};
+ghost use Rattle.check_report.specs.Rows.{more_of, row_line, seen_kind, seen_row};
+ghost use Rattle.check_report.specs.Effects.{Adds, Ends, HasWritten, PrintsLines};
 
 use crate::fault::WriteFault;
 use crate::rows::kinds::{Counts, Kind, count_row};

@@ -80,8 +80,8 @@ impl FailOnce {
 }
 
 impl Flash for FailOnce {
-    ghost facts = { λ f.
-        record { content = f.device.content; calls = f.calls; faults = f.faults; honest = true } };
+    ghost facts = { λ f. let content = f.device.content.items in
+        record { content = content; calls = f.calls; faults = f.faults; honest = true } };
 
     fn len(&self) -> u64 {
         self.device.len()

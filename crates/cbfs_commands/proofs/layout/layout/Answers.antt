@@ -1,6 +1,6 @@
 use Rattle.std.proofs.Common.{◌+◌, ◌/◌, arith, length, refl}
-use Rattle.cbfs_commands.specs.Rows.{layout}
-use Rattle.cbfs_commands.specs.Printouts.{shows}
+use Rattle.cbfs_commands.specs.Outcomes.{layout}
+use Rattle.cbfs_commands.specs.Outcomes.{shows}
 use Rattle.cbfs_commands.proofs.Areas.{layout-is, rows_of}
 use Rattle.cbfs_commands.proofs.OutputParts.{so_far-ends, so_far-more, so_far-none, printout-part, printout-put}
 use Rattle.cbfs_commands.proofs.layout.layout.Goals as goal

@@ -1,5 +1,5 @@
 use Rattle.std.proofs.Common.{◌+◌}
-use Rattle.cbfs_commands.specs.Printouts.{shows}
+use Rattle.cbfs_commands.specs.Outcomes.{shows}
 use Rattle.cbfs_commands.proofs.Areas.{rows_left, rows_of}
 use Rattle.cbfs_commands.proofs.OutputParts.{ToldSoFar}
 use Rattle.cbfs_commands.proofs.layout.list_areas.Given as goal

@@ -1,4 +1,4 @@
-use Rattle.std.proofs.Common.{refl, arith, rules}
+use Rattle.std.proofs.Common.{inl, refl, arith, rules}
 use Rattle.std.proofs.lemmas.Result.{err_from_is_err_and}
 use Rattle.flash_device.specs.Regions.{bytes_in}
 use Rattle.flash_device.proofs.DeviceLemmas.{length-bytes_in}
@@ -12,7 +12,7 @@ loop-cell-init g c =
     let r = c.args.region in
     let x = bytes_in r c.args.paged.now.device.content in
     rw c.new-walk.ensures (surveying_start r (λ s at cells. place_by c.args.name.now c.args.wanted r.size s cells) (λ x. placing_in x c.args.name.now c.args.wanted) (IsSurvey c.args.wanted r.size) nothing_passed c.args.paged.now
-    (record { asked = c.requires.wanted; small = omega (arith, c.requires.region.inside, c.requires.region.below); here = refl; order = omega arith; inside = omega arith; start_aligned = refl; end_aligned = refl; place = tt })
+    (record { spot = c.requires.spot; small = omega (arith, c.requires.region.inside, c.requires.region.below); here = refl; row = inl refl; place = tt })
     (place_searched x c.args.name.now c.args.wanted r.size (length-bytes_in r _ c.requires.region.inside)))
 
 pub loop-cell-preserved : goal.loop-cell-preserved

@@ -16,10 +16,10 @@ returns g c =
       after = search rules;
       written = λ honest.
           on_ok_weaker c.fill_in.result
-          (fill_done c.args.region c.args.group _ c.empty_header-header.result c.size.result c.requires.region.inside c.requires.is c.size.ensures c.empty_header-header.ensures _ _ n (c.in_ok-commit_in.ensures.written honest) is_n)
+          (fill_done c.args.region c.args.group _ c.empty_header-header.result c.size.result c.requires.region.inside c.requires.group c.size.ensures c.empty_header-header.ensures _ _ n (c.in_ok-commit_in.ensures.written honest) is_n)
           (c.fill_in.ensures.written (honest_still c.commit_in.ensures.after.calls.same_honesty honest));
       left = λ honest.
-          fill_left c.args.region c.args.group _ c.empty_header-header.result c.size.result c.requires.region.inside c.requires.is c.size.ensures c.empty_header-header.ensures _ _ n (c.in_ok-commit_in.ensures.written honest) is_n
+          fill_left c.args.region c.args.group _ c.empty_header-header.result c.size.result c.requires.region.inside c.requires.group c.size.ensures c.empty_header-header.ensures _ _ n (c.in_ok-commit_in.ensures.written honest) is_n
           (same_region_length c.args.region _ _ _ c.requires.region.inside c.commit_in.ensures.after.calls.same_length c.fill_in.ensures.after.calls.same_length)
           (c.fill_in.ensures.left (honest_still c.commit_in.ensures.after.calls.same_honesty honest));
     }

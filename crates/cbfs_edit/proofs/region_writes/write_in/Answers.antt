@@ -4,7 +4,7 @@ use Rattle.cbfs_edit.proofs.region_writes.write_in.Goals as goal
 
 pub returns-in-Ok : goal.returns-in-Ok
 returns-in-Ok g c =
-    let copied = rw c.new-source.ensures at c.in-Ok.ensures.after in
+    let copied = rw (c.new-source.ensures.0, c.new-source.ensures.1) at c.in-Ok.ensures.after in
     let reach = c.requires.reach.inside in
     record {
       after = record { calls = search rules; outside = copy-outside c.args.region c.args.at (c.start.result + c.args.at) _ _ _ _ (omega arith) reach _ copied };
@@ -14,7 +14,7 @@ returns-in-Ok g c =
 
 pub returns : goal.returns
 returns g c =
-    let copied = rw c.new-source.ensures at c.in-Err.ensures.after in
+    let copied = rw (c.new-source.ensures.0, c.new-source.ensures.1) at c.in-Err.ensures.after in
     let reach = c.requires.reach.inside in
     let told = device-told c.in-Err.field-0 (omega (arith, copied.source_calls.faults)) in
     record {

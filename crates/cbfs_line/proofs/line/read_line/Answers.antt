@@ -12,7 +12,7 @@ returns-in_default-clause-wordless c = search rules depth 1
 
 pub returns-in-Ok-try_get_matches_from-clause-line : goal.returns-in-Ok-try_get_matches_from-clause-line
 returns-in-Ok-try_get_matches_from-clause-line c =
-    let shape = c.in-Ok.ensures.shape.shape in
+    let shape = c.in-Ok.ensures.shape in
     let image : List ℕ = c.in-Some.image.now.now in
     let texts = λ (l : List (Bor (List ℕ))). map (λ w. w.now) l in
     let met = (c.in-Ok-try_get_matches_from.ensures.matches (ap (λ (a : App). is_simple a) shape ∙ simple_shape)).1 in
@@ -34,7 +34,7 @@ pub returns-clause-usage : goal.returns-clause-usage
 returns-clause-usage c = λ some none.
     let texts = λ (l : List (Bor (List ℕ))). map (λ w. w.now) l in
     let rest : c.in-Some.rest.now ≡ drop 1 c.args.words.now = sym (ap (λ (l : List (Bor (List ℕ))). drop 1 l) c.in-Some.ensures.cases.0) in
-    let shape = c.in-Ok.ensures.shape.shape in
+    let shape = c.in-Ok.ensures.shape in
     let told = c.in-Err.ensures.kinds (ap (λ (a : App). is_simple_and_free a) shape ∙ simple) in
     let same = ap (λ (a : App). fault_of a (texts c.in-Some.rest.now)) shape ∙ ap (λ (l : List (Bor (List ℕ))). fault_of command_line (texts l)) rest in
     absurd (c.in_default-kind.not-OutOfMemory (c.kind.ensures ∙ faultless _ c.in-Err.error told (same ∙ none)))
@@ -43,7 +43,7 @@ pub returns-in-Ok-try_get_matches_from-clause-faultless : goal.returns-in-Ok-try
 returns-in-Ok-try_get_matches_from-clause-faultless c =
     let texts = λ (l : List (Bor (List ℕ))). map (λ w. w.now) l in
     let rest : c.in-Some.rest.now ≡ drop 1 c.args.words.now = sym (ap (λ (l : List (Bor (List ℕ))). drop 1 l) c.in-Some.ensures.cases.0) in
-    let shape = c.in-Ok.ensures.shape.shape in
+    let shape = c.in-Ok.ensures.shape in
     let told = c.in-Ok-try_get_matches_from.ensures.kinds (ap (λ (a : App). is_simple_and_free a) shape ∙ simple) in
     let same = ap (λ (a : App). fault_of a (texts c.in-Some.rest.now)) shape ∙ ap (λ (l : List (Bor (List ℕ))). fault_of command_line (texts l)) rest in
     sym same ∙ told

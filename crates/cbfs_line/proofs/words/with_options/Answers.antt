@@ -1,5 +1,5 @@
 use Rattle.std.proofs.Common.{refl, arith}
-use Rattle.cbfs_line.specs.Table.{with_options}
+use Rattle.cbfs_line.specs.Subcommands.{with_options}
 use Rattle.cbfs_line.proofs.Tables.{ended}
 use Rattle.cbfs_line.proofs.words.with_options.Goals as goal
 

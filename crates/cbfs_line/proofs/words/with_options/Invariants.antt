@@ -1,7 +1,7 @@
 use Rattle.std.proofs.Common.{◌≡◌, false, length}
 use Rattle.clap.specs.Words.{app_of}
 use Rattle.clap.specs.declared.builder.command.Command.TheViews.{out-Command as fields_of}
-use Rattle.cbfs_line.specs.Table.{with_options}
+use Rattle.cbfs_line.specs.Subcommands.{with_options}
 use Rattle.cbfs_line.proofs.words.with_options.Given as goal
 
 abbrev pub invariant-loop-options : goal.invariant-loop-options

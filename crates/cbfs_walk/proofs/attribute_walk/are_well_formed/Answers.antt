@@ -6,8 +6,8 @@ use Rattle.cbfs_walk.proofs.attribute_walk.are_well_formed.Goals as goal
 pub loop-head-init : goal.loop-head-init
 loop-head-init g c = scanning_start c.args.region c.args.from c.args.end _ _ c.requires.order (λ h. refl)
 
-pub listed_at-requires-clause-reach : goal.listed_at-requires-clause-reach
-listed_at-requires-clause-reach g c = record { region = lies_still c.loop-head.invariant c.requires.reach.region; inside = search rules }
+pub listed_at-requires : goal.listed_at-requires
+listed_at-requires g c = record { region = lies_still c.loop-head.invariant c.requires.reach.region; inside = search rules }
 
 pub loop-head-preserved : goal.loop-head-preserved
 loop-head-preserved g c =

@@ -2,18 +2,17 @@ use Rattle.std.proofs.lemmas.Grind.{common_steps}
 use Rattle.std.proofs.Common.{ap, ◌∙◌, ◌+◌, arith, le_refl, Some, None}
 use Rattle.std.proofs.lemmas.Bool.{eq-eqb, ne_eqb}
 use Rattle.std.proofs.lemmas.Result.{err_from_is_err_and}
-use Rattle.cbfs_walk.specs.AttrWalks.{data_at}
 use Rattle.cbfs_walk.proofs.Checks.{content_fits}
 use Rattle.cbfs_walk.proofs.CellNames.{has_field}
 use Rattle.cbfs_walk.proofs.ReadSequences.{Passes-then}
-use Rattle.cbfs_walk.proofs.AttributeScans.{scanning_start, lies_still, asked_more, asked_here, data_with, first_more, first_here, first_none, first_is}
+use Rattle.cbfs_walk.proofs.AttributeScans.{scanning_start, lies_still, asked_more, asked_here, data_at, data_with, first_more, first_here, first_none, first_is}
 use Rattle.cbfs_walk.proofs.attribute_walk.first_attribute.Goals as goal
 
 pub loop-head-init : goal.loop-head-init
 loop-head-init g c = grind (arith, common_steps, has_field, scanning_start)
 
-pub listed_at-requires-clause-reach : goal.listed_at-requires-clause-reach
-listed_at-requires-clause-reach g c = record { region = lies_still c.loop-head.invariant c.requires.region; inside = omega (arith, (content_fits c.args.region.size c.args.cell.now c.requires.cell.checks).in_region, c.from.ensures) }
+pub listed_at-requires : goal.listed_at-requires
+listed_at-requires g c = record { region = lies_still c.loop-head.invariant c.requires.region; inside = omega (arith, (content_fits c.args.region.size c.args.cell.now c.requires.cell.checks).in_region, c.from.ensures) }
 
 pub loop-head-preserved : goal.loop-head-preserved
 loop-head-preserved g c =

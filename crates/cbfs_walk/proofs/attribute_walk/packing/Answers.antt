@@ -11,7 +11,7 @@ use Rattle.cbfs_walk.proofs.attribute_walk.packing.Goals as goal
 pub returns-in-Some-clause-after : goal.returns-in-Some-clause-after
 returns-in-Some-clause-after g c =
     let attribute = rw c.in-Some.is at c.in_ok-at.ensures.attribute in
-    Passes-answers (Passes-then (rw c.in-Some.is at c.in_ok-at.ensures.first.passed) c.value_at.ensures.passed (le_refl _) (omega arith) (le_refl _)) (omega (arith, attribute.attribute.inside, attribute.attribute.head))
+    Passes-answers (Passes-then (rw c.in-Some.is at c.in_ok-at.ensures.first.passed) c.value_at.ensures.passed (le_refl _) (omega arith) (le_refl _)) (omega (arith, attribute.1.inside, attribute.1.head))
 
 pub returns-in-Some-clause-value : goal.returns-in-Some-clause-value
 returns-in-Some-clause-value g c = λ h.

@@ -1,6 +1,6 @@
 use Rattle.std.proofs.Common.{inr}
 use Rattle.std.proofs.lemmas.Result.{err_from_is_err_and}
-use Rattle.cbfs_walk.proofs.SearchSteps.{searching_start, searching_more, found_first, found_answer, last_after, last_answer, searching_err}
+use Rattle.cbfs_walk.proofs.SearchSteps.{searching_start, searching_more, found_first, last_after, last_answer, searching_err}
 use Rattle.cbfs_walk.proofs.search.find.Goals as goal
 
 pub loop-cell-init : goal.loop-cell-init
@@ -13,23 +13,17 @@ loop-cell-preserved g c =
 
 pub returns-then-branch-clause-answer : goal.returns-then-branch-clause-answer
 returns-then-branch-clause-answer g c = λ h.
-    inr (found_answer c.args.region c.args.name.now c.loop-cell.walk _ _ c.requires c.loop-cell.invariant _ c.in-Cell.cell _ c.in_ok-is_component-in-Cell.field-0 c.in-Cell.is
+    inr (found_first c.args.region c.args.name.now c.loop-cell.walk _ _ c.requires c.loop-cell.invariant _ c.in-Cell.cell _ c.in_ok-is_component-in-Cell.field-0 c.in-Cell.is
     c.in_ok-cell.ensures.cell c.in_ok-cell.ensures.after c.in_ok-cell.ensures.answer c.in_ok-is_component-in-Cell.ensures.named c.if-branch.true h)
-
-pub returns-then-branch-clause-first : goal.returns-then-branch-clause-first
-returns-then-branch-clause-first g c = λ h.
-    found_first c.args.region c.args.name.now c.loop-cell.walk _ _ c.requires c.loop-cell.invariant _ c.in-Cell.cell _ c.in_ok-is_component-in-Cell.field-0 c.in-Cell.is
-    c.in_ok-cell.ensures.cell c.in_ok-cell.ensures.after c.in_ok-cell.ensures.answer c.in_ok-is_component-in-Cell.ensures.named c.if-branch.true h
 
 pub returns-in-Tail : goal.returns-in-Tail
 returns-in-Tail g c =
     record {
       after = last_after c.args.region c.args.name.now c.loop-cell.walk _ _ c.requires c.loop-cell.invariant _ c.in-Tail.is _ c.in_ok-cell.ensures.after;
+      found = tt;
       cell = tt;
-      component = tt;
       answer = λ h. inr (last_answer c.args.region c.args.name.now c.loop-cell.walk _ _ c.requires c.loop-cell.invariant _ c.in-Tail.is c.in_ok-cell.ensures.answer h);
       stands = λ h. tt;
-      first = λ h. tt;
     }
 
 pub returns-in_err-cell-clause-answer : goal.returns-in_err-cell-clause-answer

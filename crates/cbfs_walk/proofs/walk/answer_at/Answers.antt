@@ -1,8 +1,11 @@
-use Rattle.std.proofs.Common.{refl, Ok, Err, Some, None, ap, ◌∙◌, ◌-◌, arith, inr, eqb, ◌&&◌, true, false, ◌<◌, ◌≡◌, rules}
+use Rattle.std.proofs.Common.{sym, refl, Ok, Err, Some, None, ap, ◌∙◌, ◌-◌, arith, inr, eqb, ◌<◌, rules}
 use Rattle.std.proofs.lemmas.Grind.{common_steps}
 use Rattle.std.proofs.lemmas.Bool.{and_left, and_right}
 use Rattle.flash_format.specs.Head.{extent_of}
-use Rattle.flash_format.specs.Entry.{absent, damaged}
+use Rattle.std.specs.Prelude.{is_some, not, drop, Option}
+use Rattle.flash_format.specs.declared.head.Head.{Head}
+use Rattle.flash_format.specs.Entry.{absent, damaged, front}
+use Rattle.flash_device.specs.Regions.{bytes_in}
 use Rattle.flash_device.proofs.DeviceLemmas.{honest_still}
 use Rattle.cbfs_walk.specs.Shapes.{has_bad_size}
 use Rattle.cbfs_walk.proofs.Parts.{length-region, length-rest}
@@ -20,22 +23,24 @@ pub returns-then-at-size-clause-answer : goal.returns-then-at-size-clause-answer
 returns-then-at-size-clause-answer g c = grind (arith, common_steps, answer_end, length-region)
 
 pub returns-in-None-clause-answer : goal.returns-in-None-clause-answer
-returns-in-None-clause-answer g c = grind (arith, common_steps, answer_absent, entry_absent, length-region)
+returns-in-None-clause-answer g c = grind (arith, common_steps, answer_absent, length-region)
 
 pub returns-in-None-2-clause-answer : goal.returns-in-None-2-clause-answer
 returns-in-None-2-clause-answer g c = λ h.
     let len = length-region c.args.region c.args.paged.now.device.content c.requires.reach.region.inside in
     let inside : c.args.at < c.args.region.size = grind (arith, common_steps) in
-    let later : (eqb c.args.at 0 && true) ≡ false = and_left (eqb c.args.at 0) true (grind (arith, common_steps)) in
-    inr (answer_entry _ c.args.at _ absent len (c.if-has_bad_size.ensures ∙ ap has_bad_size c.size.ensures) inside (entry_absent _ (rw c.in-None.is at (c.in_ok-front_at.ensures.value h))) later)
+    let none = rw c.in-None.is at (c.in_ok-front_at.ensures.value h) in
+    let later = and_left (eqb c.args.at 0) (not (is_some (front (drop c.args.at (bytes_in c.args.region c.args.paged.now.device.content))))) (grind (arith, common_steps)) in
+    inr (answer_entry _ c.args.at _ absent len (c.if-has_bad_size.ensures ∙ ap has_bad_size c.size.ensures) inside (entry_absent _ none) later)
 
 pub returns-in-Err-clause-answer : goal.returns-in-Err-clause-answer
 returns-in-Err-clause-answer g c = λ h.
     let image = c.args.paged.now.device.content in
     let inside : c.args.at < c.args.region.size = grind (arith, common_steps) in
-    let here = entry_present _ c.in-Some.head _ _ (rw c.in-Some.is at (c.in_ok-front_at.ensures.value h)) (length-rest c.args.region image c.args.at c.requires.reach.region.inside)
+    let head = rw c.in-Some.is at (c.in_ok-front_at.ensures.value h) in
+    let here = entry_present _ c.in-Some.head _ _ head (length-rest c.args.region image c.args.at c.requires.reach.region.inside)
     (c.in-Err.ensures ∙ ap (λ n. extent_of c.in-Some.head (n - c.args.at)) c.size-3.ensures) in
-    inr (answer_entry _ c.args.at _ (damaged c.in-Err.kind) (length-region c.args.region image c.requires.reach.region.inside) (c.if-has_bad_size.ensures ∙ ap has_bad_size c.size.ensures) inside here (and_right _ _ refl))
+    inr (answer_entry _ c.args.at _ (damaged c.in-Err.kind) (length-region c.args.region image c.requires.reach.region.inside) (c.if-has_bad_size.ensures ∙ ap has_bad_size c.size.ensures) inside here (and_right _ _ (ap (λ (o : Option Head). not (is_some o)) (sym head))))
 
 pub damage_in-requires : goal.damage_in-requires
 damage_in-requires g c = record { region = search rules; cell = checked_extent _ _ c.in-Ok.extent (c.in-Ok.ensures ∙ ap (λ n. extent_of c.in-Some.head (n - c.args.at)) c.size-3.ensures) }

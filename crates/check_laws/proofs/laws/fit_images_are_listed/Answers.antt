@@ -2,8 +2,7 @@ use Rattle.std.proofs.lemmas.List.Elements.{All-weaker}
 use Rattle.check_findings.specs.ImageFindings.{image_findings}
 use Rattle.check_findings.specs.Laws.{IsFit}
 use Rattle.check_findings.specs.ImageFindings.{region_areas}
-use Rattle.check_laws.specs.Laws.{IsListed}
-use Rattle.check_laws.proofs.AreaOutputs.{listed_area}
+use Rattle.check_laws.proofs.AreaOutputs.{IsListed, listed_area}
 use Rattle.check_laws.proofs.laws.fit_images_are_listed.Goals as goal
 
 pub returns : goal.returns

@@ -2,8 +2,7 @@ use Rattle.std.proofs.Common.{◌≡◌, ◌+◌, ◌++◌, length, map}
 use Rattle.std.specs.Prelude.{filter_map, find, is_none}
 use Rattle.std.specs.Option.{option_copied, option_map_or}
 use Rattle.check_findings.specs.Needs.{wish_of}
-use Rattle.check_line.specs.CheckWords.{parts_of}
-use Rattle.check_line.specs.Needs.{need_in}
+use Rattle.check_line.specs.CheckWords.{need_in, parts_of}
 use Rattle.check_line.proofs.line.needs_given.Given as goal
 
 abbrev pub invariant-loop-rest : goal.invariant-loop-rest

@@ -1,5 +1,5 @@
 use Rattle.std.proofs.Common.{◌∙◌, ap}
-use Rattle.check_report.specs.Rows.Rows.{with_count, with_number}
+use Rattle.check_report.specs.Rows.{with_count, with_number}
 use Rattle.check_report.proofs.SoundRows.{adds_after}
 use Rattle.check_report.proofs.changes.add_image_changes.Goals as goal
 

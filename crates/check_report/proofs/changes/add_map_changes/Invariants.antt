@@ -1,5 +1,5 @@
 use Rattle.std.proofs.Common.{Ok, map, take}
-use Rattle.check_report.specs.Rows.Effects.{Adds}
+use Rattle.check_report.specs.Effects.{Adds}
 use Rattle.check_report.specs.ChangeRows.{map_change_row}
 use Rattle.check_report.proofs.changes.add_map_changes.Given as goal
 

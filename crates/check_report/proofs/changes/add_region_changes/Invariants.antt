@@ -1,6 +1,6 @@
 use Rattle.std.proofs.Common.{Ok, map, take}
 use Rattle.std.specs.List.{flat_map}
-use Rattle.check_report.specs.Rows.Effects.{Adds}
+use Rattle.check_report.specs.Effects.{Adds}
 use Rattle.check_report.specs.ChangeRows.{region_change_rows}
 use Rattle.check_report.proofs.changes.add_region_changes.Given as goal
 

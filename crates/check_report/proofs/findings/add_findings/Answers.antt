@@ -1,6 +1,6 @@
 use Rattle.std.proofs.Common.{ap, rules, ◌∙◌}
 use Rattle.check_report.specs.FindingRows.{rows_of}
-use Rattle.check_report.specs.Rows.Rows.{of_area}
+use Rattle.check_report.specs.Rows.{of_area}
 use Rattle.check_report.proofs.SoundRows.{adds_then}
 use Rattle.check_report.proofs.findings.add_findings.Goals.{in-Map+in_ok-add-in-Map, in-Region+in_ok-add_region-in-Region, in-NotChecked+in_ok-add-in-NotChecked, in-NoArea+in_ok-add-in-NoArea}
 use Rattle.check_report.proofs.findings.add_findings.Goals as goal

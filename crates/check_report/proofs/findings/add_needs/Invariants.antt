@@ -1,5 +1,5 @@
 use Rattle.std.proofs.Common.{Ok, take}
-use Rattle.check_report.specs.Rows.Effects.{Adds}
+use Rattle.check_report.specs.Effects.{Adds}
 use Rattle.check_report.specs.FindingRows.{need_rows}
 use Rattle.check_report.proofs.findings.add_needs.Given as goal
 

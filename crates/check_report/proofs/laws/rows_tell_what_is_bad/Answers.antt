@@ -20,10 +20,10 @@ use Rattle.check_findings.specs.declared.image.finding.ImageFinding.{ImageFindin
 use Rattle.check_findings.specs.declared.image.finding.ImageFinding.TheVariants.{Map, Region, NotChecked}
 use Rattle.check_findings.specs.Verdicts.{is_bad, is_bad_hash, is_bad_map, is_bad_region}
 use Rattle.check_findings.specs.Lists.{only_if}
-use Rattle.check_report.specs.Rows.Rows.{SeenRow, at_component, in_area}
+use Rattle.check_report.specs.Rows.{SeenRow, at_component, in_area}
 use Rattle.check_report.specs.FindingRows.{component_rows, has_hash_row, hash_row, map_row, plain_row, rows_of}
 use Rattle.check_report.specs.declared.rows.row.Verdict.TheVariants.{Bad}
-use Rattle.check_report.specs.Rows.Rows.{area_name, has_verdict}
+use Rattle.check_report.specs.Rows.{area_name, has_verdict}
 use Rattle.check_report.proofs.HiddenRows.{bad_after}
 use Rattle.check_report.proofs.laws.rows_tell_what_is_bad.Goals as goal
 

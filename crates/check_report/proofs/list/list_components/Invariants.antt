@@ -1,7 +1,7 @@
 use Rattle.std.proofs.Common.{Ok, take}
 use Rattle.std.specs.List.{flat_map}
 use Rattle.check_report.specs.Reports.{components_in}
-use Rattle.check_report.specs.Rows.Effects.{PrintsLines}
+use Rattle.check_report.specs.Effects.{PrintsLines}
 use Rattle.check_report.proofs.list.list_components.Given as goal
 
 abbrev pub invariant-loop-finding : goal.invariant-loop-finding

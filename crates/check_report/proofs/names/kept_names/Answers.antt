@@ -2,7 +2,7 @@ use Rattle.std.proofs.Common.{rules, tests, ◌%◌, nat_le}
 use Rattle.std.specs.Prelude.{◌&&◌}
 use Rattle.std.proofs.lemmas.Iterator.{YieldsList-from_map_by, YieldsList-from_slice}
 use Rattle.std.proofs.lemmas.Iterator.Consumers.{YieldsList-at, YieldsList-from_chain, YieldsList-from_filter, map_from_collect}
-use Rattle.check_report.specs.Rows.Rows.{area_name}
+use Rattle.check_report.specs.Rows.{area_name}
 use Rattle.check_report.proofs.names.kept_names.Goals as goal
 
 pub returns : goal.returns

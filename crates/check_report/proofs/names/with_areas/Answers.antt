@@ -1,7 +1,7 @@
 use Rattle.std.proofs.Common.{rules}
 use Rattle.std.proofs.lemmas.Iterator.{YieldsList-from_map_by, YieldsList-from_slice}
 use Rattle.std.proofs.lemmas.Iterator.Consumers.{YieldsList-at, YieldsList-from_chain, map_from_collect}
-use Rattle.check_report.specs.Rows.Rows.{area_name}
+use Rattle.check_report.specs.Rows.{area_name}
 use Rattle.check_report.proofs.names.with_areas.Goals as goal
 
 pub returns : goal.returns

@@ -1,7 +1,7 @@
 use Rattle.std.proofs.Common.{◌≡◌, ◌∙◌, ap, rules}
 use Rattle.std.specs.Prelude.{is_none}
 use Rattle.flash_format.specs.TypeNames.{name_of_type}
-use Rattle.check_report.specs.Rows.Rows.{at_component, with_number}
+use Rattle.check_report.specs.Rows.{at_component, with_number}
 use Rattle.check_report.proofs.SoundRows.{adds_after}
 use Rattle.check_report.proofs.region.add_component.Goals as goal
 

@@ -1,7 +1,7 @@
 use Rattle.std.proofs.Common.{◌≤◌, ◌+◌, ◌∙◌, IsTrue, length, replicate, take, ap, arith, rules}
 use Rattle.std.proofs.lemmas.List.{length-replicate, length-take, take_all}
 use Rattle.flash_device.specs.Device.{overwritten}
-use Rattle.flash_device.proofs.BytesLemmas.{written-more, written-outside, written-torn, written-part}
+use Rattle.flash_device.proofs.BytesLemmas.{written-more, written-part}
 use Rattle.flash_device.proofs.CopyLemmas.{Calls-piece, copies-part, OnErr-from}
 use Rattle.flash_device.proofs.DeviceLemmas.{honest_still}
 use Rattle.flash_device.proofs.paged.write_copies.Goals as goal
@@ -34,9 +34,7 @@ returns-in_err-write_at g c =
     let torn = λ (h : IsTrue (g.F.Flash.facts c.args.device.now).honest). c.write_at.ensures.after.torn (honest_still had.calls.same_honesty h) in
     let part = λ (h : IsTrue (g.F.Flash.facts c.args.device.now).honest).
     OnErr-from c.from_residual.result (written-part _ _ _ c.args.at c.loop-done.done k bytes (omega (arith, short, size)) within (had.filled h) (torn h)) in
-    let outside = λ (h : IsTrue (g.F.Flash.facts c.args.device.now).honest).
-    rw (length-replicate c.args.n c.args.byte) at (written-torn _ _ _ c.args.at c.loop-done.done k bytes within (omega (arith, c.requires.inside)) (had.filled h) (torn h)) in
-    search (rules, part, outside)
+    search (rules, part)
 
 pub returns : goal.returns
 returns g c =
@@ -44,6 +42,4 @@ returns g c =
     let bytes = replicate c.args.n c.args.byte in
     let all : length bytes ≤ c.loop-done.done = omega (arith, length-replicate c.args.n c.args.byte, c.loop-done-test.false) in
     let filled = λ (h : IsTrue (g.F.Flash.facts c.args.device.now).honest). had.filled h ∙ ap (overwritten _ c.args.at) (take_all c.loop-done.done bytes all) in
-    let outside = λ (h : IsTrue (g.F.Flash.facts c.args.device.now).honest).
-    rw (length-replicate c.args.n c.args.byte) at (written-outside _ _ c.args.at c.loop-done.done bytes (omega (arith, c.requires.inside)) (had.filled h)) in
-    search (rules, filled, outside)
+    search (rules, filled)

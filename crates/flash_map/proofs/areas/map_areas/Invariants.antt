@@ -1,7 +1,7 @@
 use Rattle.std.proofs.Common.{◌≡◌, ◌+◌, drop, length}
 use Rattle.flash_format.specs.Flashmap.{areas_from}
 use Rattle.flash_device.specs.Pages.{HasRead, OnHonest}
-use Rattle.flash_map.specs.Areas.{numbered_from}
+use Rattle.flash_map.proofs.MapAreas.{numbered_from}
 use Rattle.flash_map.proofs.areas.map_areas.Given as goal
 
 abbrev pub invariant-loop-number : goal.invariant-loop-number

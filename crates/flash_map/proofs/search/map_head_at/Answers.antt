@@ -9,4 +9,4 @@ returns-then-len-lt-HEAD_LENGTH-clause-head g c = λ h. map_head-short _ (grind 
 pub returns-clause-head : goal.returns-clause-head
 returns-clause-head g c = λ h.
     let inside : c.args.place + 56 ≤ c.args.len = grind (arith, common_steps) in
-    head_read _ _ (c.args.len - c.args.place) c.args.place _ c.head_in.ensures.head (c.in_ok-read_small.ensures.read h) (omega (arith, inside, c.requires)) (omega (arith, inside))
+    head_read _ _ (c.args.len - c.args.place) c.args.place _ c.head_in.ensures.head (c.in_ok-read_small.ensures.read h) (omega (arith, inside, c.requires))

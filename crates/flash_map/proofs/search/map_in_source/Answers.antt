@@ -7,4 +7,4 @@ returns-then-len-lt-HEAD_LENGTH-clause-head g c = λ h. map_head-short _ (omega 
 
 pub returns-clause-head : goal.returns-clause-head
 returns-clause-head g c = λ h.
-    head_read _ _ c.len-len.result 0 _ c.head_in.ensures.head (c.in_ok-read_at.ensures.after.read h) (omega (arith, c.len-len.ensures.length)) (omega (arith, c.if-len-lt-HEAD_LENGTH.false))
+    head_read _ _ c.len-len.result 0 _ c.head_in.ensures.head (c.in_ok-read_at.ensures.after.read h) (omega (arith, c.len-len.ensures.length))

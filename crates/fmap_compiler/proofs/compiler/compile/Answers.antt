@@ -1,7 +1,7 @@
 use Rattle.std.proofs.Common.{◌≡◌}
 use Rattle.std.proofs.lemmas.Result.{IfOk-weaker}
 use Rattle.fmd_lang.specs.Table.{table_bytes}
-use Rattle.fmd_lang.specs.Tree.{view}
+use Rattle.fmd_lang.specs.Grammar.{view}
 use Rattle.fmap_compiler.specs.Outcome.{Compiles}
 use Rattle.fmd_lang.proofs.FaultlessTables.{few_areas}
 use Rattle.fmap_compiler.proofs.Compilations.{Refuses-encoded}

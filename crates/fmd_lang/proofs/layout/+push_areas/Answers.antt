@@ -2,7 +2,7 @@ use Rattle.std.proofs.Common.{drop, ◌∙◌, ap, arith, length, rules}
 use Rattle.std.proofs.lemmas.Bool.Decides.{nat_tests}
 use Rattle.std.proofs.lemmas.Result.{err_from_is_err_and}
 use Rattle.fmd_lang.specs.Table.{areas_of}
-use Rattle.fmd_lang.specs.Tree.{views}
+use Rattle.fmd_lang.specs.Grammar.{views}
 use Rattle.fmd_lang.specs.declared.fault.FmdFault.{FmdFault}
 use Rattle.std.proofs.lemmas.List.{drop_all}
 use Rattle.fmd_lang.proofs.LayoutLemmas.{area-is, count-from, none-pushed, part-next, part-pushed, place-inside, row-refused}

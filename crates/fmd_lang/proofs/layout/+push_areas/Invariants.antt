@@ -1,4 +1,5 @@
-use Rattle.fmd_lang.specs.Tree.{section_count, view}
+use Rattle.fmd_lang.specs.Grammar.{view}
+use Rattle.fmd_lang.proofs.LayoutLemmas.{section_count}
 use Rattle.fmd_lang.specs.declared.section.Section.{out-Section}
 use Rattle.fmd_lang.proofs.LayoutLemmas.{IsPushed}
 use Rattle.fmd_lang.proofs.layout.+push_areas.Given as goal

@@ -1,7 +1,7 @@
 use Rattle.std.proofs.Common.{◌≡◌, ℕ, List, [], take, drop, map}
 use Rattle.std.specs.List.{list_any}
 use Rattle.std.specs.Str.{bytes_eq}
-use Rattle.fmd_lang.specs.LayoutFaults.{duplicate}
+use Rattle.fmd_lang.specs.Table.{duplicate}
 use Rattle.fmd_lang.proofs.NameLemmas.{has}
 use Rattle.fmd_lang.proofs.names.first_duplicate.Given as goal
 

@@ -1,12 +1,12 @@
 use Rattle.std.proofs.lemmas.Bool.Decides.{nat_tests}
-use Rattle.std.proofs.Common.{◌≡◌, suc, ◌∷◌, [], refl, rules, arith, inr, add-one, ◌++◌}
+use Rattle.std.proofs.Common.{◌≡◌, suc, ◌∷◌, [], refl, rules, arith, inr, ◌∙◌, add-one, ◌++◌}
+use Rattle.std.proofs.lemmas.Result.{err_from_is_err_and}
 use Rattle.fmd_lang.specs.Faults.{past}
 use Rattle.fmd_lang.specs.ParserResults.{word_of, piece_end}
-use Rattle.fmd_lang.specs.Grammar.{AreSections, Until}
-use Rattle.fmd_lang.specs.Tree.{Tree, view, views}
+use Rattle.fmd_lang.specs.Grammar.{AreSections, Tree, view, views}
 use Rattle.fmd_lang.specs.declared.section.Section.TheFolds.{fold-roll-Section}
 use Rattle.fmd_lang.specs.declared.word.Kind.TheVariants.{CloseBrace, Name, OpenBrace}
-use Rattle.fmd_lang.proofs.FormLemmas.{IsBody, section-opens, sections-snoc}
+use Rattle.fmd_lang.proofs.FormLemmas.{IsBody, Until, section-opens, sections-snoc}
 use Rattle.fmd_lang.proofs.StepLemmas.{parses-after, reads-as, reads-then, token-mark, token-takes}
 use Rattle.fmd_lang.proofs.parser.+section.Goals as goal
 
@@ -38,3 +38,9 @@ sections-loop-parts-preserved t c =
     let one = reads-as (section-opens w (view c.in_ok-part-in-Name.part)) (reads-then word.reads part) in
     let parts : c.push.new.self.items ≡ c.loop-parts.parts.items ++ c.in_ok-part-in-Name.part ∷ [] = search rules in
     rw parts (reads-as (sections-snoc c.loop-parts.parts.items c.in_ok-part-in-Name.part) (reads-then c.loop-parts.invariant one))
+
+pub sections-returns-in_err-token : goal.sections-returns-in_err-token
+sections-returns-in_err-token t c =
+    let p = err_from_is_err_and c.from_residual.result c.from_residual.ensures.1 in
+    let refused = c.in_err-token.ensures.refused (past 4) in
+    rw (p.1, p.2) (inr (c.loop-parts.invariant.same ∙ rw add-one at refused))

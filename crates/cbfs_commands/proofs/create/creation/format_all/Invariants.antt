@@ -2,7 +2,7 @@ use Rattle.std.proofs.Common.{◌≡◌, ◌-◌, ◌+◌, ◌*◌, ◌/◌, ◌
 use Rattle.std.specs.Prelude.{fold}
 use Rattle.flash_device.specs.Device.{Calls}
 use Rattle.flash_device.specs.Laws.{with_edit}
-use Rattle.cbfs_edit.specs.Formats.{formatted}
+use Rattle.cbfs_edit.specs.Changes.{formatted}
 use Rattle.cbfs_commands.specs.Creations.{IsPlace}
 use Rattle.cbfs_commands.proofs.create.creation.format_all.Given as goal
 

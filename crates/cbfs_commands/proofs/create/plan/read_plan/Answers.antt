@@ -1,16 +1,22 @@
-use Rattle.std.proofs.Common.{IsErrOf, arith, inl, inr, rules}
+use Rattle.std.proofs.Common.{arith, length, rules, sym, take}
 use Rattle.std.proofs.lemmas.Grind.{common_steps}
 use Rattle.cbfs_commands.specs.Creations.{plan_for}
-use Rattle.cbfs_commands.specs.declared.refusal.Refusal.TheVariants as refusals
-use Rattle.cbfs_commands.proofs.OwnResults.{faultless_plan}
-use Rattle.cbfs_commands.proofs.PlanLaws.{fitting_plan}
+use Rattle.cbfs_commands.proofs.CreatedRegions.{laid}
+use Rattle.cbfs_commands.proofs.OwnResults.{faultless_places}
+use Rattle.cbfs_commands.proofs.PlanLaws.{are_places}
 use Rattle.cbfs_commands.proofs.create.plan.read_plan.Goals as goal
 
-pub returns-clause-plan : goal.returns-clause-plan
+pub returns-in_err-regions-clause-plan : goal.returns-in_err-regions-clause-plan
 unfolding plan_for
-returns-clause-plan g c =
-    let none : IsErrOf _ refusals.Source → ⊥ = λ blamed. faultless_plan _ _ _ _ _ c.plan_of.ensures (inr (inr blamed)) in
-    record { calls = search (rules, none); no_other = λ blamed. faultless_plan _ _ _ _ _ c.plan_of.ensures (elim blamed [ inl device ↦ inl device | inr output ↦ inr (inl output) ]); answer = grind (arith, common_steps) }
+returns-in_err-regions-clause-plan g c =
+    let faultless = faultless_places c.args.image_len (take (length c.args.names.now) c.in_ok-found.found.regions) _ _ c.region_places.ensures in
+    grind (arith, common_steps, faultless)
 
-pub returns-clause-fits : goal.returns-clause-fits
-returns-clause-fits g c = fitting_plan _ _ _ _ _ _ c.in_ok-head.ensures.fits c.plan_of.ensures
+pub returns-clause-laid : goal.returns-clause-laid
+returns-clause-laid g c = laid _ _ _ (record {
+  in_source = search rules;
+  room = search rules;
+  map = search rules;
+  regions = are_places c.args.image_len (take (length c.args.names.now) c.in_ok-found.found.regions) _ (sym c.in_ok-regions.ensures);
+  none = grind (arith, common_steps);
+})

@@ -1,6 +1,7 @@
 use Rattle.std.proofs.Common.{◌≡◌, ◌+◌, ◌-◌, ◌*◌, ◌/◌, ◌≤◌, ◌++◌, length, drop}
 use Rattle.check_changes.specs.Areas.{area_changes_in}
-use Rattle.check_changes.specs.Images.{HasReadBoth, OnBoth, lengths}
+use Rattle.check_changes.specs.Images.{OnBoth, lengths}
+use Rattle.check_changes.proofs.ImageLemmas.{HasReadBoth}
 use Rattle.check_changes.proofs.areas.areas.push_changes.Given as goal
 
 abbrev pub invariant-loop-pair : goal.invariant-loop-pair

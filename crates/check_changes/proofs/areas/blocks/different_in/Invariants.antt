@@ -1,7 +1,8 @@
 use Rattle.std.proofs.Common.{◌≡◌, ◌≤◌}
 use Rattle.check_changes.specs.Areas.{is_difference, is_own_difference}
-use Rattle.check_changes.specs.Blocks.{count_below}
-use Rattle.check_changes.specs.Images.{HasReadBoth, OnBoth}
+use Rattle.check_changes.specs.Areas.{count_below}
+use Rattle.check_changes.specs.Images.{OnBoth}
+use Rattle.check_changes.proofs.ImageLemmas.{HasReadBoth}
 use Rattle.check_changes.proofs.areas.blocks.different_in.Given as goal
 
 abbrev pub invariant-loop-number : goal.invariant-loop-number

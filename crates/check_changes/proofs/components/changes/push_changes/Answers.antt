@@ -1,7 +1,6 @@
 use Rattle.std.proofs.Common.{◌≡◌, ◌++◌, get_or}
 use Rattle.flash_device.specs.Regions.{bytes_in}
 use Rattle.check_changes.specs.Components.{new_changes}
-use Rattle.check_changes.specs.Regions.{lists_of}
 use Rattle.check_changes.proofs.AreaLemmas.ChangeSteps.{flat_map-all, flat_map-more}
 use Rattle.check_changes.proofs.ComponentLemmas.ChangeLemmas.{reads_all, reads_more, spans_part}
 use Rattle.check_changes.proofs.ImageLemmas.{both-handed, both-within, OnBoth-before}
@@ -22,7 +21,7 @@ loop-listed-preserved g c =
     let step = rw c.listed-item.is at c.in_ok-push_changes_of.ensures.after in
     let more = rw c.listed-item.is at c.in_ok-push_changes_of.ensures.changes in
     let is = OnBoth-before (λ x y. c.push_changes_of.new.changes.items ≡ c.loop-listed.changes.items
-    ++ new_changes (bytes_in lists.old.region x) (bytes_in lists.new.region y) (lists_of lists) (get_or lists.new.all.now i item)) had.read more in
+    ++ new_changes (bytes_in lists.old.region x) (bytes_in lists.new.region y) lists.old.all.now lists.new.all.now (get_or lists.new.all.now i item)) had.read more in
     record {
       read = reads_more _ lists.new.all.now lists.new.cells i item c.loop-listed-test.true had.read step;
       changes = λ h k. flat_map-more _ lists.new.all.now i _ _ _ _ c.loop-listed-test.true (is h k) (had.changes h k);

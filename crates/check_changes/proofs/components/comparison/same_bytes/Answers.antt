@@ -23,6 +23,6 @@ loop-number-preserved g c =
 pub returns-clause-same : goal.returns-clause-same
 returns-clause-same g c = λ h k.
     let r = c.args.regions in
-    let old = length-bytes_in r.old _ c.requires.regions.0.inside in
-    let new = length-bytes_in r.new _ c.requires.regions.1.inside in
-    same-all _ _ c.loop-number.number (omega (arith, old, c.requires.same_size)) (omega (arith, new)) (c.loop-number.invariant.same h k)
+    let old = length-bytes_in r.old _ c.requires.0.0.inside in
+    let new = length-bytes_in r.new _ c.requires.0.1.inside in
+    same-all _ _ c.loop-number.number (omega (arith, old, c.requires.1)) (omega (arith, new)) (c.loop-number.invariant.same h k)

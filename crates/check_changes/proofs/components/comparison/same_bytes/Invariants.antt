@@ -1,4 +1,5 @@
-use Rattle.check_changes.specs.Images.{HasReadBoth, OnBothIn}
+use Rattle.check_changes.specs.Images.{OnBothIn}
+use Rattle.check_changes.proofs.ImageLemmas.{HasReadBoth}
 use Rattle.check_changes.proofs.ComponentLemmas.Reads.{AreSame}
 use Rattle.check_changes.proofs.components.comparison.same_bytes.Given as goal
 

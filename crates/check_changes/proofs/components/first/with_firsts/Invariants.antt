@@ -1,5 +1,5 @@
 use Rattle.std.specs.Prelude.{◌≤◌, length, drop}
-use Rattle.check_changes.specs.Listings.{Notes}
+use Rattle.check_changes.specs.Components.{Notes}
 use Rattle.check_changes.proofs.components.first.with_firsts.Given as goal
 
 abbrev pub invariant-loop-left : goal.invariant-loop-left

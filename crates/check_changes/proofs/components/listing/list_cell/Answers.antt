@@ -2,7 +2,7 @@ use Rattle.std.proofs.Common.{sym, ◌∙◌, arith, refl, [], ◌∷◌}
 use Rattle.std.proofs.lemmas.List.Elements.{All-push}
 use Rattle.std.proofs.lemmas.List.Sums.{sum_by-append}
 use Rattle.check_changes.specs.declared.components.listing.Listed.{Listed}
-use Rattle.check_changes.specs.Listings.{IsListedIn}
+use Rattle.check_changes.specs.Components.{IsListedIn}
 use Rattle.check_changes.proofs.components.listing.list_cell.Goals as goal
 
 pub returns-clause-cells : goal.returns-clause-cells

@@ -1,5 +1,5 @@
 use Rattle.std.proofs.Common.{◌≡◌, drop}
-use Rattle.check_findings.specs.Needs.{first_content}
+use Rattle.check_findings.specs.RegionFindings.{first_content}
 use Rattle.check_findings.proofs.image.needs.first_content.Given as goal
 
 abbrev pub invariant-loop-finding : goal.invariant-loop-finding

@@ -1,10 +1,9 @@
-use Rattle.std.proofs.Common.{◌+◌, ap, refl, sym, ◌∙◌}
-use Rattle.cbfs_walk.specs.Walks.{Walking}
+use Rattle.std.proofs.Common.{refl}
 use Rattle.check_findings.proofs.RegionLemmas.WalkSteps.{checking_start, checking_more, checking_end, checking_tail, checking_damage, checking_size, checking_absent}
 use Rattle.check_findings.proofs.region.check.walk_region.Goals as goal
 
 pub loop-cell-init : goal.loop-cell-init
-loop-cell-init g c = rw (c.new-findings.ensures.items, c.new-walk.ensures, c.new-count.ensures, c.size-size.ensures) (checking_start c.args.region c.args.paged.now c.requires, refl)
+loop-cell-init g c = rw (c.new-findings.ensures.items, c.new-walk.ensures, c.new-count.ensures, c.size.ensures) (checking_start c.args.region c.args.paged.now c.requires)
 
 pub loop-cell-preserved : goal.loop-cell-preserved
 loop-cell-preserved g c =
@@ -12,32 +11,30 @@ loop-cell-preserved g c =
     let given = rw is at c.in-Ok-Cell.ensures.cell in
     let reads = rw is at c.in-Ok-Cell.ensures.after in
     let answer = rw is at c.in-Ok-Cell.ensures.answer in
-    let moved = rw is at c.in-Ok-Cell.ensures.moved in (
-      checking_more c.args.region c.loop-cell.walk c.loop-cell.findings.items c.loop-cell.count _ _ c.requires c.loop-cell.invariant.0 c.in-Ok-Cell.cell _ _ _ _ _ _ _
-          given reads refl c.in_ok-push_cell-in-Ok-Cell.ensures.after refl answer moved c.with-count.ensures c.in_ok-push_cell-in-Ok-Cell.ensures.found,
-      ap (λ at. at + c.in-Ok-Cell.cell.span) given.1 ∙ sym (ap (λ (w : Walking). w.at) moved),
-    )
+    let moved = rw is at c.in-Ok-Cell.ensures.moved in
+    checking_more c.args.region c.loop-cell.walk c.loop-cell.findings.items c.loop-cell.count _ _ c.requires c.loop-cell.invariant c.in-Ok-Cell.cell _ _ _ _ _ _ _
+    given reads refl c.in_ok-push_cell-in-Ok-Cell.ensures.after refl answer moved c.with-count.ensures c.in_ok-push_cell-in-Ok-Cell.ensures.found
 
 pub returns-in-Ok-Tail-clause-findings : goal.returns-in-Ok-Tail-clause-findings
 returns-in-Ok-Tail-clause-findings g c =
     let is = c.in-Ok-Tail.field-0-is in
-    checking_tail c.args.region c.loop-cell.walk c.loop-cell.findings.items c.loop-cell.count _ _ c.requires c.loop-cell.invariant.0 _ c.loop-cell.at _ _ _ _ (rw is at c.in-Ok-Tail.ensures.answer) c.loop-cell.invariant.1
+    checking_tail c.args.region c.loop-cell.walk c.loop-cell.findings.items c.loop-cell.count _ _ c.requires c.loop-cell.invariant _ _ _ _ _ (rw is at c.in-Ok-Tail.ensures.answer)
     (rw is at c.in-Ok-Tail.ensures.after) c.in_ok-push_tail-in-Ok-Tail.ensures.found c.in_ok-counts_at_end-in-Ok-Tail.ensures
 
 pub returns-in-Ok-End-clause-findings : goal.returns-in-Ok-End-clause-findings
 returns-in-Ok-End-clause-findings g c =
-    checking_end c.args.region c.loop-cell.walk c.loop-cell.findings.items c.loop-cell.count _ _ c.requires c.loop-cell.invariant.0 c.size-size.result _ _ (rw c.in-Ok-End.field-0-is at c.in-Ok-End.ensures.answer) c.size-size.ensures
+    checking_end c.args.region c.loop-cell.walk c.loop-cell.findings.items c.loop-cell.count _ _ c.requires c.loop-cell.invariant _ _ (rw c.in-Ok-End.field-0-is at c.in-Ok-End.ensures.answer)
     c.in_ok-push-in-Ok-End.ensures.items c.in_ok-counts_at_end-in-Ok-End.ensures
 
 pub returns-in-Err-Damaged-clause-findings : goal.returns-in-Err-Damaged-clause-findings
 returns-in-Err-Damaged-clause-findings g c =
-    checking_damage c.args.region c.loop-cell.walk c.loop-cell.findings.items c.loop-cell.count _ _ c.requires c.loop-cell.invariant.0 _ _ _ _ (rw c.in-Err-Damaged.field-0-is at c.in-Err-Damaged.ensures.answer)
-    (rw (c.in-Err-Damaged.at-is, c.in-Err-Damaged.kind-is) at c.in_ok-push-in-Err-Damaged.ensures.items) (rw c.in-Err-Damaged.at-is at c.in_ok-counts_at_end-in-Err-Damaged.ensures)
+    checking_damage c.args.region c.loop-cell.walk c.loop-cell.findings.items c.loop-cell.count _ _ c.requires c.loop-cell.invariant _ _ _ _ (rw c.in-Err-Damaged.field-0-is at c.in-Err-Damaged.ensures.answer)
+    (rw (c.in-Err-Damaged.at-is, c.in-Err-Damaged.kind-is) at c.in_ok-push-in-Err-Damaged.ensures.items) c.in_ok-counts_at_end-in-Err-Damaged.ensures
 
 pub returns-in-Err-RegionShape-clause-findings : goal.returns-in-Err-RegionShape-clause-findings
 returns-in-Err-RegionShape-clause-findings g c =
-    checking_size c.args.region c.loop-cell.walk c.loop-cell.findings.items c.loop-cell.count _ _ c.requires c.loop-cell.invariant.0 _ (rw c.in-Err-RegionShape.field-0-is at c.in-Err-RegionShape.ensures.answer) c.in_ok-push-in-Err-RegionShape.ensures.items
+    checking_size c.args.region c.loop-cell.walk c.loop-cell.findings.items c.loop-cell.count _ _ c.requires c.loop-cell.invariant _ (rw c.in-Err-RegionShape.field-0-is at c.in-Err-RegionShape.ensures.answer) c.in_ok-push-in-Err-RegionShape.ensures.items
 
 pub returns-in-Err-NotCbfs-clause-findings : goal.returns-in-Err-NotCbfs-clause-findings
 returns-in-Err-NotCbfs-clause-findings g c =
-    checking_absent c.args.region c.loop-cell.walk c.loop-cell.findings.items c.loop-cell.count _ _ c.requires c.loop-cell.invariant.0 _ (rw c.in-Err-NotCbfs.field-0-is at c.in-Err-NotCbfs.ensures.answer) c.in_ok-push-in-Err-NotCbfs.ensures.items
+    checking_absent c.args.region c.loop-cell.walk c.loop-cell.findings.items c.loop-cell.count _ _ c.requires c.loop-cell.invariant _ (rw c.in-Err-NotCbfs.field-0-is at c.in-Err-NotCbfs.ensures.answer) c.in_ok-push-in-Err-NotCbfs.ensures.items

@@ -1,4 +1,5 @@
 use Rattle.std.proofs.Common.{◌≡◌, ◌∙◌, ◌+◌, [], ◌∷◌, suc, refl, take, get_or, add-one, drop, drop-cons, ap, sym, arith}
+use Rattle.check_findings.proofs.RegionLemmas.PartNames.{all_marked}
 use Rattle.std.proofs.lemmas.Grind.{fold-append}
 use Rattle.std.proofs.Math.Seq.{take-suc}
 use Rattle.std.proofs.lemmas.List.{take_all}
@@ -32,5 +33,6 @@ loop-i-2-preserved c =
     ]
 
 pub returns : goal.returns
+unfolding all_marked
 returns c =
     c.loop-i-2.invariant ∙ ap (fold mark_at _) (take_all _ _ c.loop-i-2-test.false ∙ c.deref-i-items.ensures.value) ∙ (rw c.as_slice-all.ensures.value at (marking_end c.loop-i.invariant c.loop-i-test.false))

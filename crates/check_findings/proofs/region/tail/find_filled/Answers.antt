@@ -1,9 +1,10 @@
 use Rattle.std.proofs.Common.{◌+◌, ◌*◌, ◌∙◌, ap, drop, sym, arith}
 use Rattle.std.specs.List.{position_from}
+use Rattle.std.specs.Prelude.{◌-◌, length, slice_range}
 use Rattle.flash_device.specs.Regions.{bytes_in}
 use Rattle.flash_device.proofs.DeviceLemmas.{length-bytes_in}
 use Rattle.flash_device.proofs.WindowLemmas.{HasRead-then}
-use Rattle.check_findings.specs.RegionFindings.{is_filled, tail_bytes}
+use Rattle.check_findings.specs.RegionFindings.{is_filled}
 use Rattle.check_findings.proofs.RegionLemmas.Tails.{filled_next, none_left}
 use Rattle.check_findings.proofs.region.tail.find_filled.Goals as goal
 
@@ -19,7 +20,7 @@ loop-i-preserved g c =
       blank = λ h.
           had.blank h ∙ rw (sym c.first_filled.ensures ∙ c.in_default.is) at (filled_next c.args.region at k c.min-n.result _ _ _ c.in_ok-bytes.bytes.now c.requires.region had.read (omega (arith, c.loop-i-test.true, c.saturating_sub-len.ensures, c.size.ensures))
           (omega (arith, c.min-n.ensures, c.saturating_sub-len.ensures, c.size.ensures)) (rw c.start.ensures at c.in_ok-bytes.ensures.read) h)
-          ∙ ap (λ m. position_from is_filled (at + m) (drop m (tail_bytes at x))) {x = k + 4096} {y = 4096 * (c.loop-i.i + 1)} (omega arith);
+          ∙ ap (λ m. position_from is_filled (at + m) (drop m (slice_range x at (length x - 4)))) {x = k + 4096} {y = 4096 * (c.loop-i.i + 1)} (omega arith);
     }
 
 pub returns-in-Some-clause-found : goal.returns-in-Some-clause-found

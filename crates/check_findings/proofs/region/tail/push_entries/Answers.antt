@@ -2,7 +2,9 @@ use Rattle.std.proofs.Common.{◌≡◌, ◌+◌, ◌*◌, ◌++◌, sym, drop, 
 use Rattle.flash_device.specs.Regions.{bytes_in}
 use Rattle.flash_device.proofs.DeviceLemmas.{honest_still, length-bytes_in}
 use Rattle.flash_device.proofs.WindowLemmas.{HasRead-then}
-use Rattle.check_findings.specs.RegionFindings.{begins_with_entry, entries_findings}
+use Rattle.check_findings.proofs.RegionLemmas.PartNames.{entries_findings}
+use Rattle.flash_format.specs.Entry.{front}
+use Rattle.std.specs.Prelude.{is_some}
 use Rattle.check_findings.specs.Lists.{only_if}
 use Rattle.check_findings.specs.declared.region.finding.RegionFinding.TheVariants.{TailEntry}
 use Rattle.check_findings.proofs.RegionLemmas.Tails.{entries_last}
@@ -20,7 +22,7 @@ loop-i-preserved g c =
       read = HasRead-then _ 1 0 _ _ _ had.read entry.after.read;
       found = λ h.
           let has = rw (device.unchanged h) at (entry.has (honest_still device.calls.same_honesty h)) in
-          rw (entries_last i at x, sym (append_assoc c.args.findings.now.items (entries_findings i at x) (only_if (begins_with_entry (drop (at + 64 * i) x)) (TailEntry (at + 64 * i)))), sym (had.found h)) (rw has at c.in_ok-push_if.ensures);
+          rw (entries_last i at x, sym (append_assoc c.args.findings.now.items (entries_findings i at x) (only_if (is_some (front (drop (at + 64 * i) x))) (TailEntry (at + 64 * i)))), sym (had.found h)) (rw has at c.in_ok-push_if.ensures);
     }
 
 pub returns-clause-found : goal.returns-clause-found

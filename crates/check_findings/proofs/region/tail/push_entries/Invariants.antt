@@ -1,6 +1,6 @@
 use Rattle.std.proofs.Common.{◌≡◌, ◌++◌}
 use Rattle.flash_device.specs.Pages.{HasRead, OnHonestIn}
-use Rattle.check_findings.specs.RegionFindings.{entries_findings}
+use Rattle.check_findings.proofs.RegionLemmas.PartNames.{entries_findings}
 use Rattle.check_findings.proofs.region.tail.push_entries.Given as goal
 
 abbrev pub invariant-loop-i : goal.invariant-loop-i

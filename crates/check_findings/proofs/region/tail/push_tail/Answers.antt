@@ -1,7 +1,8 @@
 use Rattle.std.proofs.Common.{◌-◌, ◌/◌, [], ◌∷◌, ◌++◌, length, sym, append_assoc}
 use Rattle.flash_device.specs.Regions.{bytes_in}
 use Rattle.flash_device.proofs.DeviceLemmas.{honest_still}
-use Rattle.check_findings.specs.RegionFindings.{entries_findings, tail_findings}
+use Rattle.check_findings.specs.RegionFindings.{tail_findings}
+use Rattle.check_findings.proofs.RegionLemmas.PartNames.{entries_findings}
 use Rattle.check_findings.specs.declared.region.finding.RegionFinding.TheVariants.{Tail, TailFilled}
 use Rattle.check_findings.proofs.region.tail.push_tail.Goals as goal
 

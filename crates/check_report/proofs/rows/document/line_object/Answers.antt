@@ -4,8 +4,8 @@ use Rattle.std.specs.List.{flat_map}
 use lib.Chars.{codes}
 use Rattle.json.specs.Print.{print}
 use Rattle.json.specs.Token.{begin_object, end_object}
-use Rattle.check_report.specs.Rows.Fields.{Line, seen_field}
-use Rattle.check_report.specs.Rows.Reports.{member_tokens}
+use Rattle.check_report.specs.Fields.{Line, seen_field}
+use Rattle.check_report.specs.Reports.{member_tokens}
 use Rattle.check_report.proofs.ReportParts.{line_after}
 use Rattle.check_report.proofs.Tokens.{object_tokens}
 use Rattle.check_report.proofs.rows.document.line_object.Goals as goal

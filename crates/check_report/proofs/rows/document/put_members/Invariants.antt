@@ -1,8 +1,8 @@
 use Rattle.std.proofs.Common.{Ok, map, take}
 use Rattle.std.specs.List.{flat_map}
-use Rattle.check_report.specs.Rows.Fields.{seen_field}
-use Rattle.check_report.specs.Rows.Reports.{member_tokens}
-use Rattle.check_report.specs.Rows.Effects.{AddsTokens}
+use Rattle.check_report.specs.Fields.{seen_field}
+use Rattle.check_report.specs.Reports.{member_tokens}
+use Rattle.check_report.specs.Effects.{AddsTokens}
 use Rattle.check_report.proofs.rows.document.put_members.Given as goal
 
 abbrev pub invariant-loop-field : goal.invariant-loop-field

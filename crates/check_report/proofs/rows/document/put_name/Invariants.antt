@@ -1,7 +1,7 @@
 use Rattle.std.proofs.Common.{Ok, ◌∷◌, map, take}
 use Rattle.std.specs.Fmt.{decimal}
 use Rattle.json.specs.Token.{begin_array, number}
-use Rattle.check_report.specs.Rows.Effects.{AddsTokens}
+use Rattle.check_report.specs.Effects.{AddsTokens}
 use Rattle.check_report.proofs.rows.document.put_name.Given as goal
 
 abbrev pub invariant-loop-byte : goal.invariant-loop-byte

@@ -1,6 +1,6 @@
 use Rattle.std.proofs.Common.{◌≡◌, ◌∙◌, ◌<◌, ◌≤◌, length, ap, arith, refl, sym}
 use Rattle.std.proofs.lemmas.List.{get_or_default}
-use Rattle.check_report.specs.Rows.Rows.{seen_row}
+use Rattle.check_report.specs.Rows.{seen_row}
 use Rattle.check_report.proofs.RowCounts.{found, none_passed, passed_more}
 use Rattle.check_report.proofs.rows.kinds.count_row.Goals as goal
 

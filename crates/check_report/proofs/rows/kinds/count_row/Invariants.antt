@@ -1,5 +1,5 @@
 use Rattle.std.proofs.Common.{◌≡◌}
-use Rattle.check_report.specs.Rows.Rows.{seen_row}
+use Rattle.check_report.specs.Rows.{seen_row}
 use Rattle.check_report.proofs.RowCounts.{Passed}
 use Rattle.check_report.proofs.rows.kinds.count_row.Given as goal
 

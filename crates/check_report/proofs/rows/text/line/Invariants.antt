@@ -1,6 +1,6 @@
 use Rattle.std.proofs.Common.{◌≡◌, ◌++◌, map, take}
 use Rattle.std.specs.List.{flat_map}
-use Rattle.check_report.specs.Rows.Fields.{field_text, seen_field}
+use Rattle.check_report.specs.Fields.{field_text, seen_field}
 use Rattle.check_report.proofs.rows.text.line.Given as goal
 
 abbrev pub invariant-loop-field : goal.invariant-loop-field

@@ -1,5 +1,5 @@
 use Rattle.std.proofs.Common.{◌∙◌, IsTrue, arith, rules}
-use Rattle.flash_device.proofs.CopyLemmas.{HasRead-piece, Appends-more, AppendsPart-more, AppendsPieces-kept, OnErr-from}
+use Rattle.flash_device.proofs.CopyLemmas.{HasRead-piece, Appends-more, AppendsPart-more, Appends-keeps, OnErr-from}
 use Rattle.flash_device.proofs.DeviceLemmas.{honest_still}
 use Rattle.flash_device.proofs.WindowLemmas.{Covers-part}
 use Rattle.flash_device.proofs.paged.Paged.copy_out.Goals as goal
@@ -40,4 +40,4 @@ pub returns-in_err-copy_piece-clause-pieces : goal.returns-in_err-copy_piece-cla
 returns-in_err-copy_piece-clause-pieces g c = λ h device.
     let had = c.loop-done.invariant in
     let left = c.loop-done-test.true in
-    AppendsPieces-kept _ _ _ _ c.args.at c.loop-done.done c.args.n left c.requires (had.whole_pieces left) (had.put h) (c.copy_piece.ensures.none (search rules))
+    (c.loop-done.done, left, had.whole_pieces left, Appends-keeps _ _ _ _ (had.put h) (c.copy_piece.ensures.none (search rules)))

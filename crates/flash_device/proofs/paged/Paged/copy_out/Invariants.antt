@@ -1,6 +1,6 @@
-use Rattle.std.specs.Prelude.{◌≡◌, ◌+◌, ◌≤◌, ◌<◌, ◌-◌, ◌/◌, ◌%◌, IsTrue, slice_range}
+use Rattle.std.specs.Prelude.{List, ℕ, ◌≡◌, ◌+◌, ◌≤◌, ◌<◌, ◌-◌, ◌/◌, ◌%◌, IsTrue, slice_range}
 use Rattle.std.specs.Io.KnownBytes.{Appends}
-use Rattle.flash_device.specs.Pages.{Covers, HasRead, without_piece}
+use Rattle.flash_device.specs.Pages.{Covers, HasRead, Piece}
 use Rattle.flash_device.proofs.paged.Paged.copy_out.Given as goal
 
 abbrev pub invariant-loop-done : goal.invariant-loop-done
@@ -9,7 +9,7 @@ invariant-loop-done g l =
     record {
       within : l.done ≤ l.n;
       whole_pieces : l.done < l.n → l.done % 4096 ≡ 0;
-      no_piece : without_piece l.self.held ≡ l.self.held;
+      no_piece : (bytes : List ℕ) → l.self.held ≡ Piece bytes → ⊥;
       read : HasRead ((l.done + 4095) / 4096) 0 l.fn.self l.self;
       free : Covers l.fn.self.held l.at l.n → l.self ≡ l.fn.self;
       faults : g.W.Sink.faults l.fn.out ≤ g.W.Sink.faults l.out;

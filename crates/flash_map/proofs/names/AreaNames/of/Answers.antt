@@ -1,4 +1,4 @@
-use Rattle.flash_map.specs.Names.{Notes}
+use Rattle.flash_map.specs.Areas.{Notes}
 use Rattle.flash_map.proofs.NameLemmas.{one_taken}
 use Rattle.flash_map.proofs.names.AreaNames.of.Goals as goal
 

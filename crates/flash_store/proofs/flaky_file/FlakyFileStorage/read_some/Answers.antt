@@ -9,7 +9,7 @@ returns c =
     let n = c.min-n.result in
     let size : length c.copy_from_slice.new.self ≡ n = omega (arith, c.copy_from_slice.ensures.len, length-take-le n c.args.out.now (omega (arith, c.min-n.ensures))) in
     record {
-      after = record { same = record { same_faith = refl; same_length = ap (λ f. length f.content) c.begin.ensures.same }; unchanged = λ h. stored_alike (ap (λ f. f.content) c.begin.ensures.same) (ap (λ f. f.written_at) c.begin.ensures.same) (ap (λ f. f.written_len) c.begin.ensures.same) };
+      after = record { same = record { same_faith = refl; same_length = ap (λ f. length f.content.items) c.begin.ensures.same }; unchanged = λ h. stored_alike (ap (λ f. f.content.items) c.begin.ensures.same) (ap (λ f. f.written_at) c.begin.ensures.same) (ap (λ f. f.written_len) c.begin.ensures.same) };
       short = omega (arith, c.min-n.ensures);
       read = λ h. take_at c.copy_from_slice.new.self _ n size ∙ grind (arith, common_steps);
     }

@@ -5,11 +5,11 @@ use Rattle.flash_store.proofs.flaky_file.FlakyFileStorage.write_some.Goals as go
 pub returns-clause-after : goal.returns-clause-after
 returns-clause-after c =
     let same = c.begin.ensures.same in
-    written_some _ _ c.begin.new.self.content c.args.at c.args.bytes.now c.moved-n.result c.requires.inside c.moved-n.ensures.some
-    (λ small room. c.moved-n.ensures.all small (record { place = ap (λ f. f.written_at) same ∙ room.place; count = ap (λ f. f.written_len) same ∙ room.count }))
-    (ap (λ f. f.content) same) (ap (λ f. f.content) c.replace.ensures) refl (ap (λ f. f.written_at) c.replace.ensures) (ap (λ f. f.written_len) c.replace.ensures)
+    written_some _ _ c.begin.new.self.content.items c.args.at c.args.bytes.now c.moved-n.result c.requires.inside c.moved-n.ensures.some
+    (λ small room. c.moved-n.ensures.all small (ap (λ f. f.written_at) same ∙ room.place) (ap (λ f. f.written_len) same ∙ room.count))
+    (ap (λ f. f.content.items) same) c.replace.ensures.content refl c.replace.ensures.range.0 c.replace.ensures.range.1
 
 pub returns-in_err-begin-clause-interrupted : goal.returns-in_err-begin-clause-interrupted
 returns-in_err-begin-clause-interrupted c = λ h is.
     let same = c.begin.ensures.same in
-    stored_alike (ap (λ f. f.content) same) (ap (λ f. f.written_at) same) (ap (λ f. f.written_len) same)
+    stored_alike (ap (λ f. f.content.items) same) (ap (λ f. f.written_at) same) (ap (λ f. f.written_len) same)

@@ -1,7 +1,7 @@
 use Rattle.std.proofs.Common.{◌≡◌, rules}
 use Rattle.std.specs.Prelude.{option_copied}
 use Rattle.check_changes.specs.Components.{first_of}
-use Rattle.check_changes.specs.Listings.{IsListedIn}
+use Rattle.check_changes.specs.Components.{IsListedIn}
 use Rattle.check_changes.proofs.ComponentLemmas.FirstLemmas.{first_listed}
 use Rattle.check_changes.proofs.components.first.Listing.namesake.Goals as goal
 

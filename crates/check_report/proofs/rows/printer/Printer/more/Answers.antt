@@ -1,5 +1,5 @@
 use Rattle.std.proofs.Common.{◌∙◌, ap, map, refl}
-use Rattle.check_report.specs.Rows.Rows.{more_of, row_line, seen_kind, with_count}
+use Rattle.check_report.specs.Rows.{more_of, row_line, seen_kind, with_count}
 use Rattle.check_report.proofs.PrinterEffects.{prints_none, prints_then}
 use Rattle.check_report.proofs.rows.printer.Printer.more.Goals as goal
 

@@ -1,7 +1,7 @@
 use Rattle.std.proofs.Common.{Ok, map, take}
 use Rattle.std.specs.List.{flat_map}
-use Rattle.check_report.specs.Rows.Rows.{more_of, row_line, seen_kind}
-use Rattle.check_report.specs.Rows.Effects.{PrintsLines}
+use Rattle.check_report.specs.Rows.{more_of, row_line, seen_kind}
+use Rattle.check_report.specs.Effects.{PrintsLines}
 use Rattle.check_report.proofs.rows.printer.Printer.more.Given as goal
 
 abbrev pub invariant-loop-kind : goal.invariant-loop-kind

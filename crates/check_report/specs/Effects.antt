@@ -11,11 +11,11 @@ use Rattle.check_report.specs.declared.fault.WriteFault.{WriteFault}
 use Rattle.check_report.specs.declared.fault.WriteFault.TheVariants as writes
 use Rattle.check_report.specs.declared.rows.writer.RowWriter.{RowWriter}
 use Rattle.check_report.specs.declared.rows.printer.Printer.{Printer}
-use Rattle.check_report.specs.Rows.Fields.{Line}
-use Rattle.check_report.specs.Rows.Rows.{SeenRow, counts_of, kinds_of, report_lines}
-use Rattle.check_report.specs.Rows.Rows.{has_bad}
-use Rattle.check_report.specs.Rows.Rows.{row_line, seen_kind, shown_rows}
-use Rattle.check_report.specs.Rows.Reports.{ending, follows_after, parts}
+use Rattle.check_report.specs.Fields.{Line}
+use Rattle.check_report.specs.Rows.{SeenRow, counts_of, kinds_of, report_lines}
+use Rattle.check_report.specs.Rows.{has_bad}
+use Rattle.check_report.specs.Rows.{row_line, seen_kind, shown_rows}
+use Rattle.check_report.specs.Reports.{ending, follows_after, parts}
 
 -- the number of failed sink calls in a fault
 abbrev pub by_sink : WriteFault → ℕ
