@@ -43,6 +43,9 @@ pub record IsLocal (command : Command) (app : App) : Type 0 where
   pub local : (fields_of command).has_globals ≡ false
   pub shape : app_of command ≡ app
 
+abbrev pub with_option : App → TableOption → App
+with_option app o = with_rule app (record (new_rule o.id.now)
+    { short = Some o.letter; action = Some o.action; required = o.required })
+
 abbrev pub with_options : App → List TableOption → App
-with_options app options = fold (λ a o. with_rule a (record (new_rule o.id.now)
-    { short = Some o.letter; action = Some o.action; required = o.required })) app options
+with_options app options = fold with_option app options

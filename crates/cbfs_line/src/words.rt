@@ -3,7 +3,7 @@
 ghost use Rattle.std.specs.Prelude.{◌≡◌, IfOk, true, false};
 ghost use Rattle.clap.specs.Words.{app_of, new_app, with_subcommand};
 ghost use Rattle.clap.specs.declared.builder.command.Command.TheViews.{out-Command as fields_of};
-ghost use Rattle.cbfs_line.specs.Subcommands.{IsLocal, command_line, with_options};
+ghost use Rattle.cbfs_line.specs.Subcommands.{IsLocal, command_line, with_option, with_options};
 
 use clap::{Arg, ArgAction, Command};
 use std::alloc::{AllocError, Global};
@@ -95,6 +95,18 @@ const SUBCOMMANDS: [TableRow; 8] = [
     ("create", &[MAP, REGION]),
 ];
 
+fn with_option<'a>(
+    alloc: Global,
+    command: Command<'a>,
+    option: TableOption,
+) -> Result<Command<'a>, AllocError>
+    requires { (fields_of command).has_globals ≡ false }
+    ensures { IfOk result (λ c. IsLocal c (with_option (app_of command.entry) option)) }
+{
+    let arg = Arg::new(alloc, option.id).short(option.letter);
+    command.arg(arg.action(option.action).required(option.required))
+}
+
 fn with_options<'a>(
     alloc: Global,
     mut command: Command<'a>,
@@ -104,8 +116,7 @@ fn with_options<'a>(
     ensures { IfOk result (λ c. IsLocal c (with_options (app_of command.entry) options.entry.now)) }
 {
     while let [option, rest @ ..] = options {
-        let arg = Arg::new(alloc, option.id).short(option.letter);
-        command = command.arg(arg.action(option.action).required(option.required))?;
+        command = with_option(alloc, command, *option)?;
         options = rest;
     }
     Ok(command)

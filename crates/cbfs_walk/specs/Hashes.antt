@@ -34,11 +34,14 @@ stored_digest contents = option_and_then (λ a. let end = 4 + (algorithm_row a).
     if nat_lt (length contents) end then None
     else Some (digest_with a (slice_range contents 4 end))) (algorithm_numbered (be32 0 contents))
 
+abbrev pub comparison : Digest → Digest → HashState
+comparison stored computed = if bytes_eq (digest_bytes stored) (digest_bytes computed)
+    then Valid stored else Invalid stored
+
 -- by the first hash attribute
 abbrev pub hash_state : List Attribute → List ℕ → HashState
-hash_state all content = option_map_or (λ contents. option_map_or (λ stored.
-    let computed = hashed_by (algorithm stored) content in
-    if bytes_eq (digest_bytes stored) (digest_bytes computed) then Valid stored else Invalid stored)
+hash_state all content = option_map_or (λ contents. option_map_or
+    (λ stored. comparison stored (hashed_by (algorithm stored) content))
     (stored_digest contents) Unsupported) (data_of HASH all) Absent
 
 -- ---- in a region

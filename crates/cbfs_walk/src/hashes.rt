@@ -8,7 +8,7 @@ ghost use Rattle.flash_device.specs.Regions.{Reaches};
 ghost use Rattle.cbfs_walk.specs.Walks.{ReadsIn, reads_over, ReadsCellAs};
 ghost use Rattle.cbfs_walk.specs.Cells.{IsCellOn, IsComponentIn, PassesChecks, content_start, content_end};
 ghost use Rattle.cbfs_walk.specs.AttrWalks.{attributes_in};
-ghost use Rattle.cbfs_walk.specs.Hashes.{hashed_by, stored_digest, hash_state, content_at};
+ghost use Rattle.cbfs_walk.specs.Hashes.{hashed_by, stored_digest, comparison, hash_state, content_at};
 
 use crate::attribute_walk::{first_attribute, value_at};
 use crate::cell::Cell;
@@ -56,15 +56,21 @@ pub fn check_hash<F: Flash>(
         Some((at, head)) => match stored_digest(paged, region, at + 8, head.len - 8)? {
             Some(stored) => {
                 let computed = content_digest(paged, region, cell, &stored)?;
-                if stored.bytes() == computed.bytes() {
-                    Ok(HashState::Valid(stored))
-                } else {
-                    Ok(HashState::Invalid(stored))
-                }
+                Ok(comparison(stored, &computed))
             }
             None => Ok(HashState::Unsupported),
         },
         None => Ok(HashState::Absent),
+    }
+}
+
+fn comparison(stored: Digest, computed: &Digest) -> HashState
+    ensures { result ≡ comparison stored computed.now }
+{
+    if stored.bytes() == computed.bytes() {
+        HashState::Valid(stored)
+    } else {
+        HashState::Invalid(stored)
     }
 }
 

@@ -25,12 +25,7 @@ returns-in_err-computed-in-Some-2-clause-after g c =
     rw (err_from_is_err_and c.from_residual-in_err-computed-in-Some-2.result c.from_residual-in_err-computed-in-Some-2.ensures.1).1
     (Passes-answers (Passes-then first c.in_err-computed-in-Some-2.ensures.passed (le_refl _) (le_refl _) (le_refl _)) (omega (arith, (content_fits c.args.region.size c.args.cell.now c.requires.cell.checks).in_cell)))
 
-pub returns-then-eq-clause-after : goal.returns-then-eq-clause-after
-returns-then-eq-clause-after g c =
-    let first = read_to_content c.args.cell.now _ _ _ c.in-Some.is c.in_ok-at.ensures.attribute c.in_ok-at.ensures.first.passed c.in_ok-stored-in-Some.ensures.passed in
-    Passes-answers (Passes-then first c.in_ok-computed-in-Some-2.ensures.passed (le_refl _) (le_refl _) (le_refl _)) (omega (arith, (content_fits c.args.region.size c.args.cell.now c.requires.cell.checks).in_cell))
-
-pub returns-else-eq-clause-after : goal.returns-else-eq-clause-after
-returns-else-eq-clause-after g c =
+pub returns-in_ok-computed-in-Some-2-clause-after : goal.returns-in_ok-computed-in-Some-2-clause-after
+returns-in_ok-computed-in-Some-2-clause-after g c =
     let first = read_to_content c.args.cell.now _ _ _ c.in-Some.is c.in_ok-at.ensures.attribute c.in_ok-at.ensures.first.passed c.in_ok-stored-in-Some.ensures.passed in
     Passes-answers (Passes-then first c.in_ok-computed-in-Some-2.ensures.passed (le_refl _) (le_refl _) (le_refl _)) (omega (arith, (content_fits c.args.region.size c.args.cell.now c.requires.cell.checks).in_cell))
