@@ -6,8 +6,8 @@ use Rattle.std.specs.Option.{option_map_or, option_and_then}
 use Rattle.std.specs.Str.{bytes_eq}
 use Rattle.flash_format.specs.Flashmap.{text_of}
 use Rattle.flash_device.specs.Regions.{Range, bytes_in}
-use Rattle.flash_map.specs.Areas.{area_end}
-use Rattle.flash_map.specs.declared.areas.NumberedArea.{NumberedArea}
+use Rattle.check_findings.specs.Areas.{area_end}
+use Rattle.check_findings.specs.declared.areas.NumberedArea.{NumberedArea}
 use Rattle.flash_map.specs.declared.search.FoundMap.{FoundMap}
 use Rattle.check_findings.specs.Lists.{only_if}
 use Rattle.check_findings.specs.ImageFindings.{range_of}

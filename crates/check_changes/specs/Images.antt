@@ -3,8 +3,8 @@ use Rattle.std.specs.Prelude.{ℕ, ◌+◌, ◌≤◌, List, Result, length}
 use Rattle.flash_device.specs.Device.{fault_count}
 use Rattle.flash_device.specs.Pages.{HasRead, OnHonest}
 use Rattle.flash_device.specs.Regions.{Range, LiesOn, bytes_in}
-use Rattle.flash_map.specs.declared.fault.CheckFault.{CheckFault}
-use Rattle.flash_map.specs.declared.fault.CheckFault.TheVariants as check
+use Rattle.check_findings.specs.declared.fault.CheckFault.{CheckFault}
+use Rattle.check_findings.specs.declared.fault.CheckFault.TheVariants as check
 use Rattle.check_changes.specs.declared.fault.ChangeFault.{ChangeFault}
 use Rattle.check_changes.specs.declared.fault.ChangeFault.TheVariants as faults
 use Rattle.check_changes.specs.declared.images.Images.{Images}

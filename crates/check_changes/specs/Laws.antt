@@ -1,7 +1,7 @@
 -- A law about changes of areas.
 use Rattle.std.specs.Prelude.{◌≡◌, ◌≢◌, ℕ, ◌+◌, ◌<◌, ◌≤◌, Bool, true, false, ◌&&◌, List, length, slice_index, nat_lt, nat_le}
-use Rattle.flash_map.specs.declared.areas.NumberedArea.{NumberedArea}
-use Rattle.flash_map.specs.Areas.{area_end}
+use Rattle.check_findings.specs.declared.areas.NumberedArea.{NumberedArea}
+use Rattle.check_findings.specs.Areas.{area_end}
 use Rattle.check_changes.specs.declared.areas.change.AreaChange.{AreaChange}
 use Rattle.check_changes.specs.declared.areas.change.AreaDifference.{AreaDifference}
 use Rattle.check_changes.specs.declared.areas.change.AreaDifference.TheVariants.{Differs, NotCompared}

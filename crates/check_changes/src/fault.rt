@@ -2,7 +2,7 @@
 ghost use Rattle.std.specs.Prelude.{◌≡◌};
 ghost use Rattle.check_changes.specs.declared.fault.ChangeFault.TheVariants as faults;
 
-use flash_map::CheckFault;
+use check_findings::CheckFault;
 use std::alloc::AllocError;
 
 /// The error of a comparison, which then has no changes.

@@ -1,7 +1,7 @@
 //! Laws about changes, as contracts of functions without effect.
 ghost use Rattle.std.specs.Prelude.{ℕ, ◌+◌, Contains, IsTrue, List, Some};
 ghost use Rattle.std.specs.List.{list_any};
-ghost use Rattle.flash_map.specs.declared.areas.NumberedArea.{NumberedArea};
+ghost use Rattle.check_findings.specs.declared.areas.NumberedArea.{NumberedArea};
 ghost use Rattle.check_changes.specs.Areas.{area_changes, pairs};
 ghost use Rattle.check_changes.specs.Laws.{DifferAt, reports};
 

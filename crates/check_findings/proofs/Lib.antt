@@ -1,3 +1,5 @@
+pub mod FirstAreas
+pub mod MapAreas
 pub mod MapLemmas
 pub mod RegionLemmas
 pub mod ImageLemmas

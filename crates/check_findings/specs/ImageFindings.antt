@@ -13,9 +13,9 @@ use Rattle.check_findings.specs.Lists.{only_if}
 use Rattle.flash_format.specs.Entry.{front}
 use Rattle.flash_format.specs.Flashmap.{is_area, text_of}
 use Rattle.flash_device.specs.Regions.{Range, bytes_in}
-use Rattle.flash_map.specs.declared.areas.NumberedArea.{NumberedArea}
+use Rattle.check_findings.specs.declared.areas.NumberedArea.{NumberedArea}
 use Rattle.check_findings.specs.MapFindings.{map_findings}
-use Rattle.flash_map.specs.Areas.{area_end, has_name, image_areas}
+use Rattle.check_findings.specs.Areas.{area_end, has_name, image_areas}
 use Rattle.check_findings.specs.RegionFindings.{region_findings}
 use Rattle.check_findings.specs.declared.image.finding.ImageFinding.{ImageFinding}
 use Rattle.check_findings.specs.declared.image.finding.ImageFinding.TheVariants.{Map, Region}

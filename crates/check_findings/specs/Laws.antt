@@ -9,10 +9,10 @@ use Rattle.flash_format.specs.declared.head.DamageKind.{DamageKind}
 use Rattle.flash_format.specs.Components.{Component, components}
 use Rattle.flash_format.specs.Cut.{cut, damage, tail}
 use Rattle.flash_format.specs.Flashmap.{text_of}
-use Rattle.flash_map.specs.Areas.{area_end, has_name}
+use Rattle.check_findings.specs.Areas.{area_end, has_name}
 use Rattle.flash_map.specs.Fmap.{found_from, found_in}
 use Rattle.flash_map.specs.Regions.{region_of}
-use Rattle.flash_map.specs.declared.areas.NumberedArea.{NumberedArea}
+use Rattle.check_findings.specs.declared.areas.NumberedArea.{NumberedArea}
 use Rattle.flash_map.specs.declared.search.FoundMap.{FoundMap}
 use Rattle.cbfs_walk.specs.Search.{component_in}
 use Rattle.cbfs_walk.specs.Hashes.{hash_state}

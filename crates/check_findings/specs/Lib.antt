@@ -1,3 +1,5 @@
+pub mod Areas
+pub mod Faults
 pub mod Lists
 pub mod MapFindings
 pub mod RegionFindings

@@ -9,9 +9,9 @@ use lib.Chars.{codes}
 use Rattle.flash_format.specs.declared.flashmap.Area.{Area}
 use Rattle.flash_format.specs.Flashmap.{map_len, text_of}
 use Rattle.flash_map.specs.declared.search.FoundMap.{FoundMap}
-use Rattle.flash_map.specs.Areas.{area_end, has_name, map_areas}
+use Rattle.check_findings.specs.Areas.{area_end, has_name, map_areas}
 use Rattle.flash_map.specs.Fmap.{found_from, found_in}
-use Rattle.flash_map.specs.declared.areas.NumberedArea.{NumberedArea}
+use Rattle.check_findings.specs.declared.areas.NumberedArea.{NumberedArea}
 use Rattle.check_findings.specs.Lists.{only_if}
 use Rattle.check_findings.specs.declared.map.finding.MapFinding.{MapFinding}
 use Rattle.check_findings.specs.declared.map.finding.MapFinding.TheVariants.{AreaEmpty}

@@ -7,7 +7,7 @@ ghost use Rattle.flash_format.specs.Components.{Component, components};
 ghost use Rattle.cbfs_walk.specs.Search.{component_in};
 ghost use Rattle.cbfs_walk.specs.Shapes.{shape_fault};
 ghost use Rattle.flash_map.specs.declared.search.FoundMap.{FoundMap};
-ghost use Rattle.flash_map.specs.Areas.{has_name, map_areas};
+ghost use Rattle.check_findings.specs.Areas.{has_name, map_areas};
 ghost use Rattle.check_findings.specs.declared.map.finding.MapFinding.TheVariants.{Map};
 ghost use Rattle.check_findings.specs.declared.region.finding.RegionFinding.TheVariants.{Tail};
 ghost use Rattle.check_findings.specs.declared.region.finding.RegionFinding.TheVariants as findings;

@@ -1,20 +1,26 @@
 //! Checks a flash image: its flash map and its CBFS regions.
 #![tactic(auto)]
 
+mod areas;
+mod fault;
 mod image;
 mod laws;
 mod lists;
 mod map;
+mod names;
 mod region;
 
+pub use areas::{ImageMap, NumberedArea, image_map};
+pub use fault::CheckFault;
 pub use image::{
     CheckedImage, ImageFinding, Need, NeedFinding, NeededPlace, RegionFindings, cbfs_areas,
     check_image, is_bad_hash, unmet,
 };
 pub use laws::{
-    blank_tails_are_known, clean_maps_are_sound, fit_images_are_whole, fit_regions_are_whole,
-    needs_are_there, unshadowed_components_are_found,
+    blank_tails_are_known, clean_maps_are_sound, counts_are_of_the_entries, fit_images_are_whole,
+    fit_regions_are_whole, needs_are_there, unshadowed_components_are_found,
 };
 pub use lists::{Elements, push, push_if};
 pub use map::{CheckedMap, MapFinding, check_map, is_text};
+pub use names::AreaNames;
 pub use region::{Content, HashFinding, Name, RegionFinding, check_region};

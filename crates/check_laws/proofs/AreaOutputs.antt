@@ -6,7 +6,7 @@ use Rattle.flash_format.specs.Flashmap.{text_of}
 use Rattle.check_findings.specs.ImageFindings.{bytes_of}
 use Rattle.flash_format.specs.declared.head.DamageKind.{DamageKind}
 use Rattle.flash_format.specs.Cut.{End, complete, tail, damage, cut}
-use Rattle.flash_map.specs.declared.areas.NumberedArea.{NumberedArea}
+use Rattle.check_findings.specs.declared.areas.NumberedArea.{NumberedArea}
 use Rattle.cbfs_walk.specs.Search.{not_found}
 use Rattle.cbfs_walk.specs.CellReadings.{place_after}
 use Rattle.check_findings.specs.Laws.{IsFit, IsWhole}

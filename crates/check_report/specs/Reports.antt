@@ -8,7 +8,7 @@ use Rattle.std.specs.List.{flat_map, list_any}
 use Rattle.std.specs.Option.{option_map_or, option_copied}
 use lib.Chars.{codes}
 use Rattle.flash_format.specs.Texts.{printed_compression, printed_type, line_feed}
-use Rattle.flash_map.specs.declared.areas.NumberedArea.{NumberedArea}
+use Rattle.check_findings.specs.declared.areas.NumberedArea.{NumberedArea}
 use Rattle.check_findings.specs.declared.region.finding.Content.{Content}
 use Rattle.check_findings.specs.declared.region.finding.RegionFinding.{RegionFinding}
 use Rattle.check_findings.specs.declared.region.finding.RegionFinding.TheVariants.{Component}
@@ -20,7 +20,7 @@ use Rattle.check_report.specs.Fields.{line_text, items, json_value, line_json, m
 use Rattle.check_report.specs.Rows.{SeenRow, area_name, counts_of, report_lines, summary}
 use Rattle.check_report.specs.Rows.{names_in}
 use Rattle.check_report.specs.FindingRows.{finding_rows, hash_words, missing_row, need_rows}
-use Rattle.flash_map.specs.Areas.{has_name}
+use Rattle.check_findings.specs.Areas.{has_name}
 use Rattle.check_findings.specs.Lists.{only_if}
 use Rattle.check_report.specs.ChangeRows.{area_change_rows, image_rows, map_change_row}
 use Rattle.check_report.specs.ChangeRows.{region_change_rows}
@@ -38,7 +38,7 @@ use Rattle.check_report.specs.declared.rows.kinds.Counts.{Counts}
 use Rattle.check_report.specs.declared.rows.form.Form.{Form}
 use Rattle.check_report.specs.declared.rows.form.Form.TheVariants as forms
 use Rattle.flash_map.specs.Fmap.{found_in}
-use Rattle.flash_map.specs.Areas.{image_areas}
+use Rattle.check_findings.specs.Areas.{image_areas}
 use Rattle.check_findings.specs.ImageFindings.{cbfs_areas, image_findings}
 use Rattle.check_changes.specs.Areas.{area_changes, map_changes}
 use Rattle.check_changes.specs.Areas.{different_blocks}

@@ -6,7 +6,7 @@ ghost use Rattle.check_report.specs.ChangeRows as of;
 use crate::kept::{change_verdict, is_kept};
 use crate::rows::{Row, Verdict};
 use check_changes::{AreaChange, AreaDifference, MapChange};
-use flash_map::NumberedArea;
+use check_findings::NumberedArea;
 
 /// Returns the row of a change of the flash map itself.
 pub fn map_change_row<'a>(change: &MapChange) -> Row<'a>

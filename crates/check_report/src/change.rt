@@ -7,9 +7,8 @@ use crate::inspection::{Changes, Comparison, Inspection, OldImage};
 use crate::names::{need_areas, with_areas};
 use crate::request::Request;
 use check_changes::{Areas, ChangeFault, Images, image_changes, map_changes, region_changes};
-use check_findings::{cbfs_areas, check_image};
+use check_findings::{cbfs_areas, check_image, image_map};
 use flash_device::Flash;
-use flash_map::image_map;
 use std::alloc::Global;
 use std::hash::RandomState;
 

@@ -12,9 +12,8 @@ use crate::fault::WriteFault;
 use crate::region::add_region;
 use crate::request::Asked;
 use crate::rows::{Row, RowWriter, Value, Verdict};
-use check_findings::{ImageFinding, MapFinding, Need, NeedFinding, unmet};
+use check_findings::{ImageFinding, MapFinding, Need, NeedFinding, NumberedArea, unmet};
 use flash_device::Sink;
-use flash_map::NumberedArea;
 
 /// Returns the row of a name without an area.
 pub fn missing_row(area: Value<'_>) -> Row<'_>

@@ -18,9 +18,8 @@ use crate::names::{kept_names, with_areas};
 use crate::request::Request;
 use crate::rows::{Printer, RowWriter};
 use check_changes::{AreaChange, MapChange, RegionChange};
-use check_findings::ImageFinding;
+use check_findings::{ImageFinding, ImageMap, NumberedArea};
 use flash_device::Sink;
-use flash_map::{ImageMap, NumberedArea};
 use std::alloc::Global;
 
 /// The differences between two images.

@@ -1,7 +1,7 @@
 //! Areas that must not change.
 ghost use Rattle.std.specs.Prelude.{◌≡◌, ◌++◌, if◌then◌else◌};
 ghost use Rattle.std.specs.List.{list_any};
-ghost use Rattle.flash_map.specs.Areas.{has_name};
+ghost use Rattle.check_findings.specs.Areas.{has_name};
 ghost use Rattle.check_findings.specs.ImageFindings.{has_one_of};
 ghost use Rattle.check_report.specs.Rows.{names_in};
 ghost use Rattle.check_report.specs.Effects.{Adds};
@@ -13,8 +13,8 @@ use crate::findings::missing_row;
 use crate::inspection::Changes;
 use crate::request::Request;
 use crate::rows::{RowWriter, Value, Verdict};
+use check_findings::NumberedArea;
 use flash_device::Sink;
-use flash_map::NumberedArea;
 
 /// Returns whether the area has a kept name.
 pub fn is_kept(kept: &[&[u8]], area: NumberedArea) -> bool

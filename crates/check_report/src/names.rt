@@ -5,8 +5,7 @@ ghost use Rattle.check_report.specs.Rows.{area_name, names_in};
 
 use crate::inspection::Changes;
 use crate::request::Request;
-use check_findings::Need;
-use flash_map::NumberedArea;
+use check_findings::{Need, NumberedArea};
 use std::alloc::{AllocError, Global};
 
 pub fn need_areas<'a>(alloc: Global, needs: &[Need<'a>]) -> Result<Vec<&'a [u8]>, AllocError>

@@ -1,4 +1,2 @@
-pub mod Areas
-pub mod Faults
 pub mod Fmap
 pub mod Regions

@@ -23,9 +23,8 @@ pub use flash_device::{
     separate_edits_swap, separate_writes_swap, writes_are_seen_by_regions,
 };
 pub use flash_map::{
-    AreaNames, CheckFault, FoundMap, ImageMap, NumberedArea, Region, StoreFault, area,
-    area_in_source, find_fmap, find_fmap_from, image_map, map_in_source, region, region_of_area,
-    written_maps_are_found,
+    FoundMap, Region, StoreFault, area, area_in_source, find_fmap, find_fmap_from, map_in_source,
+    region, region_of_area, written_maps_are_found,
 };
 pub use open_fault::OpenFault;
 pub use os_file::{Lock, OsFile};

@@ -12,8 +12,8 @@ use Rattle.std.proofs.lemmas.List.Folds.{list_any-append, Any-from_list_any}
 use Rattle.std.proofs.lemmas.Slice.Eq.{bytes_eq-Decides}
 use Rattle.flash_device.specs.Regions.{Range, bytes_in}
 use Rattle.flash_map.proofs.FmapLemmas.{index-slice_range}
-use Rattle.flash_map.specs.declared.areas.NumberedArea.{NumberedArea}
-use Rattle.flash_map.specs.Areas.{area_end}
+use Rattle.check_findings.specs.declared.areas.NumberedArea.{NumberedArea}
+use Rattle.check_findings.specs.Areas.{area_end}
 use Rattle.check_findings.specs.ImageFindings.{range_of}
 use Rattle.check_changes.specs.Images.{lengths_of}
 use Rattle.check_changes.specs.declared.areas.change.AreaChange.{AreaChange}

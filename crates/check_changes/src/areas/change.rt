@@ -1,5 +1,5 @@
 //! The changes between two flash maps.
-use flash_map::NumberedArea;
+use check_findings::NumberedArea;
 
 /// A difference between an area and the first old area of its name.
 #[derive(Clone, Copy, Drop)]

@@ -1,12 +1,12 @@
 //! Areas by name.
 ghost use Rattle.std.specs.Prelude.{◌≡◌, IfOk};
 ghost use Rattle.std.proofs.Props.{props};
-ghost use Rattle.flash_map.specs.Areas.{Notes};
+ghost use Rattle.check_findings.specs.Areas.{Notes};
 ghost use Rattle.check_findings.specs.MapFindings.{namesake};
 ghost use Rattle.check_changes.specs.Areas.{is_reached};
 
 use crate::images::Both;
-use flash_map::{AreaNames, NumberedArea};
+use check_findings::{AreaNames, NumberedArea};
 use std::alloc::{AllocError, Global};
 
 /// The areas of a map, and the first area of each name.

@@ -10,9 +10,9 @@ ghost use Rattle.flash_device.specs.Pages.{Lists};
 use crate::areas::change::{AreaChange, AreaDifference};
 use crate::areas::names::NamedBoth;
 use crate::images::{Lengths, RegionPair};
-use check_findings::push_if;
+use check_findings::{NumberedArea, push_if};
 use flash_device::PIECE;
-use flash_map::{NumberedArea, Region};
+use flash_map::Region;
 use std::alloc::{AllocError, Global};
 
 /// An area of the new map, and the first old area with its name.

@@ -8,12 +8,12 @@ ghost use Rattle.check_changes.specs.Components.{IsListedIn, listed_in, spans};
 ghost use Rattle.check_findings.specs.Lists.{Gains, only_if};
 ghost use Rattle.flash_format.specs.Components.{cell_name};
 ghost use Rattle.flash_format.specs.Head.{is_free};
-ghost use Rattle.flash_map.specs.Faults.{by_device};
+ghost use Rattle.check_findings.specs.Faults.{by_device};
 
 use cbfs_walk::{Cell, Step, Walk, WalkFault, cells_stand_in_their_image, name};
-use check_findings::{Name, push};
+use check_findings::{CheckFault, Name, push};
 use flash_device::{Flash, Paged};
-use flash_map::{CheckFault, Region};
+use flash_map::Region;
 use std::alloc::{AllocError, Global};
 
 /// A component from a walk.

@@ -1,7 +1,6 @@
 //! The changes of a region.
 use crate::components::ComponentChange;
-use check_findings::Elements;
-use flash_map::NumberedArea;
+use check_findings::{Elements, NumberedArea};
 
 /// The changes between the components of two regions.
 pub type ComponentChanges = Elements<ComponentChange>;

@@ -1,7 +1,7 @@
 //! The changes of each region's components.
 ghost use Rattle.std.specs.Prelude.{◌≡◌, ◌+◌, ◌-◌, ◌*◌, ◌/◌, ◌≤◌, ◌++◌, List, length, OnOk};
 ghost use Rattle.check_findings.specs.ImageFindings.{region_area, region_areas, sum_sizes};
-ghost use Rattle.flash_map.specs.declared.areas.NumberedArea.{NumberedArea};
+ghost use Rattle.check_findings.specs.declared.areas.NumberedArea.{NumberedArea};
 ghost use Rattle.check_changes.specs.Images.{HasReadFor, OnBoth, lengths};
 ghost use Rattle.check_changes.specs.Regions.{region_changes, region_changes_in};
 ghost use Rattle.flash_device.specs.Pages.{Lists};
@@ -11,9 +11,8 @@ use crate::components::component_changes;
 use crate::fault::ChangeFault;
 use crate::images::{Images, taken};
 use crate::regions::change::{ComponentChanges, RegionChange};
-use check_findings::{ImageFinding, push, push_if};
+use check_findings::{ImageFinding, NumberedArea, push, push_if};
 use flash_device::Flash;
-use flash_map::NumberedArea;
 use std::alloc::Global;
 use std::hash::RandomState;
 

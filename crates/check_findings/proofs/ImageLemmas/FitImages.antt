@@ -14,12 +14,12 @@ use Rattle.flash_format.specs.Flashmap.{is_area, text_of}
 use Rattle.flash_map.specs.declared.search.FoundMap.{FoundMap}
 use Rattle.flash_map.specs.Fmap.{areas_of, found_from, found_in}
 use Rattle.flash_map.specs.Regions.{region_of}
-use Rattle.flash_map.proofs.MapAreas.{numbered_from}
+use Rattle.check_findings.proofs.MapAreas.{numbered_from}
 use Rattle.check_findings.specs.declared.map.finding.MapFinding.{MapFinding}
 use Rattle.check_findings.specs.declared.map.finding.MapFinding.TheVariants as of_map
-use Rattle.flash_map.specs.declared.areas.NumberedArea.{NumberedArea}
+use Rattle.check_findings.specs.declared.areas.NumberedArea.{NumberedArea}
 use Rattle.check_findings.specs.MapFindings.{findings_of, map_findings}
-use Rattle.flash_map.specs.Areas.{area_end, has_name, image_areas, map_areas}
+use Rattle.check_findings.specs.Areas.{area_end, has_name, image_areas, map_areas}
 use Rattle.check_findings.proofs.MapLemmas.Sound.{named, none_of}
 use Rattle.check_findings.specs.declared.image.finding.ImageFinding.{ImageFinding}
 use Rattle.check_findings.specs.declared.image.finding.ImageFinding.TheVariants.{Map, NotChecked}

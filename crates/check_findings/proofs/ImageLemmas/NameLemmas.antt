@@ -11,11 +11,11 @@ use Rattle.check_findings.specs.declared.image.names.NameSet.{NameSet}
 use Rattle.check_findings.specs.ImageFindings.{has_one_of, is_named_in}
 use Rattle.std.proofs.Math.Path.{fun_ext}
 use Rattle.flash_format.specs.Flashmap.{is_area, text_of}
-use Rattle.flash_map.specs.Areas.{has_name}
+use Rattle.check_findings.specs.Areas.{has_name}
 use Rattle.std.specs.Borrow.{Bor}
 use Rattle.std.specs.List.{enumerate_from, find, flat_map}
 use Rattle.std.proofs.lemmas.Grind.{common_steps}
-use Rattle.flash_map.specs.declared.areas.NumberedArea.{NumberedArea}
+use Rattle.check_findings.specs.declared.areas.NumberedArea.{NumberedArea}
 use Rattle.check_findings.specs.declared.image.finding.ImageFinding.{ImageFinding}
 use Rattle.check_findings.specs.declared.image.finding.ImageFinding.TheVariants.{NoArea}
 use Rattle.check_findings.specs.ImageFindings.{missing_name, names_in}

@@ -24,12 +24,12 @@ use Rattle.std.specs.Option.{option_map_or}
 use Rattle.std.specs.Prelude.{not}
 use Rattle.std.specs.Prelude.{IsOkAnd, IsSomeAnd}
 use Rattle.std.specs.List.{find}
-use Rattle.flash_map.specs.Areas.{has_name}
+use Rattle.check_findings.specs.Areas.{has_name}
 use Rattle.check_findings.specs.ImageFindings.{areas_findings, bytes_of, has_one_of, image_findings, left_after, missing_name, wanted_areas}
 use Rattle.check_findings.specs.ImageFindings.{region_areas}
 use Rattle.check_findings.specs.MapFindings.{map_findings}
-use Rattle.flash_map.specs.Areas.{image_areas}
-use Rattle.flash_map.specs.declared.areas.NumberedArea.{NumberedArea}
+use Rattle.check_findings.specs.Areas.{image_areas}
+use Rattle.check_findings.specs.declared.areas.NumberedArea.{NumberedArea}
 use Rattle.check_findings.specs.declared.image.finding.ImageFinding.{ImageFinding}
 use Rattle.check_findings.specs.declared.image.finding.ImageFinding.TheVariants.{Map, NotChecked, Region}
 use Rattle.check_findings.specs.declared.image.needs.NeedFinding.TheVariants.{Missing}

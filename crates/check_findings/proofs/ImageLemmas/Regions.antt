@@ -9,9 +9,9 @@ use Rattle.std.proofs.lemmas.List.Elements.{All-append, All-cons, All-nil, All-p
 use Rattle.std.proofs.lemmas.List.Sums.{sum_by_push}
 use Rattle.std.proofs.lemmas.Grind.{common_steps}
 use Rattle.check_findings.specs.declared.map.finding.MapFinding.{MapFinding}
-use Rattle.flash_map.specs.declared.areas.NumberedArea.{NumberedArea}
+use Rattle.check_findings.specs.declared.areas.NumberedArea.{NumberedArea}
 use Rattle.check_findings.specs.MapFindings.{map_findings}
-use Rattle.flash_map.specs.Areas.{area_end, image_areas}
+use Rattle.check_findings.specs.Areas.{area_end, image_areas}
 use Rattle.check_findings.specs.declared.image.finding.ImageFinding.{ImageFinding}
 use Rattle.check_findings.specs.declared.image.finding.ImageFinding.TheVariants.{Map}
 use Rattle.check_findings.specs.ImageFindings.{area_finding, areas_findings, has_one_of, image_findings, left_after, missing_name, wanted_areas}

@@ -15,13 +15,13 @@ use Rattle.flash_format.specs.declared.flashmap.Area.{Area}
 use Rattle.flash_format.specs.Flashmap.{text_of}
 use Rattle.flash_map.specs.declared.search.FoundMap.{FoundMap}
 use Rattle.flash_map.specs.Fmap.{found_from, found_in}
-use Rattle.flash_map.specs.declared.areas.NumberedArea.{NumberedArea}
+use Rattle.check_findings.specs.declared.areas.NumberedArea.{NumberedArea}
 use Rattle.check_findings.specs.Lists.{only_if}
 use Rattle.check_findings.specs.declared.map.finding.MapFinding.{MapFinding}
 use Rattle.check_findings.specs.declared.map.finding.MapFinding.TheVariants as findings
 use Rattle.check_findings.specs.MapFindings.{area_findings, ends_inside, findings_of, holds_map, map_area_findings, map_findings, name_findings, namesake, overlap, overlap_findings}
-use Rattle.flash_map.specs.Areas.{area_end, has_name, map_areas}
-use Rattle.flash_map.proofs.MapAreas.{numbered_from}
+use Rattle.check_findings.specs.Areas.{area_end, has_name, map_areas}
+use Rattle.check_findings.proofs.MapAreas.{numbered_from}
 use Rattle.check_findings.specs.Laws.{IsSound}
 
 -- ---- no findings

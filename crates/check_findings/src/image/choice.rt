@@ -1,17 +1,19 @@
 //! The choice of areas to check.
 ghost use Rattle.std.specs.Prelude.{◌≤◌, All, IsTrue, length, IfOk};
 ghost use Rattle.flash_device.specs.Pages.{HasAnswered, OnHonest, Returns, Lists, HasReadBy};
-ghost use Rattle.flash_map.specs.Faults.{by_device};
-ghost use Rattle.flash_map.specs.Areas.{area_end};
+ghost use Rattle.check_findings.specs.Faults.{by_device};
+ghost use Rattle.check_findings.specs.Areas.{area_end};
 ghost use Rattle.check_findings.specs.ImageFindings.{cbfs_areas, is_wanted, wanted_areas};
 ghost use Rattle.check_findings.specs.ImageFindings.{is_named_in, knows_smaller};
 
+use crate::areas::NumberedArea;
+use crate::fault::CheckFault;
 use crate::image::names::NameSet;
 use crate::image::starts::Starts;
 use crate::lists::push_if;
 use crate::region::has_entry_at;
 use flash_device::{Flash, FlashFault, Paged};
-use flash_map::{CheckFault, NumberedArea, Region};
+use flash_map::Region;
 use std::alloc::Global;
 
 /// Returns the CBFS areas: each lies inside the image, begins with an entry, and is the smallest

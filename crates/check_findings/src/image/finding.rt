@@ -1,9 +1,9 @@
 //! Findings of an image.
 
+use crate::areas::NumberedArea;
 use crate::lists::Elements;
 use crate::map::MapFinding;
 use crate::region::RegionFinding;
-use flash_map::NumberedArea;
 
 /// The findings of a region.
 pub type RegionFindings = Elements<RegionFinding>;

@@ -4,9 +4,9 @@ ghost use Rattle.std.specs.Prelude.{length, map, IfOk, nat_le, if◌then◌else�
 ghost use Rattle.flash_format.specs.Flashmap.{area_len};
 ghost use Rattle.flash_map.specs.Fmap.{found_in};
 ghost use Rattle.flash_device.specs.Pages.{OnHonest, Returns, Lists, HasReadBy};
-ghost use Rattle.flash_map.specs.Areas.{area_end, image_areas};
+ghost use Rattle.check_findings.specs.Areas.{area_end, image_areas};
 ghost use Rattle.check_findings.specs.declared.image.finding.ImageFinding.TheVariants.{Map};
-ghost use Rattle.flash_map.specs.Faults.{by_device};
+ghost use Rattle.check_findings.specs.Faults.{by_device};
 ghost use Rattle.check_findings.specs.ImageFindings as of;
 ghost use Rattle.check_findings.specs.ImageFindings.{image_findings};
 ghost use Rattle.check_findings.specs.ImageFindings.{is_named_in, left_after, names_in};
@@ -14,13 +14,15 @@ ghost use Rattle.check_findings.specs.ImageFindings.{AreChecked, region_area, re
 ghost use Rattle.check_findings.specs.Lists.{GivesPart};
 ghost use Rattle.flash_device.specs.Device.{call_limit};
 
+use crate::areas::NumberedArea;
+use crate::fault::CheckFault;
 use crate::image::choice::wanted_areas;
 use crate::image::finding::{ImageFinding, RegionFindings};
 use crate::image::names::{NameSet, push_missing};
 use crate::map::{MapFinding, check_map};
 use crate::region::check_region;
 use flash_device::{Flash, Paged};
-use flash_map::{CheckFault, FoundMap, NumberedArea, Region};
+use flash_map::{FoundMap, Region};
 use std::alloc::{AllocError, Global};
 use std::hash::RandomState;
 

@@ -6,9 +6,10 @@ ghost use Rattle.std.specs.List.{enumerate_from, flat_map};
 ghost use Rattle.check_findings.specs.ImageFindings.{is_named_in, missing_name, names_in};
 ghost use Rattle.check_findings.specs.Lists.{Gains};
 
+use crate::areas::NumberedArea;
 use crate::image::finding::ImageFinding;
 use crate::lists::push_if;
-use flash_map::{AreaNames, NumberedArea};
+use crate::names::AreaNames;
 use std::alloc::{AllocError, Global};
 use std::collections::BTreeMap;
 

@@ -1,9 +1,9 @@
 //! Smallest sizes of areas by offset.
 ghost use Rattle.std.specs.Prelude.{◌≡◌, ◌∷◌, [], ◌++◌, List, IfOk, OnOk};
-ghost use Rattle.flash_map.specs.declared.areas.NumberedArea.{NumberedArea};
+ghost use Rattle.check_findings.specs.declared.areas.NumberedArea.{NumberedArea};
 ghost use Rattle.check_findings.specs.ImageFindings.{has_smaller, knows_smaller};
 
-use flash_map::NumberedArea;
+use crate::areas::NumberedArea;
 use std::alloc::{AllocError, Global};
 use std::collections::BTreeMap;
 

@@ -4,15 +4,17 @@ ghost use Rattle.std.specs.Prelude.{◌+◌, ◌*◌, ◌/◌, ◌≤◌, length
 ghost use Rattle.flash_format.specs.Flashmap.{area_len};
 ghost use Rattle.flash_map.specs.Fmap.{found_in};
 ghost use Rattle.flash_device.specs.Pages.{HasReadBy};
-ghost use Rattle.flash_map.specs.Faults.{by_device};
+ghost use Rattle.check_findings.specs.Faults.{by_device};
 ghost use Rattle.check_findings.specs.Lists.{GivesPart};
 ghost use Rattle.check_findings.specs.MapFindings.{map_findings};
-ghost use Rattle.flash_map.specs.Areas.{image_areas};
+ghost use Rattle.check_findings.specs.Areas.{image_areas};
 
+use crate::areas::{ImageMap, NumberedArea, image_map};
+use crate::fault::CheckFault;
 use crate::map::finding::MapFinding;
 use crate::map::findings::findings_of;
 use flash_device::{Flash, Paged};
-use flash_map::{CheckFault, FoundMap, ImageMap, NumberedArea, find_fmap_from, image_map};
+use flash_map::{FoundMap, find_fmap_from};
 use std::alloc::Global;
 
 /// A map's findings, with the map and its areas.

@@ -1,6 +1,7 @@
 //! Findings of a flash map.
 
-use flash_map::{FoundMap, NumberedArea};
+use crate::areas::NumberedArea;
+use flash_map::FoundMap;
 
 pub type MapFindings = Vec<MapFinding>;
 

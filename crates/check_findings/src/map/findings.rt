@@ -4,17 +4,18 @@ ghost use Rattle.std.specs.Prelude.{◌≡◌, ◌+◌, ◌^◌, ◌<◌, ◌≤
 ghost use Rattle.std.specs.List.{find, flat_map};
 ghost use Rattle.std.specs.Str.{is_utf8};
 ghost use lib.Chars.{codes};
-ghost use Rattle.flash_map.specs.Areas.{has_name};
+ghost use Rattle.check_findings.specs.Areas.{has_name};
 ghost use Rattle.flash_format.specs.Flashmap.{map_len};
 ghost use Rattle.check_findings.specs.Lists.{Gains};
 ghost use Rattle.check_findings.specs.MapFindings.{area_findings, findings_of, map_area_findings};
 ghost use Rattle.flash_device.specs.Pages.{Lists};
 
+use crate::areas::NumberedArea;
 use crate::lists::{Pushed, push_if};
 use crate::map::finding::{MapFinding, MapFindings};
 use crate::map::names::push_name_findings;
 use crate::map::overlaps::push_overlap_findings;
-use flash_map::{FoundMap, NumberedArea};
+use flash_map::FoundMap;
 use std::alloc::{AllocError, Global};
 
 /// Returns the findings in an image of `len` bytes. `next` is the map at the next higher offset.

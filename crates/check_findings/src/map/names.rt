@@ -1,13 +1,14 @@
 //! Areas with the name of an earlier area.
 
 ghost use Rattle.std.specs.List.{flat_map};
-ghost use Rattle.flash_map.specs.declared.areas.NumberedArea.{NumberedArea};
+ghost use Rattle.check_findings.specs.declared.areas.NumberedArea.{NumberedArea};
 ghost use Rattle.check_findings.specs.Lists.{Gains};
 ghost use Rattle.check_findings.specs.MapFindings.{name_findings};
 
+use crate::areas::NumberedArea;
 use crate::lists::{Pushed, push_if};
 use crate::map::finding::{MapFinding, MapFindings};
-use flash_map::{AreaNames, NumberedArea};
+use crate::names::AreaNames;
 use std::alloc::{AllocError, Global};
 use std::collections::BTreeMap;
 

@@ -5,10 +5,10 @@ ghost use Rattle.std.specs.List.{find};
 ghost use Rattle.check_findings.specs.Lists.{Gains};
 ghost use Rattle.check_findings.specs.MapFindings.{ends_inside, overlap, overlap_findings};
 
+use crate::areas::NumberedArea;
 use crate::lists::{Pushed, push};
 use crate::map::finding::{MapFinding, MapFindings};
 use flash_format::Area;
-use flash_map::NumberedArea;
 
 /// The limit of pairwise comparisons. All 65535 areas of a map would take seconds.
 const MOST_COMPARED: usize = 4096;

@@ -4,11 +4,12 @@ ghost use Rattle.flash_device.specs.Pages.{OnHonestIn, Lists, HasReadBy};
 ghost use Rattle.flash_device.specs.Regions.{LiesOn};
 ghost use Rattle.cbfs_walk.specs.Cells.{IsCellOn, IsCellIn, cell_in};
 ghost use Rattle.cbfs_walk.specs.Walks.{StandsIn};
-ghost use Rattle.flash_map.specs.Faults.{by_device};
+ghost use Rattle.check_findings.specs.Faults.{by_device};
 ghost use Rattle.check_findings.specs.Lists.{Gains};
 ghost use Rattle.check_findings.specs.RegionFindings.{cell_findings, region_findings};
 ghost use Rattle.check_findings.specs.RegionFindings.{walk_findings};
 
+use crate::fault::CheckFault;
 use crate::lists::push_if;
 use crate::region::count::Count;
 use crate::region::finding::{Content, HashFinding, Name, RegionFinding};
@@ -18,7 +19,7 @@ use cbfs_walk::{
     Cell, Step, Walk, WalkFault, cells_stand_in_their_image, check_hash, name, packing,
 };
 use flash_device::{Flash, Paged};
-use flash_map::{CheckFault, Region};
+use flash_map::Region;
 use std::alloc::Global;
 use std::hash::RandomState;
 

@@ -3,18 +3,19 @@ ghost use Rattle.std.specs.Prelude.{◌≡◌, ◌+◌, ◌-◌, ◌*◌, ◌/�
 ghost use Rattle.std.specs.List.{position_from, range_with_len};
 ghost use Rattle.flash_device.specs.Pages.{HasAnswered, OnHonestIn, HasReadBy, ReadsAs};
 ghost use Rattle.flash_device.specs.Regions.{Reaches};
-ghost use Rattle.flash_map.specs.Faults.{by_device};
+ghost use Rattle.check_findings.specs.Faults.{by_device};
 ghost use Rattle.check_findings.specs.Lists.{Gains};
 ghost use Rattle.check_findings.specs.RegionFindings.{first_filled, is_filled};
 ghost use Rattle.check_findings.specs.declared.region.finding.RegionFinding.TheVariants.{TailEntry};
 ghost use Rattle.flash_format.specs.Entry.{front};
 ghost use Rattle.check_findings.specs.RegionFindings.{tail_findings};
 
+use crate::fault::CheckFault;
 use crate::lists::push_if;
 use crate::region::finding::RegionFinding;
 use crate::region::start::has_entry_at;
 use flash_device::{Flash, FlashFault, PIECE, Paged};
-use flash_map::{CheckFault, Region};
+use flash_map::Region;
 
 /// Returns the offset of the first byte except 0xff and 0x00. The bytes begin at `at`.
 fn first_filled(bytes: &[u8], at: u64) -> Option<u64>

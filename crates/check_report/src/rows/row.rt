@@ -7,7 +7,7 @@ ghost use Rattle.check_report.specs.Fields.{seen_field};
 ghost use Rattle.check_report.specs.declared.rows.row.Verdict.TheVariants.{Bad, Remark};
 
 use crate::rows::field::{Field, Value};
-use flash_map::NumberedArea;
+use check_findings::NumberedArea;
 
 /// The classification of a row.
 #[derive(Clone, Copy)]

@@ -1,8 +1,8 @@
 //! Changes of areas, on failing devices.
 use crate::support::{ALL, Failing, FailingImages, equal, failing};
 use check_changes::{Areas, ChangeFault, Images, image_changes};
+use check_findings::NumberedArea;
 use flash_format::Area;
-use flash_map::NumberedArea;
 use std::process::Abort;
 
 const AREAS: [NumberedArea; 3] = [

@@ -1,8 +1,7 @@
 //! Checks of a map, on a failing device.
 use crate::report::support::image;
 use crate::support::{ALL, equal};
-use check_findings::check_map;
-use flash_map::CheckFault;
+use check_findings::{CheckFault, check_map};
 use std::process::Abort;
 
 fn changes_after(rt: &(impl Abort + AllocGlobal), calls: u64, expected: Result<usize, CheckFault>) {

@@ -1,8 +1,7 @@
 //! Checks of a region, on a failing device.
 use crate::report::support::{ONE, count, keys};
 use crate::support::{ALL, equal, failing};
-use check_findings::check_region;
-use flash_map::CheckFault;
+use check_findings::{CheckFault, check_region};
 use flash_store::Region;
 use std::process::Abort;
 use std::random::RandomSource;

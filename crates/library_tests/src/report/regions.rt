@@ -2,9 +2,8 @@
 use crate::report::support::{MAP, ONE, count, keys};
 use crate::support::{ALL, Failing, FailingImages, equal, failing};
 use check_changes::{ChangeFault, Images, region_changes};
-use check_findings::check_image;
+use check_findings::{NumberedArea, check_image};
 use flash_format::Area;
-use flash_map::NumberedArea;
 use std::process::Abort;
 use std::random::RandomSource;
 

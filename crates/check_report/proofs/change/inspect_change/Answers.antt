@@ -1,7 +1,7 @@
 use Rattle.std.proofs.Common.{◌≡◌, ◌∙◌, ap, subst, rules}
 use Rattle.flash_device.proofs.DeviceLemmas.{honest_still}
 use Rattle.check_findings.specs.ImageFindings.{cbfs_areas}
-use Rattle.flash_map.specs.Areas.{image_areas}
+use Rattle.check_findings.specs.Areas.{image_areas}
 use Rattle.check_report.proofs.change.inspect_change.Goals as goal
 
 pub returns-clause-checked : goal.returns-clause-checked

@@ -5,7 +5,7 @@ use Rattle.check_report.specs.Effects.{Adds}
 use Rattle.check_report.specs.FindingRows.{missing_row}
 use Rattle.check_report.specs.Fields.{name_value}
 use Rattle.check_findings.specs.Lists.{only_if}
-use Rattle.flash_map.specs.Areas.{has_name}
+use Rattle.check_findings.specs.Areas.{has_name}
 use Rattle.check_report.specs.Reports.{both_areas}
 use Rattle.check_report.proofs.kept.add_missing.Given as goal
 

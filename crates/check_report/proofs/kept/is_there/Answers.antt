@@ -2,7 +2,7 @@ use Rattle.std.proofs.Common.{rules, tests}
 use Rattle.std.proofs.lemmas.Iterator.{YieldsList-from_slice}
 use Rattle.std.proofs.lemmas.Iterator.Consumers.{YieldsList-from_chain}
 use Rattle.std.proofs.lemmas.Iterator.Search.{any_from_yields_List}
-use Rattle.flash_map.specs.Areas.{has_name}
+use Rattle.check_findings.specs.Areas.{has_name}
 use Rattle.check_report.proofs.kept.is_there.Goals as goal
 
 pub returns : goal.returns

@@ -1,8 +1,8 @@
 use Rattle.std.proofs.Common.{◌≤◌, ◌∙◌, [], get_or, Bool, length, ap, arith}
-use Rattle.flash_map.specs.declared.areas.NumberedArea.{NumberedArea}
+use Rattle.check_findings.specs.declared.areas.NumberedArea.{NumberedArea}
 use Rattle.flash_device.proofs.DeviceLemmas.{honest_still}
 use Rattle.flash_device.proofs.WindowLemmas.{HasRead-then}
-use Rattle.flash_map.specs.Areas.{area_end}
+use Rattle.check_findings.specs.Areas.{area_end}
 use Rattle.check_findings.specs.ImageFindings.{has_smaller, is_named_in, is_wanted}
 use Rattle.check_findings.proofs.ImageLemmas.Regions.{filtered, wanted_more}
 use Rattle.check_findings.proofs.image.choice.wanted_areas.Goals as goal

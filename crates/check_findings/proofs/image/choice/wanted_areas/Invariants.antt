@@ -1,7 +1,7 @@
 use Rattle.std.proofs.Common.{◌≡◌, ◌≤◌, All, length, take}
 use Rattle.std.specs.Prelude.{filter}
 use Rattle.flash_device.specs.Pages.{HasRead, OnHonest}
-use Rattle.flash_map.specs.Areas.{area_end}
+use Rattle.check_findings.specs.Areas.{area_end}
 use Rattle.check_findings.specs.ImageFindings.{has_smaller, is_named_in, is_wanted}
 use Rattle.check_findings.specs.ImageFindings.{is_named_in}
 use Rattle.check_findings.proofs.image.choice.wanted_areas.Given as goal

@@ -1,6 +1,6 @@
 use Rattle.std.proofs.Common.{◌∙◌, Option, ap, sym}
 use Rattle.std.specs.Prelude.{is_some}
-use Rattle.flash_map.specs.declared.areas.NumberedArea.{NumberedArea}
+use Rattle.check_findings.specs.declared.areas.NumberedArea.{NumberedArea}
 use Rattle.check_findings.proofs.ImageLemmas.NameLemmas.{missing_more}
 use Rattle.check_findings.proofs.image.names.push_missing.Goals as goal
 

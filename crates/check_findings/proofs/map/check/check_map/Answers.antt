@@ -2,10 +2,10 @@ use Rattle.std.proofs.Common.{◌≡◌, ◌∙◌, ℕ, ◌+◌, List, length, 
 use Rattle.flash_map.specs.declared.search.FoundMap.{FoundMap}
 use Rattle.flash_map.specs.Fmap.{found_from, found_in}
 use Rattle.flash_device.proofs.DeviceLemmas.{honest_still}
-use Rattle.flash_map.specs.declared.areas.NumberedArea.{NumberedArea}
+use Rattle.check_findings.specs.declared.areas.NumberedArea.{NumberedArea}
 use Rattle.check_findings.specs.declared.map.finding.MapFinding.{MapFinding}
 use Rattle.check_findings.specs.MapFindings.{findings_of, map_findings}
-use Rattle.flash_map.specs.Areas.{image_areas}
+use Rattle.check_findings.specs.Areas.{image_areas}
 use Rattle.check_findings.proofs.map.check.check_map.Goals as goal
 use Rattle.check_findings.proofs.map.check.check_map.Goals.{in-Some+in_ok-next-in-Some+in_ok-findings-in-Some, in-None+in_ok-findings-in-None}
 

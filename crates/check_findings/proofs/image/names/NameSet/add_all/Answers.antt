@@ -3,7 +3,7 @@ use Rattle.std.proofs.Common.{◌≡◌, ◌++◌, take}
 use Rattle.check_findings.specs.ImageFindings.{has_one_of, is_named_in}
 use Rattle.check_findings.specs.ImageFindings.{names_in}
 use Rattle.check_findings.proofs.ImageLemmas.NameLemmas.{has_more, one_more}
-use Rattle.flash_map.proofs.NameLemmas.{one_taken}
+use Rattle.check_findings.proofs.FirstAreas.{one_taken}
 use Rattle.check_findings.proofs.image.names.NameSet.add_all.Goals as goal
 
 pub loop-name-preserved : goal.loop-name-preserved

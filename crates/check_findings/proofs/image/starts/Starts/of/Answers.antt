@@ -1,6 +1,6 @@
 use Rattle.std.proofs.Common.{◌≡◌}
 use Rattle.check_findings.specs.ImageFindings.{has_smaller, knows_smaller}
-use Rattle.flash_map.proofs.NameLemmas.{one_taken}
+use Rattle.check_findings.proofs.FirstAreas.{one_taken}
 use Rattle.check_findings.proofs.image.starts.Starts.of.Goals as goal
 
 pub loop-area-preserved : goal.loop-area-preserved

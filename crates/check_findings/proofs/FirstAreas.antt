@@ -11,10 +11,10 @@ use Rattle.std.proofs.lemmas.Map.Text.{btree_map_updates_str}
 use Rattle.std.proofs.lemmas.Slice.Eq.{bytes_eq-Decides}
 use Rattle.std.proofs.lemmas.Grind.{common_steps}
 use Rattle.flash_format.specs.Flashmap.{text_of}
-use Rattle.flash_map.specs.declared.areas.NumberedArea.{NumberedArea}
-use Rattle.flash_map.specs.declared.names.AreaNames.{AreaNames}
-use Rattle.flash_map.specs.Areas.{has_name}
-use Rattle.flash_map.specs.Areas.{area_for, Notes}
+use Rattle.check_findings.specs.declared.areas.NumberedArea.{NumberedArea}
+use Rattle.check_findings.specs.declared.names.AreaNames.{AreaNames}
+use Rattle.check_findings.specs.Areas.{has_name}
+use Rattle.check_findings.specs.Areas.{area_for, Notes}
 
 -- the table has the area's name, or not
 is_known-in : (names : AreaNames) (before : List NumberedArea) (a : NumberedArea) (key name : List ℕ) (known : Bool) → key ≡ text_of a.area.name → is_some (area_for names key) ≡ known → Notes names before → has_name name a ≡ true → is_some (find (has_name name) before) ≡ known

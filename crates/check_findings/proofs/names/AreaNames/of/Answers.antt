@@ -1,6 +1,6 @@
-use Rattle.flash_map.specs.Areas.{Notes}
-use Rattle.flash_map.proofs.NameLemmas.{one_taken}
-use Rattle.flash_map.proofs.names.AreaNames.of.Goals as goal
+use Rattle.check_findings.specs.Areas.{Notes}
+use Rattle.check_findings.proofs.FirstAreas.{one_taken}
+use Rattle.check_findings.proofs.names.AreaNames.of.Goals as goal
 
 pub loop-area-preserved : goal.loop-area-preserved
 loop-area-preserved c = one_taken (Notes c.loop-area.names) (Notes c.add.new.self) c.args.areas.now c.loop-area.area-index _ c.loop-area-test.true (c.in_ok-add.ensures _) c.loop-area.invariant

@@ -1,7 +1,7 @@
 -- Errors of a check.
 use Rattle.std.specs.Prelude.{ℕ}
-use Rattle.flash_map.specs.declared.fault.CheckFault.{CheckFault}
-use Rattle.flash_map.specs.declared.fault.CheckFault.TheVariants as faults
+use Rattle.check_findings.specs.declared.fault.CheckFault.{CheckFault}
+use Rattle.check_findings.specs.declared.fault.CheckFault.TheVariants as faults
 
 -- the number of refused device calls in a fault
 abbrev pub by_device : CheckFault → ℕ

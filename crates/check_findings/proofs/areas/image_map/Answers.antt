@@ -1,7 +1,7 @@
 use Rattle.std.proofs.Common.{sym}
 use Rattle.flash_device.proofs.DeviceLemmas.{honest_still}
-use Rattle.flash_map.specs.Areas.{image_areas}
-use Rattle.flash_map.proofs.areas.image_map.Goals as goal
+use Rattle.check_findings.specs.Areas.{image_areas}
+use Rattle.check_findings.proofs.areas.image_map.Goals as goal
 
 pub returns-in_default-clause-areas : goal.returns-in_default-clause-areas
 unfolding image_areas

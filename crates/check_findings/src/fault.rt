@@ -1,6 +1,6 @@
 //! Errors of searches that allocate.
 ghost use Rattle.std.specs.Prelude.{◌≡◌};
-ghost use Rattle.flash_map.specs.declared.fault.CheckFault.TheVariants as faults;
+ghost use Rattle.check_findings.specs.declared.fault.CheckFault.TheVariants as faults;
 
 use flash_device::FlashFault;
 use std::alloc::{AllocError, AllocFailed};

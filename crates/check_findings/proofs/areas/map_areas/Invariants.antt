@@ -1,8 +1,8 @@
 use Rattle.std.proofs.Common.{◌≡◌, ◌+◌, drop, length}
 use Rattle.flash_format.specs.Flashmap.{areas_from}
 use Rattle.flash_device.specs.Pages.{HasRead, OnHonest}
-use Rattle.flash_map.proofs.MapAreas.{numbered_from}
-use Rattle.flash_map.proofs.areas.map_areas.Given as goal
+use Rattle.check_findings.proofs.MapAreas.{numbered_from}
+use Rattle.check_findings.proofs.areas.map_areas.Given as goal
 
 abbrev pub invariant-loop-number : goal.invariant-loop-number
 invariant-loop-number g l =

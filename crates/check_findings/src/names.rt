@@ -1,7 +1,7 @@
 //! Areas by name.
 
 ghost use Rattle.std.specs.Prelude.{◌≡◌, [], ◌∷◌, ◌++◌, List, IfOk, OnOk};
-ghost use Rattle.flash_map.specs.declared.areas.NumberedArea.{NumberedArea};
+ghost use Rattle.check_findings.specs.declared.areas.NumberedArea.{NumberedArea};
 
 use crate::areas::NumberedArea;
 use std::alloc::{AllocError, Global};
@@ -14,7 +14,7 @@ pub struct AreaNames<'a> {
 }
 
 impl<'a> AreaNames<'a> {
-    ghost use Rattle.flash_map.specs.Areas.{area_for, Notes};
+    ghost use Rattle.check_findings.specs.Areas.{area_for, Notes};
 
     /// Returns the names of these areas.
     pub fn of(alloc: Global, areas: &'a [NumberedArea]) -> Result<AreaNames<'a>, AllocError>

@@ -3,14 +3,14 @@
 ghost use Rattle.std.specs.Prelude.{◌≡◌, ◌*◌, ◌≤◌, length, IfOk, IfSome};
 ghost use Rattle.flash_format.specs.Flashmap.{area_len};
 ghost use Rattle.flash_device.specs.Pages.{OnHonest, Lists, HasReadBy};
-ghost use Rattle.flash_map.specs.Areas.{image_areas, map_areas};
-ghost use Rattle.flash_map.specs.Faults.{by_device};
+ghost use Rattle.check_findings.specs.Areas.{image_areas, map_areas};
+ghost use Rattle.check_findings.specs.Faults.{by_device};
 ghost use Rattle.flash_map.specs.Fmap.{found_in, map_end, map_reads};
 
 use crate::fault::CheckFault;
-use crate::search::{FoundMap, area, find_fmap};
 use flash_device::{Flash, Paged};
 use flash_format::Area;
+use flash_map::{FoundMap, area, find_fmap};
 use std::alloc::Global;
 
 /// An area with its index in the map.

@@ -1,8 +1,8 @@
 use Rattle.std.proofs.Common.{◌∙◌, Option, ap, sym}
 use Rattle.std.specs.Prelude.{is_some}
-use Rattle.flash_map.specs.declared.areas.NumberedArea.{NumberedArea}
-use Rattle.flash_map.proofs.NameLemmas.{notes-known, notes-new}
-use Rattle.flash_map.proofs.names.AreaNames.add.Goals as goal
+use Rattle.check_findings.specs.declared.areas.NumberedArea.{NumberedArea}
+use Rattle.check_findings.proofs.FirstAreas.{notes-known, notes-new}
+use Rattle.check_findings.proofs.names.AreaNames.add.Goals as goal
 
 pub returns-in_ok-insert : goal.returns-in_ok-insert
 returns-in_ok-insert c = λ before.

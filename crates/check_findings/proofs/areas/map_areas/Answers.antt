@@ -1,8 +1,8 @@
 use Rattle.std.proofs.Common.{◌+◌, [], ◌∷◌, length, ap, arith, length-append}
 use Rattle.flash_device.proofs.DeviceLemmas.{honest_still}
 use Rattle.flash_device.proofs.WindowLemmas.{HasRead-then}
-use Rattle.flash_map.proofs.MapAreas.{areas-more}
-use Rattle.flash_map.proofs.areas.map_areas.Goals as goal
+use Rattle.check_findings.proofs.MapAreas.{areas-more}
+use Rattle.check_findings.proofs.areas.map_areas.Goals as goal
 
 pub loop-number-preserved : goal.loop-number-preserved
 loop-number-preserved g c =

@@ -8,8 +8,8 @@ use Rattle.std.specs.Option.{option_map_or}
 use Rattle.flash_format.specs.declared.flashmap.Area.{Area}
 use Rattle.flash_format.specs.Flashmap.{is_area}
 use Rattle.flash_map.specs.declared.search.FoundMap.{FoundMap}
-use Rattle.flash_map.specs.declared.areas.NumberedArea.{NumberedArea}
-use Rattle.flash_map.specs.declared.names.AreaNames.{AreaNames}
+use Rattle.check_findings.specs.declared.areas.NumberedArea.{NumberedArea}
+use Rattle.check_findings.specs.declared.names.AreaNames.{AreaNames}
 use Rattle.flash_map.specs.Fmap.{areas_of, found_in}
 
 abbrev pub area_end : Area → ℕ
