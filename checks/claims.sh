@@ -190,7 +190,7 @@ format() {
 listed_refusals() {
     # (with the place and the word of the page's example)
     awk '/\/\/\/ [0-9]+: / { number = $2 + 0 } /#\[error\("/ { text = $0; sub(/.*#\[error\("/, "", text); sub(/".*/, "", text); print number, text }' \
-        "$top/crates/cbfs_commands/src/refusal.rt" | sed 's/{at:#x}: {}/0x40: extent/' > sources
+        "$top/crates/cbfs_requests/src/refusal.rt" | sed 's/{at:#x}: {}/0x40: extent/' > sources
     section cbfstool.1 DIAGNOSTICS | sed -n 's/^\.It \([0-9]*\) Qq \(.*\)/\1 \2/p' > listed
     diff sources listed > differ || fail "claims: cbfstool.1 has other refusals: $(cat differ)"
     sed -n '/^## Refusals/,/^## fmaptool/s/^| \([0-9]*\) | `\([^`]*\)` |.*/\1 \2/p' "$top/docs/FORMAT.md" | diff listed - > differ ||
@@ -198,7 +198,7 @@ listed_refusals() {
     [ "$(wc -l < listed)" -gt 20 ] || fail "claims: only $(wc -l < listed) refusals"
     section cbfstool.1 DIAGNOSTICS | awk '/^\.It 9 / { inside = 1 } /^\.It 10 / { inside = 0 } inside' | quoted |
         sed 's/ (.*//' | sort > kinds
-    sed -n '/^fn damage/,/^}/s/.*=> "\(.*\)",/\1/p' "$top/crates/cbfs_commands/src/refusal.rt" | sort | diff kinds - ||
+    sed -n '/^fn damage/,/^}/s/.*=> "\(.*\)",/\1/p' "$top/crates/cbfs_requests/src/refusal.rt" | sort | diff kinds - ||
         fail "claims: cbfstool.1 has other kinds of damage"
     mv listed refusals
     # (each kind of damage has the number that it has in the sources)

@@ -3,7 +3,7 @@ use Rattle.std.proofs.lemmas.Grind.{common_steps}
 use Rattle.std.proofs.Common.{◌≡◌, ℕ, List, [], Option, Err, arith}
 use Rattle.std.proofs.KnownBytes.{Appends-nil}
 use Rattle.cbfs_commands.proofs.RefusedEdits.{LeavesOr}
-use Rattle.cbfs_commands.specs.declared.refusal.Refusal.TheVariants as refusals
+use Rattle.cbfs_requests.specs.declared.refusal.Refusal.TheVariants as refusals
 use Rattle.cbfs_commands.specs.Outcomes.{Outcome}
 use Rattle.cbfs_commands.specs.Outcomes.{CommandResult, PrintsOut}
 

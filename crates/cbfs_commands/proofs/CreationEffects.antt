@@ -8,12 +8,12 @@ use Rattle.flash_device.specs.Regions.{Range}
 use Rattle.cbfs_edit.specs.Changes.{formatted}
 use Rattle.flash_device.specs.Pages.{OnHonest}
 use Rattle.cbfs_commands.specs.declared.create.plan.Plan.{Plan}
-use Rattle.cbfs_commands.specs.declared.refusal.Refusal.{Refusal}
-use Rattle.cbfs_commands.specs.declared.refusal.Refusal.TheVariants as refusals
+use Rattle.cbfs_requests.specs.declared.refusal.Refusal.{Refusal}
+use Rattle.cbfs_requests.specs.declared.refusal.Refusal.TheVariants as refusals
 use Rattle.cbfs_commands.specs.Creations.{created_image, plan_for}
-use Rattle.cbfs_commands.specs.Effects.{HasEffect, OnAllHonest, create, effect}
+use Rattle.cbfs_commands.specs.Effects.{HasEffect, OnAllHonest, effect}
+use Rattle.cbfs_requests.specs.Requests.{by_device, by_source, create}
 use Rattle.cbfs_commands.proofs.RefusedEdits.{LeavesOr}
-use Rattle.cbfs_commands.specs.Refusals.{by_device, by_source}
 use Rattle.cbfs_commands.specs.Outcomes.{CommandResult}
 
 whole-image : (image now : List ℕ) → length now ≡ length image → SameOutside 0 (length image) image now

@@ -15,7 +15,7 @@ use Rattle.cbfs_edit.specs.declared.place.Place.{Place}
 use Rattle.cbfs_edit.specs.declared.place.Spot.{Spot}
 use Rattle.cbfs_edit.proofs.AdditionLemmas.{added_length}
 use Rattle.cbfs_edit.proofs.SearchLaws.{additions_found}
-use Rattle.cbfs_commands.specs.Refusals.{fault_or, store_refusal}
+use Rattle.cbfs_requests.specs.Requests.{fault_or, store_refusal}
 use Rattle.cbfs_commands.specs.Outcomes.{extract_region}
 use Rattle.cbfs_commands.specs.Outcomes.{refuses, shows}
 use Rattle.cbfs_commands.specs.Laws.{AdditionsAreExtracted}

@@ -13,9 +13,9 @@ use Rattle.flash_device.proofs.DeviceLemmas.{honest_still, LiesOn-calls}
 use Rattle.flash_device.proofs.WindowLemmas.{HasRead-none, HasRead-then, HasRead-within}
 use Rattle.cbfs_walk.specs.Walks.{StandsIn}
 use Rattle.cbfs_walk.specs.declared.cell.Cell.{Cell}
-use Rattle.cbfs_commands.specs.declared.refusal.Refusal.{Refusal}
-use Rattle.cbfs_commands.specs.declared.refusal.Refusal.TheVariants as refusals
-use Rattle.cbfs_commands.specs.Refusals.{by_device, edit_refusal}
+use Rattle.cbfs_requests.specs.declared.refusal.Refusal.{Refusal}
+use Rattle.cbfs_requests.specs.declared.refusal.Refusal.TheVariants as refusals
+use Rattle.cbfs_requests.specs.Requests.{by_device, edit_refusal}
 use Rattle.cbfs_edit.specs.Removals.{edit_fault_of}
 use Rattle.cbfs_walk.specs.declared.walk.WalkFault.{WalkFault}
 use Rattle.cbfs_commands.specs.Outcomes.{CommandResult, HasOutput, IsCellOf, Printout, refuses, shows, PrintsOut}

@@ -22,13 +22,13 @@ use Rattle.cbfs_edit.specs.Places.{placing_in}
 use Rattle.cbfs_edit.specs.declared.fault.EditFault.{EditFault}
 use Rattle.cbfs_edit.specs.declared.fault.EditFault.TheVariants as edit
 use Rattle.cbfs_edit.specs.declared.place.Spot.{Spot}
-use Rattle.cbfs_commands.specs.declared.refusal.Refusal.{Refusal}
-use Rattle.cbfs_commands.specs.declared.refusal.Refusal.TheVariants as refusals
+use Rattle.cbfs_requests.specs.declared.refusal.Refusal.{Refusal}
+use Rattle.cbfs_requests.specs.declared.refusal.Refusal.TheVariants as refusals
 use Rattle.cbfs_commands.specs.Creations.{plan_for, region_places}
-use Rattle.cbfs_commands.specs.Effects.{effect, edits, Request}
+use Rattle.cbfs_commands.specs.Effects.{effect, edits}
+use Rattle.cbfs_requests.specs.Requests.{IsFault, Request, edit_refusal, fault_or, store_refusal}
 use Rattle.cbfs_commands.specs.Outcomes.{layout}
 use Rattle.cbfs_commands.specs.Outcomes.{print_region, printed_component, printed_in}
-use Rattle.cbfs_commands.specs.Refusals.{IsFault, edit_refusal, fault_or, store_refusal}
 use Rattle.cbfs_commands.proofs.OutputParts.{walk_refusal}
 use Rattle.cbfs_commands.specs.Outcomes.{Printout, refuses}
 

@@ -19,10 +19,10 @@ use Rattle.flash_device.specs.Regions.{Range}
 use Rattle.flash_map.specs.Regions.{region_by_area}
 use Rattle.flash_map.proofs.FmapLemmas.{head_some, valid_fits}
 use Rattle.cbfs_commands.specs.declared.create.plan.Plan.{Plan}
-use Rattle.cbfs_commands.specs.declared.refusal.Refusal.{Refusal}
-use Rattle.cbfs_commands.specs.declared.refusal.Refusal.TheVariants as refusals
+use Rattle.cbfs_requests.specs.declared.refusal.Refusal.{Refusal}
+use Rattle.cbfs_requests.specs.declared.refusal.Refusal.TheVariants as refusals
 use Rattle.cbfs_commands.specs.Creations.{IsPlace, first_area, share_bytes, plan_for, region_places, some_overlap}
-use Rattle.cbfs_commands.specs.Refusals.{fault_or, store_refusal}
+use Rattle.cbfs_requests.specs.Requests.{fault_or, store_refusal}
 use Rattle.cbfs_commands.proofs.RegionPlaces.{inside_lies}
 
 -- each step succeeded

@@ -19,10 +19,10 @@ use Rattle.cbfs_walk.specs.declared.walk.Step.TheVariants as steps
 use Rattle.cbfs_walk.specs.declared.walk.WalkFault.{WalkFault}
 use Rattle.cbfs_walk.specs.declared.walk.WalkFault.TheVariants as faults
 use Rattle.cbfs_walk.proofs.Shapes.{shaped_step}
-use Rattle.cbfs_commands.specs.declared.refusal.Refusal.{Refusal}
-use Rattle.cbfs_commands.specs.declared.refusal.Refusal.TheVariants as refusals
+use Rattle.cbfs_requests.specs.declared.refusal.Refusal.{Refusal}
+use Rattle.cbfs_requests.specs.declared.refusal.Refusal.TheVariants as refusals
 use Rattle.cbfs_commands.specs.Outcomes.{print_region}
-use Rattle.cbfs_commands.specs.Refusals.{by_device}
+use Rattle.cbfs_requests.specs.Requests.{by_device}
 use Rattle.cbfs_commands.specs.Rows.{rows_from, shown_cell}
 use Rattle.cbfs_commands.specs.Outcomes.{CommandResult, HasOutput, Printout, shows, refuses}
 use Rattle.cbfs_commands.proofs.OutputParts.{walk_refusal, ToldSoFar, so_far-ends, so_far-more, text_then, printout-after, printout-none, printout-refusal, printout-stopped}

@@ -15,10 +15,10 @@ use Rattle.cbfs_edit.specs.declared.place.Spot.{Spot}
 use Rattle.cbfs_edit.specs.Additions.{new_component}
 use Rattle.cbfs_edit.specs.Changes.{IsAddition, AddLeavesWhole, LeavesWhole, IsRemoval, by_fault}
 use Rattle.cbfs_edit.proofs.AdditionLemmas.{AddLeavesBefore}
-use Rattle.cbfs_commands.specs.declared.refusal.Refusal.TheVariants as refusals
-use Rattle.cbfs_commands.specs.Effects.{add, effect, on_region, remove}
+use Rattle.cbfs_requests.specs.declared.refusal.Refusal.TheVariants as refusals
+use Rattle.cbfs_commands.specs.Effects.{effect}
+use Rattle.cbfs_requests.specs.Requests.{IsFault, add, edit_refusal, on_region, remove}
 use Rattle.cbfs_commands.specs.Outcomes.{Outcome}
-use Rattle.cbfs_commands.specs.Refusals.{IsFault, edit_refusal}
 use Rattle.cbfs_commands.specs.Outcomes.{CommandResult}
 
 -- the answer and the image of an outcome, or a fault

@@ -6,9 +6,9 @@ use Rattle.std.proofs.Common.{◌≡◌, ℕ, false, List, Result, Ok, Err, refl
 use Rattle.flash_device.specs.Device.{overwritten}
 use Rattle.flash_device.specs.Regions.{Range, bytes_in}
 use Rattle.flash_map.specs.Regions.{region_of}
-use Rattle.cbfs_commands.specs.declared.refusal.Refusal.{Refusal}
-use Rattle.cbfs_commands.specs.Effects.{changes, effect, edits, Task, on_region}
-use Rattle.cbfs_commands.specs.Refusals.{fault_or}
+use Rattle.cbfs_requests.specs.declared.refusal.Refusal.{Refusal}
+use Rattle.cbfs_commands.specs.Effects.{changes, effect, edits}
+use Rattle.cbfs_requests.specs.Requests.{Task, fault_or, on_region}
 use Rattle.cbfs_commands.specs.Outcomes.{Outcome}
 use Rattle.cbfs_commands.proofs.RegionPlaces.{alike_over, region_lies}
 

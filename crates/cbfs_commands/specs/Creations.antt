@@ -16,9 +16,9 @@ use Rattle.flash_map.specs.Regions.{region_by_area}
 use Rattle.cbfs_walk.specs.Shapes.{has_bad_size}
 use Rattle.cbfs_edit.specs.Changes.{formatted}
 use Rattle.cbfs_commands.specs.declared.create.plan.Plan.{Plan}
-use Rattle.cbfs_commands.specs.declared.refusal.Refusal.{Refusal}
-use Rattle.cbfs_commands.specs.declared.refusal.Refusal.TheVariants as refusals
-use Rattle.cbfs_commands.specs.Refusals.{by_source, fault_or, store_refusal}
+use Rattle.cbfs_requests.specs.declared.refusal.Refusal.{Refusal}
+use Rattle.cbfs_requests.specs.declared.refusal.Refusal.TheVariants as refusals
+use Rattle.cbfs_requests.specs.Requests.{by_source, fault_or, store_refusal}
 
 -- An answer by the source's content, unless a read fails, after at most n reads.
 pub record AnswersBySource {S T : Type 0} (facts : S → Device) (n : ℕ) (source source_now : S)

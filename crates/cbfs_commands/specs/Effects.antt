@@ -1,17 +1,11 @@
 -- The meaning of commands: outcome, allowed changes, used devices, and effect of an interruption.
-use Rattle.std.specs.Prelude.{ℕ, Bool, List, map, ◌≡◌, ◌≢◌, ◌+◌, ◌/◌, ◌<◌, ◌⊎◌, true, false, [], length}
+use Rattle.std.specs.Prelude.{ℕ, Bool, List, [], ◌≡◌, ◌≢◌, ◌+◌, ◌/◌, ◌<◌, ◌⊎◌, true, false, length}
 use Rattle.std.specs.Prelude.{Option, Some, None, MatchOption, Result, Ok, Err}
 use Rattle.std.specs.Prelude.{IsErrOf, IsTrue, ◌==◌, if◌then◌else◌}
-use Rattle.cbfs_edit.specs.declared.addition.HashChoice.{HashChoice}
-use Rattle.cbfs_edit.specs.declared.place.Spot.{Spot}
-use Rattle.cbfs_commands.specs.declared.command.Command.{Command}
-use Rattle.cbfs_commands.specs.declared.command.Command.TheVariants.{Print, Layout, Extract, Add}
-use Rattle.cbfs_commands.specs.declared.command.Command.TheVariants.{Create, Read, Remove, Write}
 use Rattle.std.specs.Result.{ForOk, result_map_both, result_ok, result_unwrap_or}
 use Rattle.flash_format.specs.Flashmap.{area_len}
 use Rattle.flash_device.specs.Device.{FirstWritten, PartWritten, SameOutside, overwritten}
-use Rattle.flash_device.specs.Device.{Device, Calls, call_limit}
-use Rattle.flash_device.specs.Device.{fault_count}
+use Rattle.flash_device.specs.Device.{Device, Calls, call_limit, fault_count}
 use Rattle.flash_device.specs.Pages.{OnHonest}
 use Rattle.flash_device.specs.Regions.{Range, bytes_in}
 use Rattle.flash_map.specs.Regions.{region_of}
@@ -19,40 +13,15 @@ use Rattle.flash_format.specs.Components.{components}
 use Rattle.cbfs_edit.specs.Additions.{added, addition_in, new_component}
 use Rattle.cbfs_edit.specs.Removals.{removal_in, removed}
 use Rattle.cbfs_edit.specs.Changes.{AddLeavesWhole, LeavesWhole}
-use Rattle.cbfs_commands.specs.declared.refusal.Refusal.{Refusal}
-use Rattle.cbfs_commands.specs.declared.refusal.Refusal.TheVariants as refusals
+use Rattle.cbfs_requests.specs.declared.refusal.Refusal.{Refusal}
+use Rattle.cbfs_requests.specs.declared.refusal.Refusal.TheVariants as refusals
+use Rattle.cbfs_requests.specs.Requests.{IsFault, Request, add, by_device, by_source, create}
+use Rattle.cbfs_requests.specs.Requests.{edit_refusal, extract, fault_or, layout, on_region, print}
+use Rattle.cbfs_requests.specs.Requests.{read, remove, store_refusal, write}
 use Rattle.cbfs_commands.specs.Creations.{created_image, plan_for}
 use Rattle.cbfs_commands.specs.Outcomes as outcomes
-use Rattle.cbfs_commands.specs.Refusals.{IsFault, by_device, by_source, edit_refusal}
-use Rattle.cbfs_commands.specs.Refusals.{fault_or, store_refusal}
-use Rattle.cbfs_commands.specs.Outcomes.{Outcome, print_region}
-use Rattle.cbfs_commands.specs.Outcomes.{extract_region, printed_in}
+use Rattle.cbfs_commands.specs.Outcomes.{Outcome, print_region, extract_region, printed_in}
 use Rattle.cbfs_commands.specs.Outcomes.{CommandResult, Printout, shows}
-
--- a request on a region
-pub data Task : Type 0 where
-  print : Bool → Task
-  extract : List ℕ → Task
-  add : List ℕ → ℕ → HashChoice → Spot → Task
-  remove : List ℕ → Task
-  read : Task
-  write : Task
-
--- a request on a named region, or on the whole image
-pub data Request : Type 0 where
-  on_region : List ℕ → Task → Request
-  layout : Request
-  create : List (List ℕ) → Request
-
-abbrev pub request_of : Command → Request
-request_of (Print region verbose) = on_region region.now (print verbose)
-request_of Layout = layout
-request_of (Extract region name) = on_region region.now (extract name.now)
-request_of (Add region name kind hash spot) = on_region region.now (add name.now kind hash spot)
-request_of (Remove region name) = on_region region.now (remove name.now)
-request_of (Read region) = on_region region.now read
-request_of (Write region) = on_region region.now write
-request_of (Create regions) = create (map (λ name. name.now) regions.items)
 
 -- The effect of a command: its outcome by image and source, the region with allowed changes, the
 -- maximum number of source calls (0 if it reads no source), whether it writes output, and the

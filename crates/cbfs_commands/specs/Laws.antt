@@ -14,11 +14,10 @@ use Rattle.cbfs_edit.specs.Changes.{IsOneFreeCell}
 use Rattle.cbfs_edit.specs.declared.place.Place.{Place}
 use Rattle.cbfs_commands.specs.declared.create.plan.Plan.{Plan}
 use Rattle.cbfs_commands.specs.Creations.{IsPlace, created_image}
-use Rattle.cbfs_commands.specs.Effects.{effect, on_region, write, Request, Task}
-use Rattle.cbfs_commands.specs.Outcomes.{extract_region, printed_in}
-use Rattle.cbfs_commands.specs.Refusals.{IsFault}
+use Rattle.cbfs_commands.specs.Effects.{effect}
+use Rattle.cbfs_requests.specs.Requests.{IsFault, Request, Task, on_region, write}
+use Rattle.cbfs_commands.specs.Outcomes.{extract_region, printed_in, shows}
 use Rattle.cbfs_commands.specs.Rows.{area_line, map_line, shown_cell}
-use Rattle.cbfs_commands.specs.Outcomes.{shows}
 
 pub record OutcomesAreOfTheImage : Type 0 where
   -- no outcome's own answer is a fault of the device, the output or the source

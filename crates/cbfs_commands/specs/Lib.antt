@@ -2,5 +2,4 @@ pub mod Creations
 pub mod Effects
 pub mod Laws
 pub mod Outcomes
-pub mod Refusals
 pub mod Rows

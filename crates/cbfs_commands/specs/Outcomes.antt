@@ -3,28 +3,26 @@ use Rattle.std.specs.Prelude.{◌≡◌, ◌==◌, ℕ, ◌<◌, ◌≤◌, ◌�
 use Rattle.std.specs.Prelude.{Err, length, take, if◌then◌else◌}
 use Rattle.std.specs.List.{flat_map}
 use Rattle.std.specs.Io.KnownBytes.{Appends}
-use Rattle.flash_device.specs.Device.{Device}
+use Rattle.flash_device.specs.Device.{Device, AppendsPart}
 use Rattle.flash_device.specs.Pages.{Pages, HasReadBy, OnHonest, OnHonestIn}
 use Rattle.flash_device.specs.declared.sink.Sink.{Ghosts as SinkOf}
-use Rattle.flash_device.specs.Device.{AppendsPart}
-use Rattle.flash_device.specs.Regions.{Range, LiesOn}
+use Rattle.flash_device.specs.Regions.{Range, LiesOn, bytes_in}
 use Rattle.cbfs_walk.specs.Cells.{IsCellIn}
 use Rattle.cbfs_walk.specs.Walks.{StandsIn}
 use Rattle.cbfs_walk.specs.declared.cell.Cell.{Cell}
-use Rattle.cbfs_commands.specs.declared.refusal.Refusal.{Refusal}
-use Rattle.cbfs_commands.specs.declared.refusal.Refusal.TheVariants as refusals
+use Rattle.cbfs_requests.specs.declared.refusal.Refusal.{Refusal}
+use Rattle.cbfs_requests.specs.declared.refusal.Refusal.TheVariants as refusals
 use Rattle.std.specs.Option.{option_map_or}
 use Rattle.std.specs.Result.{result_map_both}
 use Rattle.flash_format.specs.Components.{Component, packing}
 use Rattle.flash_format.specs.Cut.{cut}
-use Rattle.flash_device.specs.Regions.{bytes_in}
 use Rattle.flash_map.specs.Regions.{region_of}
 use Rattle.cbfs_walk.specs.Search.{component_in, not_found}
 use Rattle.cbfs_walk.specs.CellReadings.{place_after}
 use Rattle.cbfs_walk.specs.Shapes.{shape_fault}
 use Rattle.cbfs_edit.specs.Removals.{edit_fault_of}
 use Rattle.flash_map.specs.Fmap.{areas_of, found_in}
-use Rattle.cbfs_commands.specs.Refusals.{by_device, edit_refusal, fault_or, store_refusal}
+use Rattle.cbfs_requests.specs.Requests.{by_device, edit_refusal, fault_or, store_refusal}
 use Rattle.cbfs_commands.specs.Rows.{area_line, map_line, rows_from}
 
 abbrev pub CommandResult : Type 0

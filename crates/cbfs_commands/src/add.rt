@@ -1,9 +1,10 @@
 //! The command `add`.
 
-ghost use Rattle.cbfs_commands.specs.Effects.{HasEffect, add, effect, on_region};
+ghost use Rattle.cbfs_commands.specs.Effects.{HasEffect, effect};
+ghost use Rattle.cbfs_requests.specs.Requests.{add, on_region};
 
-use crate::refusal::Refusal;
 use cbfs_edit::{HashChoice, Spot};
+use cbfs_requests::Refusal;
 use flash_device::{Flash, Paged, Source};
 
 /// Adds the source to the region as a component's content.

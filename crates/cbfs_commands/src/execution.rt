@@ -1,19 +1,19 @@
 //! Runs a command.
 
 ghost use Rattle.std.specs.Prelude.{◌≡◌, ◌<◌, ◌≤◌, false, IsErrOf};
-ghost use Rattle.cbfs_commands.specs.Effects.{HasEffect, OnAllHonest, effect, request_of};
+ghost use Rattle.cbfs_commands.specs.Effects.{HasEffect, OnAllHonest, effect};
+ghost use Rattle.cbfs_requests.specs.Requests.{request_of};
 ghost use Rattle.cbfs_commands.specs.Outcomes.{PrintsOut};
 
 use crate::add::add;
-use crate::command::Command;
 use crate::create::create;
 use crate::extract::extract;
 use crate::layout::layout;
 use crate::print::print;
 use crate::read::read;
-use crate::refusal::Refusal;
 use crate::remove::remove;
 use crate::write::write;
+use cbfs_requests::{Command, Refusal};
 use flash_device::{Flash, Paged, Sink, Source};
 
 /// Runs a command on an image, without allocating memory.

@@ -10,7 +10,7 @@ ghost use Rattle.cbfs_commands.specs.Outcomes.{HasOutput, IsCellOf};
 ghost use Rattle.flash_device.specs.Device.{call_limit};
 
 use crate::read::copy_out;
-use crate::refusal::Refusal;
+use cbfs_requests::Refusal;
 use cbfs_walk::{Cell, cells_stand_in_their_image, find, packing};
 use flash_device::{Flash, Paged, Sink};
 use flash_map::Region;

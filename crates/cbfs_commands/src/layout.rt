@@ -8,9 +8,9 @@ ghost use Rattle.cbfs_commands.specs.Rows.{map_line, area_line};
 ghost use Rattle.cbfs_commands.specs.Outcomes.{layout};
 ghost use Rattle.cbfs_commands.specs.Outcomes.{HasOutput, shows};
 
-use crate::refusal::Refusal;
 use crate::row::{Row, push_decimal};
 use arrayvec::ArrayVec;
+use cbfs_requests::Refusal;
 use flash_device::{Flash, Paged, Sink, put_all};
 use flash_format::{Area, push_hexadecimal, push_name, push_text};
 use flash_map::{FoundMap, area, find_fmap};

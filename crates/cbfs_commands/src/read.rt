@@ -5,7 +5,7 @@ ghost use Rattle.cbfs_commands.specs.Outcomes.{printed_in};
 ghost use Rattle.cbfs_commands.specs.Outcomes.{HasOutput, shows};
 ghost use Rattle.flash_device.specs.Device.{call_limit};
 
-use crate::refusal::Refusal;
+use cbfs_requests::Refusal;
 use flash_device::{Flash, Paged, Sink};
 
 /// Writes a range of the image.

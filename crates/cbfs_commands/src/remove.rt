@@ -1,9 +1,10 @@
 //! The command `remove`.
 
 ghost use Rattle.flash_device.specs.Device.{Device};
-ghost use Rattle.cbfs_commands.specs.Effects.{HasEffect, effect, on_region, remove};
+ghost use Rattle.cbfs_commands.specs.Effects.{HasEffect, effect};
+ghost use Rattle.cbfs_requests.specs.Requests.{on_region, remove};
 
-use crate::refusal::Refusal;
+use cbfs_requests::Refusal;
 use flash_device::{Flash, Paged};
 
 /// Replaces the first component with the name by free space.

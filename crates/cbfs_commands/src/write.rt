@@ -1,8 +1,9 @@
 //! The command `write`.
 
-ghost use Rattle.cbfs_commands.specs.Effects.{HasEffect, effect, on_region, write};
+ghost use Rattle.cbfs_commands.specs.Effects.{HasEffect, effect};
+ghost use Rattle.cbfs_requests.specs.Requests.{on_region, write};
 
-use crate::refusal::Refusal;
+use cbfs_requests::Refusal;
 use flash_device::{Flash, Paged, Source};
 
 /// Replaces a region with a source of the same size, from front to back.

@@ -19,11 +19,11 @@ use Rattle.cbfs_edit.specs.declared.addition.HashChoice.TheVariants.{Plain}
 use Rattle.cbfs_edit.specs.Additions.{choice_of}
 use Rattle.cbfs_edit.specs.declared.place.Spot.{Spot}
 use Rattle.cbfs_edit.specs.declared.place.Spot.TheVariants.{First, Aligned, Fixed}
-use Rattle.cbfs_commands.specs.Effects.{Request, Task, request_of}
-use Rattle.cbfs_commands.specs.Effects as requests
-use Rattle.cbfs_commands.specs.declared.command.Command.{Command}
-use Rattle.cbfs_commands.specs.declared.refusal.Refusal.{Refusal}
-use Rattle.cbfs_commands.specs.declared.refusal.Refusal.TheVariants as refusals
+use Rattle.cbfs_requests.specs.Requests.{Request, Task, request_of}
+use Rattle.cbfs_requests.specs.Requests as requests
+use Rattle.cbfs_requests.specs.declared.command.Command.{Command}
+use Rattle.cbfs_requests.specs.declared.refusal.Refusal.{Refusal}
+use Rattle.cbfs_requests.specs.declared.refusal.Refusal.TheVariants as refusals
 
 -- the image's path, the subcommand, and the options
 pub record Texts : Type 0 where

@@ -12,8 +12,8 @@ ghost use Rattle.cbfs_line.specs.CommandLine.{region_named, text, texts_of, verb
 
 use crate::words::whole_command;
 use arrayvec::ArrayVec;
-use cbfs_commands::{Command, MOST_REGIONS, Refusal};
 use cbfs_edit::{HashChoice, Spot};
+use cbfs_requests::{Command, MOST_REGIONS, Refusal};
 use clap::ArgMatches;
 use clap::error::ErrorKind;
 use flash_format::{Algorithm, read_number, type_number};

@@ -6,13 +6,14 @@ ghost use Rattle.flash_device.specs.Device.{Calls, refusals};
 ghost use Rattle.flash_device.specs.Laws.{with_edit};
 ghost use Rattle.flash_device.specs.Pages.{OnHonest};
 ghost use Rattle.cbfs_edit.specs.Changes.{formatted};
-ghost use Rattle.cbfs_commands.specs.declared.create.flashmap.TheConstants.{MOST_REGIONS};
+ghost use Rattle.cbfs_requests.specs.declared.command.TheConstants.{MOST_REGIONS};
 ghost use Rattle.cbfs_commands.specs.Creations.{IsPlace};
-ghost use Rattle.cbfs_commands.specs.Effects.{HasEffect, create, effect};
+ghost use Rattle.cbfs_commands.specs.Effects.{HasEffect, effect};
+ghost use Rattle.cbfs_requests.specs.Requests.{create};
 
 use crate::create::plan::read_plan;
-use crate::refusal::Refusal;
 use cbfs_edit::{EditFault, format};
+use cbfs_requests::Refusal;
 use flash_device::{Flash, Paged, Source};
 use flash_map::Region;
 

@@ -11,13 +11,10 @@ ghost use Rattle.flash_device.specs.Pages.{OnHonest};
 ghost use Rattle.flash_map.specs.Fmap.{map_head};
 ghost use Rattle.cbfs_commands.specs.Creations.{AnswersBySource, first_area};
 
-use crate::refusal::Refusal;
+use cbfs_requests::{MOST_REGIONS, Refusal};
 use flash_device::{Source, SourceFault};
 use flash_format::{Area, FmapHead};
 use flash_map::{area_in_source, map_in_source};
-
-/// The maximum number of regions of a new image.
-pub const MOST_REGIONS: usize = 16;
 
 const MAP_AREA: &[u8] = b"FMAP";
 

@@ -5,4 +5,4 @@ mod flashmap;
 mod plan;
 
 pub use creation::create;
-pub use flashmap::{MOST_REGIONS, create_size};
+pub use flashmap::create_size;

@@ -8,9 +8,9 @@ ghost use Rattle.cbfs_commands.specs.Creations.{AnswersBySource, plan_for};
 ghost use Rattle.cbfs_commands.specs.Laws.{IsLaid};
 ghost use Rattle.cbfs_commands.specs.Creations.{region_places, share_bytes, some_overlap};
 
-use crate::create::flashmap::{MOST_REGIONS, first_areas};
-use crate::refusal::Refusal;
+use crate::create::flashmap::first_areas;
 use arrayvec::ArrayVec;
+use cbfs_requests::{MOST_REGIONS, Refusal};
 use flash_device::Source;
 use flash_format::Area;
 use flash_map::{Region, map_in_source, region_of_area};

@@ -15,9 +15,9 @@ ghost use Rattle.cbfs_walk.specs.AttrWalks.{head_of_attribute};
 ghost use Rattle.cbfs_commands.specs.Rows.{attribute_line, details, digest_line, hash_line};
 ghost use Rattle.cbfs_commands.specs.Outcomes.{HasOutput, IsCellOf, shows};
 
-use crate::refusal::Refusal;
 use crate::row::{ROW_LEN, Row, push_decimal};
 use byteorder::{BigEndian, ByteOrder};
+use cbfs_requests::Refusal;
 use cbfs_walk::{Cell, HashState, attributes, cells_stand_in_their_image, check_hash};
 use flash_device::{Flash, Paged, Sink, put_all};
 use flash_format::{AttrHead, Digest, digest_text, push_text};

@@ -10,9 +10,9 @@ ghost use Rattle.cbfs_walk.specs.Cells.{cell_in};
 ghost use Rattle.flash_device.specs.Device.{call_limit};
 
 use crate::print::details::print_details;
-use crate::refusal::Refusal;
 use crate::row::{Row, set_row_text};
 use arrayvec::ArrayVec;
+use cbfs_requests::Refusal;
 use cbfs_walk::{Cell, Step, Walk, cells_stand_in_their_image, name, packing};
 use flash_device::{Flash, FlashFault, Paged, Sink, put_all};
 use flash_map::Region;

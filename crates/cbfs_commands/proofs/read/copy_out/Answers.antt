@@ -5,7 +5,7 @@ use Rattle.std.specs.Result.{IsErrAnd}
 use Rattle.flash_device.specs.declared.sink.Sink.{Ghosts as SinkOf}
 use Rattle.flash_device.specs.Pages.{HasCopiedOut, Pages}
 use Rattle.flash_device.specs.declared.paged.CopyFault.{CopyFault}
-use Rattle.cbfs_commands.specs.Refusals.{copy_refusal}
+use Rattle.cbfs_requests.specs.Requests.{copy_refusal}
 use Rattle.cbfs_commands.specs.Outcomes.{CommandResult, HasOutput, shows}
 use Rattle.cbfs_commands.proofs.OutputParts.{handed}
 use Rattle.cbfs_commands.proofs.read.copy_out.Goals as goal

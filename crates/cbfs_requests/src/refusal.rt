@@ -1,9 +1,9 @@
 //! The errors of commands.
 
 ghost use Rattle.std.specs.Prelude.{◌≡◌};
-ghost use Rattle.cbfs_commands.specs.Refusals.{copy_refusal, edit_refusal, store_refusal};
+ghost use Rattle.cbfs_requests.specs.Requests.{copy_refusal, edit_refusal, store_refusal};
 ghost use Rattle.cbfs_edit.specs.Removals.{edit_fault_of};
-ghost use Rattle.cbfs_commands.specs.declared.refusal.Refusal.TheVariants as refusals;
+ghost use Rattle.cbfs_requests.specs.declared.refusal.Refusal.TheVariants as refusals;
 
 use cbfs_edit::EditFault;
 use cbfs_walk::WalkFault;

@@ -1,8 +1,10 @@
 //! The commands of the command line.
 
-use crate::create::MOST_REGIONS;
 use arrayvec::ArrayVec;
 use cbfs_edit::{HashChoice, Spot};
+
+/// The maximum number of regions of a new image.
+pub const MOST_REGIONS: usize = 16;
 
 /// A command and its arguments. Names are bytes.
 #[derive(Drop)]

@@ -1,14 +1,44 @@
--- Errors of the lower layers as errors of a command.
-use Rattle.std.specs.Prelude.{ℕ, ◌⊎◌, Result, Ok, Err, IsErrOf}
+-- The request of each command, and errors of the lower layers as errors of a command.
+use Rattle.std.specs.Prelude.{ℕ, ◌⊎◌, Bool, List, map, Result, Ok, Err, IsErrOf}
 use Rattle.flash_map.specs.declared.search.StoreFault.{StoreFault}
 use Rattle.flash_map.specs.declared.search.StoreFault.TheVariants as store
 use Rattle.flash_device.specs.declared.paged.CopyFault.{CopyFault}
 use Rattle.flash_device.specs.declared.paged.CopyFault.TheVariants as copy
 use Rattle.cbfs_edit.specs.declared.fault.EditFault.{EditFault}
 use Rattle.cbfs_edit.specs.declared.fault.EditFault.TheVariants as edit
-use Rattle.cbfs_commands.specs.declared.refusal.Refusal.{Refusal}
-use Rattle.cbfs_commands.specs.declared.refusal.Refusal.TheVariants as refusals
-use Rattle.cbfs_commands.specs.declared.refusal.Refusal.TheVariants.{Device, Output, Source}
+use Rattle.cbfs_edit.specs.declared.addition.HashChoice.{HashChoice}
+use Rattle.cbfs_edit.specs.declared.place.Spot.{Spot}
+use Rattle.cbfs_requests.specs.declared.refusal.Refusal.{Refusal}
+use Rattle.cbfs_requests.specs.declared.refusal.Refusal.TheVariants as refusals
+use Rattle.cbfs_requests.specs.declared.refusal.Refusal.TheVariants.{Device, Output, Source}
+use Rattle.cbfs_requests.specs.declared.command.Command.{Command}
+use Rattle.cbfs_requests.specs.declared.command.Command.TheVariants.{Print, Layout, Extract, Add}
+use Rattle.cbfs_requests.specs.declared.command.Command.TheVariants.{Create, Read, Remove, Write}
+
+-- a request on a region
+pub data Task : Type 0 where
+  print : Bool → Task
+  extract : List ℕ → Task
+  add : List ℕ → ℕ → HashChoice → Spot → Task
+  remove : List ℕ → Task
+  read : Task
+  write : Task
+
+-- a request on a named region, or on the whole image
+pub data Request : Type 0 where
+  on_region : List ℕ → Task → Request
+  layout : Request
+  create : List (List ℕ) → Request
+
+abbrev pub request_of : Command → Request
+request_of (Print region verbose) = on_region region.now (print verbose)
+request_of Layout = layout
+request_of (Extract region name) = on_region region.now (extract name.now)
+request_of (Add region name kind hash spot) = on_region region.now (add name.now kind hash spot)
+request_of (Remove region name) = on_region region.now (remove name.now)
+request_of (Read region) = on_region region.now read
+request_of (Write region) = on_region region.now write
+request_of (Create regions) = create (map (λ name. name.now) regions.items)
 
 abbrev pub store_refusal : StoreFault → Refusal
 store_refusal store.Device = refusals.Device
