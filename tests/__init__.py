@@ -1,0 +1,1 @@
+"""The tests of the programs. From the top folder: `python3 -m unittest tests.test_order -k NAME`."""
