@@ -60,7 +60,7 @@ def digest(algorithm, data):
 
 
 def attribute(tag, data=b"", length=None):
-    """Returns an attribute. `length` replaces the stored length, which includes the first 8 bytes."""
+    """Returns an attribute. `length` replaces the stored length, which includes 8 bytes of head."""
     return struct.pack(">II", tag, 8 + len(data) if length is None else length) + data
 
 

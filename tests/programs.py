@@ -87,19 +87,19 @@ class Folder:
         shutil.rmtree(self.path, ignore_errors=True)
 
     def run(self, command, stdin=b"", environment=None, limit=TIME_LIMIT):
-        """Runs a command line, whose first word may be the name of a program, and waits for it.
+        """Runs a command line and waits for it. The programs under test are the first on PATH.
 
         A command that a signal ends has the negative number of the signal as its status, as in
         `subprocess`. A command that exceeds the time limit has the status None.
         """
         words = words_of(command)
-        if words[0] in NAMES:
-            words = [program(words[0]), *words[1:]]
+        folders = [os.path.dirname(program(name)) for name in NAMES]
+        path = os.pathsep.join([*folders, os.environ.get("PATH", "")])
         before = self.files()
         try:
             done = subprocess.run(
                 words, cwd=self.path, input=stdin, stdout=subprocess.PIPE, stderr=subprocess.PIPE,
-                env={**os.environ, **(environment or {})}, timeout=limit,
+                env={**os.environ, "PATH": path, **(environment or {})}, timeout=limit,
             )
             seen = done.returncode, done.stdout, done.stderr
         except subprocess.TimeoutExpired as stopped:
