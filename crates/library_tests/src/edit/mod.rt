@@ -1,7 +1,7 @@
 //! Edits and commands.
 pub mod actions;
 mod commands;
-mod halves;
+pub mod halves;
 mod lists;
 mod stops;
 pub mod support;

@@ -1,5 +1,9 @@
 //! Trees and tables of descriptors, and each refusal with the offset.
 use crate::compiler::descriptors::{TABLE, TEXT};
+use crate::edit::halves::HALVES;
+use crate::rows::add::MAP_BEHIND;
+use crate::rows::create::TWO;
+use crate::rows::support::BOARD;
 use crate::support::{equal, filled, has_all, same_bytes, write_over, writer};
 use flash_format::Area;
 use fmap_compiler::{ReadText, run};
@@ -99,6 +103,22 @@ fn the_table_of_a_board(rt: HostRuntime) {
     is_encoded(&rt, &table, &TABLE);
     drop(table);
     compiles(&rt, TEXT, &TABLE);
+}
+
+#[test]
+fn the_maps_of_other_examples(rt: HostRuntime) {
+    compiles(
+        &rt,
+        b"FLASH@0xff000000 0x1000 { FMAP 0x200 COREBOOT(CBFS) 0x200 REST }",
+        &BOARD,
+    );
+    compiles(
+        &rt,
+        b"FLASH 0x1000 { COREBOOT(CBFS) 0x200 FMAP 0x200 REST }",
+        &MAP_BEHIND,
+    );
+    compiles(&rt, b"F 4K { FMAP 1K B(CBFS) C(CBFS) 1K }", &TWO);
+    compiles(&rt, b"F 32K { FMAP 16K COREBOOT(CBFS) 16K }", &HALVES);
 }
 
 const OMITTED: &[u8] = b"F 4K { FMAP 1K B C 1K }";

@@ -1,6 +1,6 @@
 //! The examples of docs/EXAMPLES.md: whole texts, refusals and images, with literal bytes.
-mod add;
-mod create;
+pub mod add;
+pub mod create;
 pub mod descriptors;
 mod devices;
 mod hashes;

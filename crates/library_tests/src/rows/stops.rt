@@ -1,13 +1,13 @@
 //! Edits stopped at each device call, and a list of edits with refusals.
 use crate::edit::actions::{COREBOOT, answer_into};
 use crate::edit::support::{
-    A, B_BEFORE_GAP, DELETED, EMPTY_128, LAST_192, M, MAGIC_20, NULL_340, Stop, part_of, source_of,
-    stopping,
+    A, B_BEFORE_GAP, DELETED, EMPTY_64, EMPTY_128, LAST_192, M, MAGIC_20, NULL_340, Stop, X1, X2,
+    part_of, source_of, stopping,
 };
 use crate::rows::support::{A_AND_416, FRESH, PRINT, WITH_A, board};
 use crate::support::{ALL, Failing, Parts, device_from, ends_with, equal, took_all, writer};
 use cbfs_commands::{Command, Refusal};
-use cbfs_edit::{Edit, EditFault, Freed, HashChoice, Placed, Reply, Spot, apply_all};
+use cbfs_edit::{Edit, EditFault, Freed, HashChoice, Placed, Reply, Spot, apply_all, format};
 use flash_store::{MemFlash, MemSource, Paged};
 use std::process::Abort;
 
@@ -76,6 +76,11 @@ const REMOVE_M: Command<'static> = Command::Remove {
     name: b"m",
 };
 
+const REMOVE_X: Command<'static> = Command::Remove {
+    region: COREBOOT,
+    name: b"x",
+};
+
 #[derive(Clone, Copy)]
 struct State {
     parts: Parts<'static>,
@@ -88,6 +93,8 @@ enum Edited {
     First,
     Aligned,
     Removal,
+    FirstOfTwo,
+    Format,
 }
 
 #[derive(Clone, Copy)]
@@ -151,6 +158,33 @@ const REMOVAL: Change = Change {
     after: NOTHING,
 };
 
+const TWICE: State = State {
+    parts: &[(0, &X1), (64, &X2), (128, &NULL_340)],
+    text: b"x\t0x0\traw\t1\tnone\nx\t0x40\traw\t2\tnone\n(empty)\t0x80\tnull\t340\tnone\n",
+    contents: &[(b"x", b"1")],
+};
+
+const ONCE: State = State {
+    parts: &[(0, &EMPTY_64), (64, &X2), (128, &NULL_340)],
+    text: b"(empty)\t0x0\tnull\t36\tnone\nx\t0x40\traw\t2\tnone\n\
+(empty)\t0x80\tnull\t340\tnone\n",
+    contents: &[(b"x", b"22")],
+};
+
+const FIRST_OF_TWO: Change = Change {
+    edit: Edited::FirstOfTwo,
+    source: b"",
+    before: TWICE,
+    after: ONCE,
+};
+
+const FORMATTED: Change = Change {
+    edit: Edited::Format,
+    source: b"",
+    before: ONE,
+    after: NOTHING,
+};
+
 fn writes(rt: &impl Abort, paged: &mut Paged<MemFlash>, command: &Command, text: &[u8]) -> bool {
     let mut out = writer(4096, usize::MAX, text);
     equal(
@@ -199,6 +233,18 @@ fn edit(rt: &impl Abort, paged: &mut Failing, change: Change) -> Result<(), Refu
         Edited::First => answer_into(rt, paged, &ADD_A, source, ALL, &mut none),
         Edited::Aligned => answer_into(rt, paged, &ADD_B, source, ALL, &mut none),
         Edited::Removal => answer_into(rt, paged, &REMOVE_M, source, ALL, &mut none),
+        Edited::FirstOfTwo => answer_into(rt, paged, &REMOVE_X, source, ALL, &mut none),
+        Edited::Format => formats(rt, paged),
+    }
+}
+
+/// Converts a fault; all except `Device` become `RegionShape`.
+fn formats(rt: &impl Abort, paged: &mut Failing) -> Result<(), Refusal> {
+    let region = part_of(rt, paged, 0x200, 512);
+    match format(paged, region) {
+        Ok(()) => Ok(()),
+        Err(EditFault::Device) => Err(Refusal::Device),
+        Err(_) => Err(Refusal::RegionShape),
     }
 }
 
@@ -244,6 +290,8 @@ fn stop_all(rt: &(impl Abort + AllocGlobal), part: usize) {
     stop_each(rt, FIRST, part);
     stop_each(rt, ALIGNED, part);
     stop_each(rt, REMOVAL, part);
+    stop_each(rt, FIRST_OF_TWO, part);
+    stop_each(rt, FORMATTED, part);
 }
 
 #[test]
