@@ -1,7 +1,10 @@
-use Rattle.std.proofs.Common.{inr}
+use Rattle.std.proofs.Common.{inr, rules}
 use Rattle.std.proofs.lemmas.Result.{err_from_is_err_and}
 use Rattle.cbfs_walk.proofs.SearchSteps.{searching_start, searching_more, found_first, last_after, last_answer, searching_err}
 use Rattle.cbfs_walk.proofs.search.find.Goals as goal
+
+pub returns-then-branch-clause-after : goal.returns-then-branch-clause-after
+returns-then-branch-clause-after g c = search rules
 
 pub loop-cell-init : goal.loop-cell-init
 loop-cell-init g c = rw c.new-walk.ensures (searching_start c.args.region c.args.name.now _)
