@@ -131,7 +131,7 @@ def difference(expected, seen):
 
 
 class ProgramTest(unittest.TestCase):
-    """A test that runs programs. It is skipped if one of `programs` is not built."""
+    """A test that runs programs. It fails if one of `programs` is not built."""
 
     programs = ("cbfstool", "fmaptool", "cbfscheck")
     maxDiff = None
