@@ -80,9 +80,10 @@ help:
 	@echo 'make check          the programs on real files (5 minutes once they are built), needs bash, python3, cc'
 	@echo 'make install        programs, pages, completions and documents: PREFIX=/usr/local DESTDIR= SUFFIX='
 	@echo 'make uninstall      removes what make install has put there, with the same variables'
-	@echo 'make dist           an archive in out/ that runs wherever it is unpacked'
-	@echo 'make deb            a Debian package in out/, with the suffix -proved'
+	@echo 'make dist           an archive that runs wherever it is unpacked, in OUT=out'
+	@echo 'make deb            a Debian package with the suffix -proved, in OUT=out'
 	@echo 'make clean          removes what was built and proved: the next build starts from nothing'
+	@echo 'SOURCE_DATE_EPOCH and MAINTAINER are the time of the files, and the maintainer, of an archive and a package.'
 
 # A program that is older than its sources is built again, so that no page describes another program than the installed one.
 .SECONDEXPANSION:
