@@ -1,103 +1,132 @@
-# Completion of cbfstool for bash: commands, options, types and digests; regions as `layout` lists them, and components as
-# `print` does. A program of the same name that lists otherwise gives no names, and an image that another command has locked
-# for a second gives none either.
+# Completion of cbfstool for bash: commands, options, types and digests, the regions that `layout` lists, and the components
+# that `print` lists. It offers no names if a program of the same name has another output, or if another command locks the
+# image for longer than a second.
+#
+# Names come from the image, and must never become a part of a command. So a name is offered with a backslash before each
+# special character; after an open quote, a name with a special character is not offered.
 
-# _cbfstool_words: `words` are the words up to the cursor, joined again where bash parts them at one of its marks
+# _cbfstool_words: stores the words up to the cursor in `words`, and joins those that bash splits at COMP_WORDBREAKS
 _cbfstool_words() {
     local line=${COMP_LINE:0:COMP_POINT} word
     words=()
     for word in "${COMP_WORDS[@]:0:COMP_CWORD+1}"; do
         if [[ ${#words[@]} == 0 || -z $line || $line == [[:blank:]]* ]]; then
             line=${line#"${line%%[![:blank:]]*}"}
-            words+=("$word")
+            words+=("${word:0:${#line}}")
         else
-            words[-1]+=$word
+            words[-1]+=${word:0:${#line}}
         fi
         line=${line#"$word"}
     done
 }
 
-# _cbfstool_plain WORD: the word without its quotes, as `plain`
+# _cbfstool_plain WORD: stores the argument that the word stands for in `plain`, the quote that is still open in `quote`, and
+# whether a quoted part has ended in `closed`. `ahead` is the start of the argument that readline does not replace: the
+# text before the open quote, or up to the last separator.
 _cbfstool_plain() {
-    plain=${1//[\"\'\\]/}
-    [[ $plain != "~/"* ]] || plain=$HOME/${plain#"~/"}
-}
-
-# _cbfstool_offer NAME..: those names that begin with the current word are offered, quoted as it is; `before` is what
-# stands before a name in that word
-_cbfstool_offer() {
-    local name quote="" shown
-    [[ $cur != [\"\']* ]] || quote=${cur:0:1}
-    _cbfstool_plain "${cur#"$quote"}"
-    for name; do
-        [[ $before$name == "$plain"* ]] || continue
-        if [[ $quote ]]; then shown=$before$name; else printf -v shown '%s%q' "$before" "$name"; fi
-        COMPREPLY+=("$shown")
+    local word=$1 at=0 char next code
+    plain="" quote="" closed="" ahead=""
+    [[ $word != "~/"* ]] || plain=$HOME at=1
+    for ((; at < ${#word}; at++)); do
+        char=${word:at:1} next=${word:at+1:1}
+        if [[ $quote && $char == "$quote" ]]; then
+            quote="" closed=yes
+        elif [[ $char == \\ && $quote != \' ]] && [[ ! $quote || $next == [\$\`\"\\] ]]; then
+            plain+=$next
+            at=$((at + 1))
+        elif [[ $quote ]]; then
+            plain+=$char
+        elif [[ ${word:at} =~ ^\$\'(([^\\\']|\\.)*)\' ]]; then
+            printf -v code %b "${BASH_REMATCH[1]//\\\'/\'}"
+            plain+=$code closed=yes
+            at=$((at + ${#BASH_REMATCH} - 1))
+        elif [[ $char == [\"\'] ]]; then
+            quote=$char ahead=$plain
+        else
+            # (readline replaces a separator @ too)
+            [[ $COMP_WORDBREAKS != *"$char"* ]] || ahead=$plain${char#@}
+            plain+=$char
+        fi
     done
-    # (what stands before the last of bash's marks isn't replaced)
-    local mark=${cur%"${cur##*[:=]}"}
-    [[ $quote || -z $mark ]] || COMPREPLY=("${COMPREPLY[@]#"$mark"}")
 }
 
-# _cbfstool_list FILE COMMAND..: what the program lists, unless that takes more than a second
+# _cbfstool_offer NAME..: offers the names that, after the text `before`, begin with the current word
+_cbfstool_offer() {
+    local name text
+    for name; do
+        text=$before$name
+        [[ $name && $text == "$plain"* ]] || continue
+        if [[ $quote ]]; then
+            [[ $text != *[\$\`\"\'\\!]* && $text != *[[:cntrl:]]* ]] || continue
+            COMPREPLY+=("${text#"$ahead"}")
+        elif [[ ! $closed ]]; then
+            printf -v text %q "${text#"$ahead"}"
+            # (a comma is special in braces only, which have a backslash)
+            text=${text//\\,/,}
+            COMPREPLY+=("$text")
+        fi
+    done
+}
+
+# _cbfstool_list FILE COMMAND..: prints the output of the program, unless that takes more than a second
 _cbfstool_list() {
     timeout 1 "$tool" "$@" 2> /dev/null
 }
 
-# _cbfstool_regions FILE: the names of the areas, as `names`; none where the listing isn't ours
+# _cbfstool_regions FILE: stores the names of the areas in `names`; none if the output is not that of this cbfstool
 _cbfstool_regions() {
-    local head shown name
+    local row name
     names=()
     {
-        IFS= read -r head && [[ $head == fmap$'\t'* ]] || return 0
-        while IFS=$'\t' read -r shown _; do
-            printf -v name %b "$shown"
+        IFS= read -r row && [[ $row == fmap$'\t'* ]] || return 0
+        while IFS= read -r row; do
+            printf -v name %b "${row%%$'\t'*}"
             names+=("$name")
         done
     } < <(_cbfstool_list "$1" layout)
 }
 
-# _cbfstool_holding FILE: those of the `names` whose region holds components
+# _cbfstool_holding FILE: keeps those of the `names` whose region has a CBFS
 _cbfstool_holding() {
     local name first held=()
     for name in "${names[@]}"; do
-        # (124 is that of `timeout`)
+        # (124 is the status of `timeout`)
         first=$(_cbfstool_list "$1" print "-r=$name" | head -c 1; ((PIPESTATUS[0] != 124))) || break
         [[ -z $first ]] || held+=("$name")
     done
     names=("${held[@]}")
 }
 
-# _cbfstool_components FILE REGION: the names of the components, as `names`; none where the listing isn't ours
+# _cbfstool_components FILE REGION: stores the names of the components in `names`; none if the output is not that of this
+# cbfstool
 _cbfstool_components() {
-    local shown kind name
+    local row name free=$'(empty)\t*\t@(null|deleted)\t*'
     _cbfstool_regions "$1"
     ((${#names[@]})) || return 0
     names=()
-    while IFS=$'\t' read -r shown _ kind _; do
-        [[ $shown != "(empty)" || $kind != @(null|deleted) ]] || continue
-        printf -v name %b "$shown"
+    while IFS= read -r row; do
+        [[ $row != $free ]] || continue
+        printf -v name %b "${row%%$'\t'*}"
         names+=("$name")
     done < <(_cbfstool_list "$1" print "-r=$2")
 }
 
-# _cbfstool_given LETTER: whether the option was given; its text as `given`
+# _cbfstool_given LETTER: returns whether the option is given, and stores its value in `given`
 _cbfstool_given() {
     local at
-    for ((at = 3; at < ${#words[@]} - 1; at++)); do
-        case ${words[at]} in
-            "-$1") _cbfstool_plain "${words[at + 1]-}" ;;
-            "-$1="*) _cbfstool_plain "${words[at]#*=}" ;;
-            "-$1"*) _cbfstool_plain "${words[at]:2}" ;;
+    for ((at = 3; at < ${#texts[@]} - 1; at++)); do
+        case ${texts[at]} in
+            "-$1") given=${texts[at + 1]-} ;;
+            "-$1="*) given=${texts[at]#*=} ;;
+            "-$1"*) given=${texts[at]:2} ;;
             *) continue ;;
         esac
-        given=$plain
         return 0
     done
     return 1
 }
 
-# _cbfstool_letters COMMAND: the letters of its options, as `options`
+# _cbfstool_letters COMMAND: stores the letters of the command's options in `options`
 _cbfstool_letters() {
     options=
     case $1 in
@@ -110,7 +139,7 @@ _cbfstool_letters() {
     esac
 }
 
-# _cbfstool_options: offers those that can still be given
+# _cbfstool_options: offers the options that can still be given
 _cbfstool_options() {
     local option offered=()
     for option in $options; do
@@ -122,30 +151,29 @@ _cbfstool_options() {
     _cbfstool_offer "${offered[@]}"
 }
 
-# _cbfstool_text LETTER: offers texts of the option
-_cbfstool_text() {
+# _cbfstool_value LETTER: offers values of the option
+_cbfstool_value() {
     case $1 in
         f | M)
             if [[ $before ]]; then
-                _cbfstool_plain "${cur#"$before"}"
-                mapfile -t names < <(compgen -f -- "$plain")
+                mapfile -t names < <(compgen -f -- "${plain#"$before"}")
                 _cbfstool_offer "${names[@]}"
             else
                 compopt -o default
             fi
             ;;
         r)
-            if [[ ${words[2]} == create ]]; then
+            if [[ ${texts[2]} == create ]]; then
                 _cbfstool_given M || return 0
                 image=$given
-                [[ $cur != *,* ]] || before=${cur%,*},
+                [[ $plain != *,* ]] || before=${plain%,*},
             fi
             _cbfstool_regions "$image"
-            [[ ${words[2]} != @(extract|add|remove) ]] || _cbfstool_holding "$image"
+            [[ ${texts[2]} != @(extract|add|remove) ]] || _cbfstool_holding "$image"
             _cbfstool_offer "${names[@]}"
             ;;
         n)
-            [[ ${words[2]} != add ]] || return 0
+            [[ ${texts[2]} != add ]] || return 0
             given=COREBOOT
             _cbfstool_given r
             _cbfstool_components "$image" "$given"
@@ -160,27 +188,27 @@ _cbfstool_text() {
 }
 
 _cbfstool() {
-    local words names=() plain given before="" cur tool image options
+    local words texts=() names=() word plain quote closed ahead given before="" tool image options
     COMPREPLY=()
     _cbfstool_words
-    cur=${words[-1]}
-    _cbfstool_plain "${words[0]}"
-    tool=$plain
-    _cbfstool_plain "${words[1]}"
-    image=$plain
-    _cbfstool_letters "${words[2]-}"
+    for word in "${words[@]}"; do
+        _cbfstool_plain "$word"
+        texts+=("$plain")
+    done
+    tool=${texts[0]} image=${texts[1]}
+    _cbfstool_letters "${texts[2]-}"
     if [[ ${#words[@]} == 2 ]]; then
         compopt -o default
     elif [[ ${#words[@]} == 3 ]]; then
         _cbfstool_offer print layout extract add remove read write create
-    elif [[ ${words[-2]} == -[rnftabAM] ]]; then
-        _cbfstool_text "${words[-2]:1}"
-    elif [[ $cur == -[rnftabAM]?* ]]; then
-        # (a text behind its option in one word, as `-rNAME` or `-r=NAME`)
-        [[ $options == *${cur:1:1}* ]] || return 0
-        before=${cur:0:2}
-        [[ $cur != -?=* ]] || before+="="
-        _cbfstool_text "${cur:1:1}"
+    elif [[ ${texts[-2]} == -[rnftabAM] ]]; then
+        _cbfstool_value "${texts[-2]:1}"
+    elif [[ $plain == -[rnftabAM]?* ]]; then
+        # (an option and its value in one word, as `-rNAME` or `-r=NAME`)
+        [[ $options == *${plain:1:1}* ]] || return 0
+        before=${plain:0:2}
+        [[ $plain != -?=* ]] || before+="="
+        _cbfstool_value "${plain:1:1}"
     else
         _cbfstool_options
     fi

@@ -1,44 +1,58 @@
-# Completion of cbfstool for fish: commands, options, types and digests; regions as `layout` lists them, and components as
-# `print` does. A program of the same name that lists otherwise gives no names, and an image that another command has locked
-# for a second gives none either.
+# Completion of cbfstool for fish: commands, options, types and digests, the regions that `layout` lists, and the components
+# that `print` lists. It offers no names if a program of the same name has another output, or if another command locks the
+# image for longer than a second.
+#
+# Names come from the image, and must never become a part of a command: fish quotes what `complete` offers.
 
-# The file of the image, without what quotes it.
-function __cbfstool_image
-    set -l words (commandline -opc)
-    string replace -r '^~/' "$HOME/" -- (string unescape -- $words[2])
+# Prints the path that a word of the line stands for; `commandline -o` has removed its quotes.
+function __cbfstool_path
+    string match -q '~/*' -- $argv[1]; and printf '%s/' $HOME
+    string replace -r '^~/' '' -- $argv[1]
 end
 
-# Whether the command is one of these.
+# Prints the path of the program.
+function __cbfstool_program
+    set -l words (commandline -opc)
+    __cbfstool_path $words[1]
+end
+
+# Prints the path of the image.
+function __cbfstool_image
+    set -l words (commandline -opc)
+    __cbfstool_path $words[2]
+end
+
+# Returns whether the command is one of the arguments.
 function __cbfstool_is
     set -l words (commandline -opc)
     test (count $words) -ge 3; and contains -- $words[3] $argv
 end
 
-# The text of an option, where it was given.
+# Prints the value of an option, and returns whether the option is given.
 function __cbfstool_given
     set -l words (commandline -opc)
     for at in (seq 4 (count $words))
         switch $words[$at]
             case "-$argv[1]"
-                # (`-v` has none, and that of the last word is still to come)
+                # (-v has no value; the value of the last word is still to come)
                 test $argv[1] = v; and return 0
                 test $at -lt (count $words); or return 1
-                string unescape -- $words[(math $at + 1)]
+                __cbfstool_path $words[(math $at + 1)]
                 return 0
             case "-$argv[1]*"
-                string unescape -- (string replace -r '^-.=?' '' -- $words[$at])
+                string replace -r '^-.=?' '' -- $words[$at]
                 return 0
         end
     end
     return 1
 end
 
-# Whether the words before are so many.
+# Returns whether this number of words precedes the cursor.
 function __cbfstool_at
     test (count (commandline -opc)) -eq $argv[1]
 end
 
-# Whether the command is one of the latter words, and none of these letters was given.
+# Returns whether the command is one of the later arguments, and no option with a letter of the first argument is given.
 function __cbfstool_takes
     for letter in (string split '' -- $argv[1])
         __cbfstool_given $letter > /dev/null; and return 1
@@ -46,43 +60,43 @@ function __cbfstool_takes
     __cbfstool_is $argv[2..]
 end
 
-# A name as it is stored.
+# Reads names as the program prints them, and prints them as they are stored. fish can offer neither an empty name nor one with
+# a control character, such as a line feed.
 function __cbfstool_names
     while read -l shown
-        printf '%b\n' $shown
+        string match -q -r -- '^$|\\\\x([01].|7f)' $shown; or printf '%b\n' $shown
     end
 end
 
-# The areas of a file, as they are listed; none where the listing isn't ours.
+# Prints the areas of a file as they are listed; none if the output is not that of this cbfstool.
 function __cbfstool_areas
-    set -l words (commandline -opc)
-    string unescape -- $words[1] | read -l tool
-    set -l rows (timeout 1 $tool $argv[1] layout 2> /dev/null)
+    set -l rows (timeout 1 (__cbfstool_program) $argv[1] layout 2> /dev/null)
     string match -q -r '^fmap\t' -- $rows[1]; or return 1
     printf '%s\n' $rows[2..] | cut -f 1
 end
 
-# Of the names that are read those whose region holds components.
+# Reads names of regions, and prints those whose region has a CBFS.
 function __cbfstool_holding
-    set -l words (commandline -opc)
-    string unescape -- $words[1] | read -l tool
+    set -l tool (__cbfstool_program)
     while read -l name
         timeout 1 $tool $argv[1] print -r=$name 2> /dev/null | read -l row
         set -l ended $pipestatus
-        # (124 is that of `timeout`)
+        # (124 is the status of `timeout`)
         test $ended[1] -ne 124; or return
         test $ended[2] -eq 0; and printf '%s\n' $name
     end
 end
 
+# Prints the names of the regions that the command accepts.
 function __cbfstool_regions
-    set -l words (commandline -opc)
     set -l file (__cbfstool_image)
     if __cbfstool_is create
         set file (__cbfstool_given M); or return
-        # (what stands before the names, without the option in the same word)
-        set -l before (string replace -r '^-r=?' '' -- (commandline -ct) | string match -r '^.*,')
-        __cbfstool_areas $file | __cbfstool_names | string replace -r '^' "$before"
+        # (the earlier names of the list, without the option in the same word)
+        set -l before (string unescape -- (string replace -r '^-r=?' '' -- (commandline -ct) | string match -r '^.*,'))
+        for name in (__cbfstool_areas $file | __cbfstool_names)
+            printf '%s%s\n' "$before" $name
+        end
     else if __cbfstool_is extract add remove
         __cbfstool_areas $file | __cbfstool_names | __cbfstool_holding $file
     else
@@ -90,13 +104,12 @@ function __cbfstool_regions
     end
 end
 
+# Prints the names of the components of the region that is given.
 function __cbfstool_components
-    set -l words (commandline -opc)
     set -l region (__cbfstool_given r); or set region COREBOOT
     set -l file (__cbfstool_image)
     __cbfstool_areas $file > /dev/null; or return
-    string unescape -- $words[1] | read -l tool
-    timeout 1 $tool $file print -r=$region 2> /dev/null |
+    timeout 1 (__cbfstool_program) $file print -r=$region 2> /dev/null |
         string match -rv '^\(empty\)\t[^\t]*\t(null|deleted)\t' | cut -f 1 | __cbfstool_names
 end
 
