@@ -9,6 +9,7 @@ command, neither at TAB nor at Enter.
 
 import os
 import pathlib
+import shlex
 import shutil
 import tempfile
 import time
@@ -101,10 +102,11 @@ class Completions:
         cls.terminal.end()
         shutil.rmtree(cls.place, ignore_errors=True)
 
-    def runs(self, typed, *words):
-        """Checks which words the program gets if the line is typed, completed, and run."""
+    def runs(self, typed, expected):
+        """Checks that the typed line, completed and run, is the expected command line."""
         line = self.terminal.complete(typed)
-        self.assertEqual(self.terminal.enter(), list(words), f"typed {typed!r}, completed {line!r}")
+        ran = self.terminal.enter()
+        self.assertEqual(ran, shlex.split(expected), f"typed {typed!r}, completed {line!r}")
 
     def stays(self, typed):
         """Checks that TAB offers nothing."""
@@ -160,28 +162,16 @@ class Completions:
         for typed in ["boot", "boot\\ o", '"boot', '"boot o', "'boot o"]:
             self.runs(
                 f"cbfstool image.rom extract -n {typed}",
-                "cbfstool",
-                "image.rom",
-                "extract",
-                "-n",
-                "boot order",
+                "cbfstool image.rom extract -n 'boot order'",
             )
-        self.runs(
-            "cbfstool image.rom read -r FW", "cbfstool", "image.rom", "read", "-r", "FW MAIN A"
-        )
-        self.runs(
-            'cbfscheck image.rom --keep "FW M', "cbfscheck", "image.rom", "--keep", "FW MAIN A"
-        )
+        self.runs("cbfstool image.rom read -r FW", "cbfstool image.rom read -r 'FW MAIN A'")
+        self.runs('cbfscheck image.rom --keep "FW M', "cbfscheck image.rom --keep 'FW MAIN A'")
 
     def test_a_name_with_quotes(self):
         for name in ["it's", 'say "yes"', "back\\slash"]:
             self.runs(
                 f"cbfstool image.rom remove -n {name[:2]}",
-                "cbfstool",
-                "image.rom",
-                "remove",
-                "-n",
-                name,
+                f"cbfstool image.rom remove -n {shlex.quote(name)}",
             )
 
     def test_a_name_with_a_separator(self):
@@ -190,12 +180,10 @@ class Completions:
             for quote in QUOTES:
                 for typed in [name[:-3] or name[0], name[:-1]]:
                     line = f"cbfstool image.rom remove -n {quote}{typed}"
-                    self.runs(line, "cbfstool", "image.rom", "remove", "-n", name)
+                    self.runs(line, f"cbfstool image.rom remove -n {shlex.quote(name)}")
 
     def test_a_name_outside_ascii(self):
-        self.runs(
-            "cbfstool image.rom remove -n zw", "cbfstool", "image.rom", "remove", "-n", "zwei\u00e4"
-        )
+        self.runs("cbfstool image.rom remove -n zw", "cbfstool image.rom remove -n 'zwei\u00e4'")
 
     def test_an_image_in_quotes(self):
         for typed, name in [
@@ -204,36 +192,27 @@ class Completions:
             ("it\\'s.rom", "it's.rom"), ('"it\'s.rom"', "it's.rom"), ("it\"'\"s.rom", "it's.rom"),
         ]:
             line = f"cbfstool {typed} extract -n lo"
-            self.runs(line, "cbfstool", name, "extract", "-n", "lone")
+            self.runs(line, f"cbfstool {shlex.quote(name)} extract -n lone")
             line = f"cbfscheck {typed} --keep RW"
-            self.runs(line, "cbfscheck", name, "--keep", "RW_VPD")
+            self.runs(line, f"cbfscheck {shlex.quote(name)} --keep RW_VPD")
 
     def test_a_region_in_quotes(self):
         for typed in ['"COREBOOT"', "COREBOO\\T", "'COREBOOT'"]:
             self.runs(
                 f"cbfstool image.rom extract -r {typed} -n lo",
-                "cbfstool", "image.rom", "extract", "-r", "COREBOOT", "-n", "lone",
+                "cbfstool image.rom extract -r COREBOOT -n lone",
             )
 
     def test_an_image_in_the_home_folder(self):
         home = self.terminal.home
-        self.runs(
-            "cbfstool ~/own.rom extract -n lo",
-            "cbfstool",
-            f"{home}/own.rom",
-            "extract",
-            "-n",
-            "lone",
-        )
-        self.runs(
-            "cbfscheck ~/own.rom --keep RW", "cbfscheck", f"{home}/own.rom", "--keep", "RW_VPD"
-        )
+        self.runs("cbfstool ~/own.rom extract -n lo", f"cbfstool {home}/own.rom extract -n lone")
+        self.runs("cbfscheck ~/own.rom --keep RW", f"cbfscheck {home}/own.rom --keep RW_VPD")
 
     def test_a_flashmap_in_the_home_folder(self):
         home = self.terminal.home
         self.runs(
             "cbfstool new.rom create -M ~/own.rom -r COR",
-            "cbfstool", "new.rom", "create", "-M", f"{home}/own.rom", "-r", "COREBOOT",
+            f"cbfstool new.rom create -M {home}/own.rom -r COREBOOT",
         )
 
     def test_a_program_of_a_folder(self):
@@ -245,16 +224,10 @@ class Completions:
         programs.rename(hidden)
         try:
             for typed in ["bin/", "./bin/", "~/tools/", "my\\ bin/", '"my bin"/']:
-                self.runs(
-                    f"{typed}cbfscheck image.rom -r RW", "cbfscheck", "image.rom", "-r", "RW_VPD"
-                )
+                self.runs(f"{typed}cbfscheck image.rom -r RW", "cbfscheck image.rom -r RW_VPD")
                 self.runs(
                     f"{typed}cbfstool image.rom read -r RW",
-                    "cbfstool",
-                    "image.rom",
-                    "read",
-                    "-r",
-                    "RW_VPD",
+                    "cbfstool image.rom read -r RW_VPD",
                 )
         finally:
             hidden.rename(programs)
@@ -263,26 +236,22 @@ class Completions:
             shutil.rmtree(self.terminal.home / "tools")
 
     def test_a_value_after_an_equals_sign(self):
-        self.runs("cbfscheck image.rom --keep=RW", "cbfscheck", "image.rom", "--keep=RW_VPD")
+        self.runs("cbfscheck image.rom --keep=RW", "cbfscheck image.rom --keep=RW_VPD")
         self.assertEqual(
             self.terminal.complete("cbfscheck image.rom --need=RW"),
             "cbfscheck image.rom --need=RW_VPD:",
         )
         if self.shell != "fish":
             # (fish knows no equals sign after an option of one letter)
-            self.runs("cbfstool image.rom read -r=RW", "cbfstool", "image.rom", "read", "-r=RW_VPD")
+            self.runs("cbfstool image.rom read -r=RW", "cbfstool image.rom read -r=RW_VPD")
 
     def test_a_second_value_after_a_comma(self):
-        self.runs(
-            "cbfscheck image.rom --keep GBB,RW", "cbfscheck", "image.rom", "--keep", "GBB,RW_VPD"
-        )
-        self.runs(
-            "cbfscheck image.rom --keep=GBB,RW", "cbfscheck", "image.rom", "--keep=GBB,RW_VPD"
-        )
-        self.runs("cbfscheck image.rom -rGBB,RW", "cbfscheck", "image.rom", "-rGBB,RW_VPD")
+        self.runs("cbfscheck image.rom --keep GBB,RW", "cbfscheck image.rom --keep GBB,RW_VPD")
+        self.runs("cbfscheck image.rom --keep=GBB,RW", "cbfscheck image.rom --keep=GBB,RW_VPD")
+        self.runs("cbfscheck image.rom -rGBB,RW", "cbfscheck image.rom -rGBB,RW_VPD")
         self.runs(
             "cbfstool new.rom create -M image.rom -r COREBOOT,RW",
-            "cbfstool", "new.rom", "create", "-M", "image.rom", "-r", "COREBOOT,RW_VPD",
+            "cbfstool new.rom create -M image.rom -r COREBOOT,RW_VPD",
         )
 
     def test_a_second_need(self):
