@@ -60,11 +60,14 @@ def source_files(program):
 def setUpModule():
     """Makes the folder of archives and packages."""
     global PACKED
+    for tool in ("make", "tar", "gzip", "strip", "objdump"):
+        if not shutil.which(tool):
+            raise unittest.SkipTest(f"{tool} is not installed")
     PACKED = Folder()
 
 
 def tearDownModule():
-    """Removes it."""
+    """Removes the folder of archives and packages."""
     PACKED.remove()
 
 
