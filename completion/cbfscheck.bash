@@ -1,11 +1,13 @@
-# Completion of cbfscheck for bash: options, files for its two images, and the areas of the first image on the line, as the
-# cbfstool in the same folder lists them. It offers no areas if the image is read-only, or if another command locks it for
-# longer than a second.
+# Completion of cbfscheck for bash: options, files for its two images, and the areas of the first
+# image on the line, as the cbfstool in the same folder lists them. It offers no areas if the image
+# is read-only, or if another command locks it for longer than a second.
 #
-# Names come from the image, and must never become a part of a command. So a name is offered with a backslash before each
-# special character; after an open quote, a name with a special character is not offered.
+# Names come from the image, and must never become a part of a command. So a name is offered with a
+# backslash before each special character; after an open quote, a name with a special character is
+# not offered.
 
-# _cbfscheck_join LINE WORD..: appends the words of the line to `words`, and joins those that bash splits at COMP_WORDBREAKS
+# _cbfscheck_join LINE WORD..: appends the words of the line to `words`, and joins those that bash
+# splits at COMP_WORDBREAKS
 _cbfscheck_join() {
     local line=$1 word
     shift
@@ -20,9 +22,10 @@ _cbfscheck_join() {
     done
 }
 
-# _cbfscheck_plain WORD: stores the argument that the word stands for in `plain`, the quote that is still open in `quote`, and
-# whether a quoted part has ended in `closed`. `ahead` is the start of the argument that readline does not replace: the
-# text before the open quote, or up to the last separator.
+# _cbfscheck_plain WORD: stores the argument that the word stands for in `plain`, the quote that is
+# still open in `quote`, and whether a quoted part has ended in `closed`. `ahead` is the start of
+# the argument that readline does not replace: the text before the open quote, or up to the last
+# separator.
 _cbfscheck_plain() {
     local word=$1 at=0 char next code
     plain="" quote="" closed="" ahead=""
@@ -50,7 +53,8 @@ _cbfscheck_plain() {
     done
 }
 
-# _cbfscheck_offer NAME..: offers the names that, after the text `before`, begin with the current word; `after` follows them
+# _cbfscheck_offer NAME..: offers the names that, after the text `before`, begin with the current
+# word; `after` follows them
 _cbfscheck_offer() {
     local name text
     for name; do

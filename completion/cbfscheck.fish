@@ -1,8 +1,10 @@
-# Completion of cbfscheck for fish: options, files for its two images, and the areas of the first image before the cursor, as
-# the cbfstool in the same folder lists them. It offers no areas if the image is read-only, or if another command locks it
-# for longer than a second. (fish does not tell a completion which words follow the cursor.)
+# Completion of cbfscheck for fish: options, files for its two images, and the areas of the first
+# image before the cursor, as the cbfstool in the same folder lists them. It offers no areas if the
+# image is read-only, or if another command locks it for longer than a second. (fish does not tell a
+# completion which words follow the cursor.)
 #
-# Names come from the image, and must never become a part of a command: fish quotes what `complete` offers.
+# Names come from the image, and must never become a part of a command: fish quotes what `complete`
+# offers.
 
 # Prints the path that a word of the line stands for; `commandline -o` has removed its quotes.
 function __cbfscheck_path
@@ -10,14 +12,16 @@ function __cbfscheck_path
     string replace -r '^~/' '' -- $argv[1]
 end
 
-# Returns whether no word before the cursor is this option, except the last one if its value is still to come.
+# Returns whether no word before the cursor is this option, except the last one if its value is
+# still to come.
 function __cbfscheck_lacks
     set -l words (commandline -opc)
     contains -- $words[-1] -r --keep --need; and set -e words[-1]
     not string match -q -r -- "^$argv[1]\$" $words[2..]
 end
 
-# Prints the images of the words of a line, without options and their values. Returns whether no value is still to come.
+# Prints the images of the words of a line, without options and their values. Returns whether no
+# value is still to come.
 function __cbfscheck_images
     set -l text no
     for word in $argv[2..]
@@ -36,7 +40,8 @@ function __cbfscheck_images
     test $text = no
 end
 
-# Returns whether an image may follow: fewer than two precede the cursor, and no value of an option is still to come.
+# Returns whether an image may follow: fewer than two precede the cursor, and no value of an option
+# is still to come.
 function __cbfscheck_wants_image
     set -l images (__cbfscheck_images (commandline -opc)); or return 1
     test (count $images) -lt 2

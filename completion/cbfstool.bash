@@ -1,11 +1,13 @@
-# Completion of cbfstool for bash: commands, options, types and digests, the regions that `layout` lists, and the components
-# that `print` lists. It offers no names if a program of the same name has another output, or if another command locks the
-# image for longer than a second.
+# Completion of cbfstool for bash: commands, options, types and digests, the regions that `layout`
+# lists, and the components that `print` lists. It offers no names if a program of the same name has
+# another output, or if another command locks the image for longer than a second.
 #
-# Names come from the image, and must never become a part of a command. So a name is offered with a backslash before each
-# special character; after an open quote, a name with a special character is not offered.
+# Names come from the image, and must never become a part of a command. So a name is offered with a
+# backslash before each special character; after an open quote, a name with a special character is
+# not offered.
 
-# _cbfstool_words: stores the words up to the cursor in `words`, and joins those that bash splits at COMP_WORDBREAKS
+# _cbfstool_words: stores the words up to the cursor in `words`, and joins those that bash splits at
+# COMP_WORDBREAKS
 _cbfstool_words() {
     local line=${COMP_LINE:0:COMP_POINT} word
     words=()
@@ -20,9 +22,10 @@ _cbfstool_words() {
     done
 }
 
-# _cbfstool_plain WORD: stores the argument that the word stands for in `plain`, the quote that is still open in `quote`, and
-# whether a quoted part has ended in `closed`. `ahead` is the start of the argument that readline does not replace: the
-# text before the open quote, or up to the last separator.
+# _cbfstool_plain WORD: stores the argument that the word stands for in `plain`, the quote that is
+# still open in `quote`, and whether a quoted part has ended in `closed`. `ahead` is the start of
+# the argument that readline does not replace: the text before the open quote, or up to the last
+# separator.
 _cbfstool_plain() {
     local word=$1 at=0 char next code
     plain="" quote="" closed="" ahead=""
@@ -50,7 +53,8 @@ _cbfstool_plain() {
     done
 }
 
-# _cbfstool_offer NAME..: offers the names that, after the text `before`, begin with the current word
+# _cbfstool_offer NAME..: offers the names that, after the text `before`, begin with the current
+# word
 _cbfstool_offer() {
     local name text
     for name; do
@@ -68,12 +72,14 @@ _cbfstool_offer() {
     done
 }
 
-# _cbfstool_list FILE COMMAND..: prints the output of the program, unless that takes more than a second
+# _cbfstool_list FILE COMMAND..: prints the output of the program, unless that takes more than a
+# second
 _cbfstool_list() {
     timeout 1 "$tool" "$@" 2> /dev/null
 }
 
-# _cbfstool_regions FILE: stores the names of the areas in `names`; none if the output is not that of this cbfstool
+# _cbfstool_regions FILE: stores the names of the areas in `names`; none if the output is not that
+# of this cbfstool
 _cbfstool_regions() {
     local row name
     names=()
@@ -97,8 +103,8 @@ _cbfstool_holding() {
     names=("${held[@]}")
 }
 
-# _cbfstool_components FILE REGION: stores the names of the components in `names`; none if the output is not that of this
-# cbfstool
+# _cbfstool_components FILE REGION: stores the names of the components in `names`; none if the
+# output is not that of this cbfstool
 _cbfstool_components() {
     local row name free=$'(empty)\t*\t@(null|deleted)\t*'
     _cbfstool_regions "$1"

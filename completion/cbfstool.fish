@@ -1,8 +1,9 @@
-# Completion of cbfstool for fish: commands, options, types and digests, the regions that `layout` lists, and the components
-# that `print` lists. It offers no names if a program of the same name has another output, or if another command locks the
-# image for longer than a second.
+# Completion of cbfstool for fish: commands, options, types and digests, the regions that `layout`
+# lists, and the components that `print` lists. It offers no names if a program of the same name has
+# another output, or if another command locks the image for longer than a second.
 #
-# Names come from the image, and must never become a part of a command: fish quotes what `complete` offers.
+# Names come from the image, and must never become a part of a command: fish quotes what `complete`
+# offers.
 
 # Prints the path that a word of the line stands for; `commandline -o` has removed its quotes.
 function __cbfstool_path
@@ -52,7 +53,8 @@ function __cbfstool_at
     test (count (commandline -opc)) -eq $argv[1]
 end
 
-# Returns whether the command is one of the later arguments, and no option with a letter of the first argument is given.
+# Returns whether the command is one of the later arguments, and no option with a letter of the
+# first argument is given.
 function __cbfstool_takes
     for letter in (string split '' -- $argv[1])
         __cbfstool_given $letter > /dev/null; and return 1
@@ -60,8 +62,8 @@ function __cbfstool_takes
     __cbfstool_is $argv[2..]
 end
 
-# Reads names as the program prints them, and prints them as they are stored. fish can offer neither an empty name nor one with
-# a control character, such as a line feed.
+# Reads names as the program prints them, and prints them as they are stored. fish can offer neither
+# an empty name nor one with a control character, such as a line feed.
 function __cbfstool_names
     while read -l shown
         string match -q -r -- '^$|\\\\x([01].|7f)' $shown; or printf '%b\n' $shown
