@@ -5,7 +5,7 @@ use Rattle.check_changes.specs.declared.images.Images.{Images}
 use Rattle.check_changes.specs.declared.fault.ChangeFault.{ChangeFault}
 use Rattle.check_changes.specs.Images.{by_old, by_new}
 use Rattle.flash_device.specs.Pages.{HasRead}
-use Rattle.check_changes.specs.Images.{HasReadFor, OnBoth}
+use Rattle.check_changes.specs.Images.{HasReadFor, OnBoth, lengths}
 
 module _ {F G : Type 0} where
   -- the images after at most m and n reads, a and b of them refused
@@ -34,3 +34,7 @@ module _ {F G : Type 0} where
   pub OnBoth-before : {m n : ℕ} {old new : Images F G} (P : List ℕ → List ℕ → Type 0)
       → HasReadBoth m n 0 0 old new → OnBoth new P → OnBoth old P
   OnBoth-before {old = old} {new = new} P read on = grind arith
+
+  -- reads keep the lengths
+  pub lengths-same : {m n a b : ℕ} {old new : Images F G} → HasReadBoth m n a b old new → lengths new ≡ lengths old
+  lengths-same {m} {n} {a} {b} {old} {new} read = grind arith

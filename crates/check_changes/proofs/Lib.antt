@@ -2,3 +2,4 @@ pub mod ImageLemmas
 pub mod AreaLemmas
 pub mod ComponentLemmas
 pub mod RegionLemmas
+pub mod HolderLemmas

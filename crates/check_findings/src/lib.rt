@@ -13,8 +13,8 @@ mod region;
 pub use areas::{ImageMap, NumberedArea, image_map};
 pub use fault::CheckFault;
 pub use image::{
-    CheckedImage, ImageFinding, Need, NeedFinding, NeededPlace, RegionFindings, cbfs_areas,
-    check_image, is_bad_hash, unmet,
+    CheckedImage, ImageFinding, NameSet, Need, NeedFinding, NeededPlace, RegionFindings,
+    cbfs_areas, check_image, is_bad_hash, unmet,
 };
 pub use laws::{
     blank_tails_are_known, clean_maps_are_sound, counts_are_of_the_entries, fit_images_are_whole,

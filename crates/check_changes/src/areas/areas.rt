@@ -10,6 +10,7 @@ ghost use Rattle.flash_device.specs.Pages.{Returns};
 
 use crate::areas::blocks::{Differing, blocks_of, different_in};
 use crate::areas::change::{AreaChange, AreaDifference};
+use crate::areas::holders::BlockHolders;
 use crate::areas::names::{NamedAreas, NamedBoth};
 use crate::areas::pairs::{AreaPair, pairs, push_gone};
 use crate::fault::ChangeFault;
@@ -44,13 +45,15 @@ fn push_content_changes<F: Flash, G: Flash>(
     changes: &mut Vec<AreaChange>,
     left: &mut u64,
     images: &mut Images<F, G>,
-    pairs: &[AreaPair],
+    holders: &BlockHolders<'_>,
     pair: AreaPair,
 ) -> Result<(), ChangeFault>
+    requires { holders.now.lens ≡ lengths images.old }
+
     ensures after { HasCompared (blocks_of (left.old - left.new)) images.old images.new result }
     ensures left { left.new ≡ left_after left.old (same_size_regions (lengths images.old) pair) }
     ensures changes { OnBoth images.old (λ x y. Gains changes.old changes.new result
-        (map (area_change pair.new) (content_differences x y pairs.now pair
+        (map (area_change pair.new) (content_differences x y holders.now.pairs.now pair
         (compared left.old (same_size_regions (lengths_of x y) pair))))) }
 {
     let area = pair.new;
@@ -59,7 +62,7 @@ fn push_content_changes<F: Flash, G: Flash>(
         return Ok(push_if(changes, pair.is_same_size(), AreaChange { area, what })?);
     };
     let len = blocks_of(regions.old.size());
-    let Differing { blocks, own } = different_in(images, &regions, pairs, len)?;
+    let Differing { blocks, own } = different_in(images, &regions, holders, len)?;
     let what = AreaDifference::Differs { blocks, own };
     Ok(push_if(changes, blocks > 0, AreaChange { area, what })?)
 }
@@ -67,22 +70,27 @@ fn push_content_changes<F: Flash, G: Flash>(
 fn push_changes<F: Flash, G: Flash>(
     changes: &mut Vec<AreaChange>,
     images: &mut Images<F, G>,
-    pairs: &[AreaPair],
+    holders: &BlockHolders<'_>,
 ) -> Result<(), ChangeFault>
+    requires { holders.now.lens ≡ lengths images.old }
+
     ensures after { HasCompared
-        (8 * (lengths images.old).new / 4096 + length pairs.now) images.old images.new result }
+        (8 * (lengths images.old).new / 4096 + length holders.now.pairs.now) images.old images.new result }
     ensures changes { OnBoth images.old (λ x y. Gains changes.old changes.new result
-        (area_changes_in x y pairs.now (8 * length y) pairs.now)) }
+        (area_changes_in x y holders.now.pairs.now (8 * length y) holders.now.pairs.now)) }
 {
     let mut left = MOST_TIMES * images.lengths().new;
-    for pair in pairs {
+    for pair in holders.pairs {
         push_entry_changes(changes, *pair)?;
-        push_content_changes(changes, &mut left, images, pairs, *pair)?;
+        push_content_changes(changes, &mut left, images, holders, *pair)?;
     }
     Ok(())
 }
 
-fn different_blocks<F: Flash, G: Flash>(images: &mut Images<F, G>) -> Result<u32, ChangeFault>
+fn different_blocks<F: Flash, G: Flash>(
+    alloc: Global,
+    images: &mut Images<F, G>,
+) -> Result<u32, ChangeFault>
     ensures after { HasCompared (blocks_of (lengths images.old).new) images.old images.new result }
     ensures blocks { OnBoth images.old (λ x y. Returns result (different_blocks x y)) }
 {
@@ -94,7 +102,8 @@ fn different_blocks<F: Flash, G: Flash>(images: &mut Images<F, G>) -> Result<u32
     let (Some(old), Some(new)) = (old, new) else {
         unreachable!()
     };
-    let common = different_in(images, &RegionPair { old, new }, &[], shorter)?;
+    let none = BlockHolders::of(alloc, &[], lens)?;
+    let common = different_in(images, &RegionPair { old, new }, &none, shorter)?;
     Ok((longer - shorter) as u32 + common.blocks)
 }
 
@@ -130,14 +139,15 @@ pub fn image_changes<'a, F: Flash, G: Flash>(
     ensures areas { OnBoth images.old (λ x y. IfOk result (λ changes.
         changes.areas.items ≡ area_changes x areas.entry.old.now y areas.entry.new.now)) }
 {
-    let blocks = different_blocks(images)?;
+    let blocks = different_blocks(alloc, images)?;
     let named = NamedBoth {
         old: NamedAreas::of(alloc, areas.old)?,
         new: NamedAreas::of(alloc, areas.new)?,
     };
     let pairs = pairs(alloc, &named)?;
     let mut areas = Vec::new(alloc);
-    push_changes(&mut areas, images, &pairs)?;
+    let holders = BlockHolders::of(alloc, &pairs, images.lengths())?;
+    push_changes(&mut areas, images, &holders)?;
     push_gone(&mut areas, &named)?;
     Ok(ImageChanges { blocks, areas })
 }

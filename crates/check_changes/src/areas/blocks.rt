@@ -2,9 +2,9 @@
 ghost use Rattle.std.specs.Prelude.{◌≡◌, ◌^◌, ◌≤◌, min, IfOk};
 ghost use Rattle.check_changes.specs.Areas.{is_difference, is_own_difference};
 ghost use Rattle.check_changes.specs.Areas.{blocks_of, count_below};
-ghost use Rattle.check_changes.specs.Images.{HasCompared, LieOn, OnBoth};
+ghost use Rattle.check_changes.specs.Images.{HasCompared, LieOn, OnBoth, lengths};
 
-use crate::areas::pairs::{AreaPair, is_held};
+use crate::areas::holders::BlockHolders;
 use crate::fault::ChangeFault;
 use crate::images::{Images, RegionPair};
 use flash_device::{Flash, PIECE};
@@ -27,10 +27,11 @@ pub struct Differing {
 pub fn different_in<F: Flash, G: Flash>(
     images: &mut Images<F, G>,
     regions: &RegionPair,
-    pairs: &[AreaPair],
+    holders: &BlockHolders<'_>,
     len: u64,
 ) -> Result<Differing, ChangeFault>
     requires regions { LieOn images.old regions.now }
+    requires lens { holders.now.lens ≡ lengths images.old }
     requires begin { len ≤ blocks_of (min regions.now.old.size regions.now.new.size) }
 
     ensures after { HasCompared len images.old images.new result }
@@ -38,14 +39,14 @@ pub fn different_in<F: Flash, G: Flash>(
     ensures blocks { OnBoth images.old (λ x y.
         IfOk result (λ n. n.blocks ≡ count_below (is_difference x y regions.now) len)) }
     ensures own { OnBoth images.old (λ x y.
-        IfOk result (λ n. n.own ≡ count_below (is_own_difference x y pairs.now regions.now) len)) }
+        IfOk result (λ n. n.own
+        ≡ count_below (is_own_difference x y holders.now.pairs.now regions.now) len)) }
 {
-    let lens = images.lengths();
     let mut blocks: u32 = 0;
     let mut own: u32 = 0;
     for number in 0..len {
         let is_different = images.is_different(*regions, number)?;
-        let is_own = is_different && !is_held(pairs, lens, *regions, number);
+        let is_own = is_different && !holders.have_block(regions, number);
         blocks += u32::from(is_different);
         own += u32::from(is_own);
     }

@@ -3,6 +3,7 @@
 mod areas;
 mod blocks;
 mod change;
+mod holders;
 mod map;
 mod names;
 mod pairs;

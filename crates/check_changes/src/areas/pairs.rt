@@ -1,8 +1,8 @@
 //! Pairs of areas.
-ghost use Rattle.std.specs.Prelude.{◌≡◌, ◌+◌, ◌*◌, ◌<◌, ◌≤◌, ◌^◌, length, IfSome, IfOk};
+ghost use Rattle.std.specs.Prelude.{◌≡◌, ◌≤◌, length, IfSome, IfOk};
 ghost use Rattle.std.specs.List.{flat_map};
 ghost use Rattle.check_findings.specs.Lists.{Gains};
-ghost use Rattle.check_changes.specs.Areas.{pairs, gone_of, is_held, is_same_size};
+ghost use Rattle.check_changes.specs.Areas.{pairs, gone_of, is_same_size};
 ghost use Rattle.check_changes.specs.Areas.{regions_of, same_size_regions};
 ghost use Rattle.check_changes.specs.Images.{LieWithin};
 ghost use Rattle.flash_device.specs.Pages.{Lists};
@@ -11,7 +11,6 @@ use crate::areas::change::{AreaChange, AreaDifference};
 use crate::areas::names::NamedBoth;
 use crate::images::{Lengths, RegionPair};
 use check_findings::{NumberedArea, push_if};
-use flash_device::PIECE;
 use flash_map::Region;
 use std::alloc::{AllocError, Global};
 
@@ -52,28 +51,6 @@ impl AreaPair {
         }
         self.regions(lens)
     }
-}
-
-/// Returns whether a pair contains this block of `outer`.
-pub fn is_held(pairs: &[AreaPair], lens: Lengths, outer: RegionPair, number: u64) -> bool
-    requires fit { (lens.old < 2 ^ 32) × (lens.new < 2 ^ 32) }
-    requires inside { LieWithin lens outer × (4096 * number ≤ outer.new.size) }
-    ensures { result ≡ is_held lens pairs.now outer number }
-{
-    let start = number * PIECE as u64;
-    let end = (start + PIECE as u64).min(outer.new.size());
-    for pair in pairs {
-        if let Some(inner) = pair.same_size_regions(lens) {
-            let is_held = inner.new.size() < outer.new.size()
-                && inner.old.start() + outer.new.start() == outer.old.start() + inner.new.start()
-                && inner.new.start() <= outer.new.start() + start
-                && outer.new.start() + end <= inner.new.start() + inner.new.size();
-            if is_held {
-                return true;
-            }
-        }
-    }
-    false
 }
 
 /// Returns the first new area of each name, in order, with its first old namesake.

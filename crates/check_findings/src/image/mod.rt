@@ -12,5 +12,6 @@ mod verdict;
 pub use choice::cbfs_areas;
 pub use finding::{ImageFinding, RegionFindings};
 pub use image::{CheckedImage, check_image};
+pub use names::NameSet;
 pub use needs::{Need, NeedFinding, NeededPlace, unmet};
 pub use verdict::is_bad_hash;

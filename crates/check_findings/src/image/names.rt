@@ -13,12 +13,14 @@ use crate::names::AreaNames;
 use std::alloc::{AllocError, Global};
 use std::collections::BTreeMap;
 
+/// Names of areas.
 #[derive(Drop)]
 pub struct NameSet<'a> {
     names: BTreeMap<&'a [u8], ()>,
 }
 
 impl<'a> NameSet<'a> {
+    /// Returns no names.
     pub fn new(alloc: Global) -> NameSet<'a>
         ensures { is_named_in result ≡ has_one_of [] }
     {
@@ -43,7 +45,8 @@ impl<'a> NameSet<'a> {
         Ok(set)
     }
 
-    fn add_all(&mut self, names: &[&'a [u8]]) -> Result<(), AllocError>
+    /// Adds these names.
+    pub fn add_all(&mut self, names: &[&'a [u8]]) -> Result<(), AllocError>
         ensures { (before : List (List ℕ)) → is_named_in self.old ≡ has_one_of before →
             OnOk result (is_named_in self.new ≡ has_one_of (before ++ names_in names.now)) }
     {
@@ -53,6 +56,7 @@ impl<'a> NameSet<'a> {
         Ok(())
     }
 
+    /// Returns whether the area has one of the names.
     pub fn contains(&self, area: &NumberedArea) -> bool
         ensures { result ≡ is_named_in self.now area.now }
     {

@@ -13,5 +13,6 @@ returns-clause-after g c = grind arith
 pub returns-clause-areas : goal.returns-clause-areas
 unfolding area_changes
 returns-clause-areas g c = λ h k.
-    let pushed = OnBoth-before (λ x y. c.push_changes.new.changes.items ≡ c.new-areas.result.items ++ area_changes_in x y c.deref.result.now (8 * length y) c.deref.result.now) c.in_ok-blocks.ensures.after c.in_ok-push_changes.ensures.changes h k in
-    rw (sym c.in_ok-of.ensures, sym c.in_ok-of-2.ensures) (pushed-both _ _ _ _ _ c.new-areas.ensures.items (rw (c.deref.ensures.value, c.in_ok-pairs.ensures.found) at pushed) c.in_ok-push_gone.ensures)
+    let held = c.in_ok-holders.holders.pairs.now in
+    let pushed = OnBoth-before (λ x y. c.push_changes.new.changes.items ≡ c.new-areas.result.items ++ area_changes_in x y held (8 * length y) held) c.in_ok-blocks.ensures.after c.in_ok-push_changes.ensures.changes h k in
+    rw (sym c.in_ok-of.ensures, sym c.in_ok-of-2.ensures) (pushed-both _ _ _ _ _ c.new-areas.ensures.items (rw (c.in_ok-holders.ensures.0, c.deref.ensures.value, c.in_ok-pairs.ensures.found) at pushed) c.in_ok-push_gone.ensures)

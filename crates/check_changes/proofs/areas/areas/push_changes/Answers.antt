@@ -1,7 +1,7 @@
-use Rattle.std.proofs.Common.{◌*◌, ◌++◌, length, arith}
+use Rattle.std.proofs.Common.{◌*◌, ◌∙◌, ◌++◌, length, sym, arith}
 use Rattle.check_changes.specs.Areas.{area_changes_in}
 use Rattle.check_changes.proofs.AreaLemmas.ChangeSteps.{changes_in-more}
-use Rattle.check_changes.proofs.ImageLemmas.{both-then, both-within}
+use Rattle.check_changes.proofs.ImageLemmas.{both-then, both-within, lengths-same}
 use Rattle.check_changes.proofs.areas.areas.push_changes.Goals as goal
 
 pub returns-in_err-push_entry_changes-clause-after : goal.returns-in_err-push_entry_changes-clause-after
@@ -19,6 +19,7 @@ loop-pair-preserved g c =
     let done = c.in_ok-push_content_changes.ensures in
     record {
       within = omega (arith, had.within, done.left);
+      lens = had.lens ∙ sym (lengths-same done.after);
       read = both-within _ _ (omega (arith, had.within, done.left)) (omega (arith, had.within, done.left)) (both-then had.read done.after);
-      changes = changes_in-more c.args.pairs.now _ _ _ (λ x y. c.args.changes.now.items ++ area_changes_in x y c.args.pairs.now (8 * length y) c.args.pairs.now) c.loop-pair-test.true had.read had.changes c.in_ok-push_entry_changes.ensures done.left done.changes;
+      changes = changes_in-more c.args.holders.now.pairs.now _ _ _ (λ x y. c.args.changes.now.items ++ area_changes_in x y c.args.holders.now.pairs.now (8 * length y) c.args.holders.now.pairs.now) c.loop-pair-test.true had.read had.changes c.in_ok-push_entry_changes.ensures done.left done.changes;
     }

@@ -10,7 +10,8 @@ invariant-loop-pair g l =
     let n = (most - l.left) / 4096 + l.pair-index in
     record {
       within : l.left ≤ most;
+      lens : l.holders.lens ≡ lengths l.images;
       read : HasReadBoth n n 0 0 l.initial.images l.images;
-      changes : OnBoth l.initial.images (λ x y. l.changes.items ++ area_changes_in x y l.pairs l.left (drop l.pair-index l.pairs)
-          ≡ l.initial.changes.items ++ area_changes_in x y l.pairs (8 * length y) l.pairs);
+      changes : OnBoth l.initial.images (λ x y. l.changes.items ++ area_changes_in x y l.holders.pairs.now l.left (drop l.pair-index l.holders.pairs.now)
+          ≡ l.initial.changes.items ++ area_changes_in x y l.holders.pairs.now (8 * length y) l.holders.pairs.now);
     }

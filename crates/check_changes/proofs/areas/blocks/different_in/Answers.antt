@@ -12,9 +12,10 @@ loop-number-preserved g c =
     let found = c.in_ok-is_different.is_different in
     let number = c.loop-number.number in
     let r = c.args.regions.now in
-    let pairs = c.args.pairs.now in
+    let pairs = c.args.holders.now.pairs.now in
+    let lens = c.args.holders.now.lens in
     let is = OnBoth-before (λ x y. found ≡ is_difference x y r number) had.read c.in_ok-is_different.ensures.different in
-    let own : c.if-is_different.is_own ≡ (found && not (is_held c.lengths-lens.result pairs r number)) = elim c.if-is_different.branch [
+    let own : c.if-is_different.is_own ≡ (found && not (is_held lens pairs r number)) = elim c.if-is_different.branch [
       | then-is_different w ↦ search rules
       | else-is_different w ↦ search rules
     ] in
@@ -23,5 +24,5 @@ loop-number-preserved g c =
       few = omega (arith, had.few, at_most_one found c.from-blocks.result c.from-blocks.ensures);
       fewer = omega (arith, had.fewer, at_most_one c.if-is_different.is_own c.from-own.result c.from-own.ensures);
       blocks = λ h k. omega (arith, count_below-more (is_difference _ _ r) number _ found (is h k) c.from-blocks.ensures, had.blocks h k);
-      own = λ h k. omega (arith, count_below-more (is_own_difference _ _ pairs r) number _ c.if-is_different.is_own (rw (is h k, c.lengths-lens.ensures.lengths) at own) c.from-own.ensures, had.own h k);
+      own = λ h k. omega (arith, count_below-more (is_own_difference _ _ pairs r) number _ c.if-is_different.is_own (rw (is h k, c.requires.lens) at own) c.from-own.ensures, had.own h k);
     }

@@ -12,5 +12,5 @@ invariant-loop-number g l =
       few : l.blocks ≤ l.number;
       fewer : l.own ≤ l.number;
       blocks : OnBoth l.initial.images (λ x y. l.blocks ≡ count_below (is_difference x y l.regions) l.number);
-      own : OnBoth l.initial.images (λ x y. l.own ≡ count_below (is_own_difference x y l.pairs l.regions) l.number);
+      own : OnBoth l.initial.images (λ x y. l.own ≡ count_below (is_own_difference x y l.holders.pairs.now l.regions) l.number);
     }
