@@ -3,7 +3,8 @@ ghost use Rattle.std.specs.Prelude.{◌≡◌, option_map, option_to_list};
 ghost use Rattle.check_report.specs.Rows.{names_in, of_area, seen_row};
 ghost use Rattle.check_report.specs.ChangeRows as of;
 
-use crate::kept::{change_verdict, is_kept};
+use crate::kept::change_verdict;
+use crate::names::KnownNames;
 use crate::rows::{Row, Verdict};
 use check_changes::{AreaChange, AreaDifference, MapChange};
 use check_findings::NumberedArea;
@@ -59,15 +60,15 @@ fn area_row<'a>(is_kept: bool, is_vital: bool, what: AreaDifference) -> Option<R
 /// Returns the row of a change, if any. Changes of kept areas are bad, and removals of vital areas.
 #[tactic(auto, unfolding(crate::specs::ChangeRows::area_change_rows))]
 pub fn area_change_row<'a>(
-    kept: &[&[u8]],
-    vital: &[&[u8]],
+    kept: &KnownNames<'_>,
+    vital: &KnownNames<'_>,
     change: &'a AreaChange,
 ) -> Option<Row<'a>>
     ensures { option_to_list (option_map seen_row result) ≡ of.area_change_rows
-        (names_in kept.now) (names_in vital.now) change.now }
+        (names_in kept.now.names.items) (names_in vital.now.names.items) change.now }
 {
     let area = &change.area;
-    let row = area_row(is_kept(kept, *area), is_kept(vital, *area), change.what)?;
+    let row = area_row(kept.have(area), vital.have(area), change.what)?;
     Some(row.of(area))
 }
 

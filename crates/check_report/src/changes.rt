@@ -7,7 +7,8 @@ ghost use Rattle.check_report.specs.ChangeRows as of;
 
 use crate::areas::{area_change_row, map_change_row, not_compared_row};
 use crate::fault::WriteFault;
-use crate::kept::{change_verdict, is_kept};
+use crate::kept::change_verdict;
+use crate::names::KnownNames;
 use crate::rows::{Row, RowWriter, Verdict};
 use check_changes::{AreaChange, ComponentChange, ComponentDifference, MapChange, RegionChange};
 use flash_device::Sink;
@@ -42,12 +43,12 @@ pub fn add_map_changes<W: Sink + Drop>(
 
 pub fn add_area_changes<W: Sink + Drop>(
     rows: &mut RowWriter<W>,
-    kept: &[&[u8]],
-    vital: &[&[u8]],
+    kept: &KnownNames<'_>,
+    vital: &KnownNames<'_>,
     changes: &[AreaChange],
 ) -> Result<(), WriteFault>
     ensures { Adds W.Sink result rows.old rows.new
-        (flat_map (of.area_change_rows (names_in kept.now) (names_in vital.now)) changes.now) }
+        (flat_map (of.area_change_rows (names_in kept.now.names.items) (names_in vital.now.names.items)) changes.now) }
 {
     for change in changes {
         if let Some(row) = area_change_row(kept, vital, change) {
@@ -95,20 +96,20 @@ fn add_component_changes<W: Sink + Drop>(
 
 pub fn add_region_changes<W: Sink + Drop>(
     rows: &mut RowWriter<W>,
-    kept: &[&[u8]],
+    kept: &KnownNames<'_>,
     changes: &[RegionChange],
 ) -> Result<(), WriteFault>
     ensures { Adds W.Sink result rows.old rows.new
-        (flat_map (of.region_change_rows (names_in kept.now)) changes.now) }
+        (flat_map (of.region_change_rows (names_in kept.now.names.items)) changes.now) }
 {
     for change in changes {
         match change {
             RegionChange::Compared { area, changes } => {
-                let is_kept = is_kept(kept, *area);
+                let is_kept = kept.have(area);
                 add_component_changes(rows, is_kept, area.area.text(), changes.as_slice())?;
             }
             RegionChange::NotCompared(area) => {
-                rows.add(not_compared_row(is_kept(kept, *area), area))?;
+                rows.add(not_compared_row(kept.have(area), area))?;
             }
         }
     }

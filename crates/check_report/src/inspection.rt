@@ -14,7 +14,7 @@ use crate::fault::WriteFault;
 use crate::findings::{add_findings, add_needs};
 use crate::kept::add_missing;
 use crate::list::list_components;
-use crate::names::{kept_names, with_areas};
+use crate::names::{KnownNames, kept_names, with_areas};
 use crate::request::Request;
 use crate::rows::{Printer, RowWriter};
 use check_changes::{AreaChange, MapChange, RegionChange};
@@ -77,8 +77,9 @@ fn add_changes<W: Sink + Drop>(
 ) -> Result<(), WriteFault>
     ensures { Adds W.Sink result rows.old rows.new (change_rows request.entry changes.now) }
 {
-    let kept = kept_names(alloc, request, changes)?;
-    let vital = with_areas(alloc, &kept, &changes.old.regions)?;
+    let kept = KnownNames::of(alloc, kept_names(alloc, request, changes)?)?;
+    let vital = with_areas(alloc, &kept.names, &changes.old.regions)?;
+    let vital = KnownNames::of(alloc, vital)?;
     let found = &changes.comparison;
     add_image_changes(rows, found.old_len, found.new_len, found.blocks)?;
     add_map_changes(rows, &found.map)?;

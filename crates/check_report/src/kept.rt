@@ -2,8 +2,6 @@
 ghost use Rattle.std.specs.Prelude.{◌≡◌, ◌++◌, if◌then◌else◌};
 ghost use Rattle.std.specs.List.{list_any};
 ghost use Rattle.check_findings.specs.Areas.{has_name};
-ghost use Rattle.check_findings.specs.ImageFindings.{has_one_of};
-ghost use Rattle.check_report.specs.Rows.{names_in};
 ghost use Rattle.check_report.specs.Effects.{Adds};
 ghost use Rattle.check_report.specs.Reports.{missing_rows};
 ghost use Rattle.check_report.specs.declared.rows.row.Verdict.TheVariants.{Bad, Change};
@@ -15,13 +13,6 @@ use crate::request::Request;
 use crate::rows::{RowWriter, Value, Verdict};
 use check_findings::NumberedArea;
 use flash_device::Sink;
-
-/// Returns whether the area has a kept name.
-pub fn is_kept(kept: &[&[u8]], area: NumberedArea) -> bool
-    ensures { result ≡ has_one_of (names_in kept.now) area }
-{
-    kept.iter().any(|name| area.area.name_is(name))
-}
 
 pub fn change_verdict(is_kept: bool) -> Verdict
     ensures { result ≡ (if is_kept then Bad else Change) }

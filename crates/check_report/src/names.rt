@@ -1,12 +1,41 @@
 //! Lists of area names.
 ghost use Rattle.std.specs.Prelude.{◌≡◌, ◌++◌, ◌&&◌, ◌%◌, map, nat_le, IfOk};
+ghost use Rattle.std.proofs.Props.{props};
+ghost use Rattle.check_findings.specs.ImageFindings.{has_one_of, is_named_in};
+ghost use Rattle.check_findings.specs.declared.areas.NumberedArea.{NumberedArea};
 ghost use Rattle.check_report.specs.Reports.{kept_names};
 ghost use Rattle.check_report.specs.Rows.{area_name, names_in};
 
 use crate::inspection::Changes;
 use crate::request::Request;
-use check_findings::{Need, NumberedArea};
+use check_findings::{NameSet, Need, NumberedArea};
 use std::alloc::{AllocError, Global};
+
+/// Names of areas in order, and the same names for searches.
+#[derive(Drop)]
+pub struct KnownNames<'a> {
+    pub names: Vec<&'a [u8]>,
+    set: NameSet<'a>,
+    ghost same: { (area : NumberedArea) →
+        is_named_in set area ≡ has_one_of (names_in names.items) area } by { Prim.hlevel props },
+}
+
+impl<'a> KnownNames<'a> {
+    pub fn of(alloc: Global, names: Vec<&'a [u8]>) -> Result<KnownNames<'a>, AllocError>
+        ensures { IfOk result (λ known. known.names.items ≡ names.entry.items) }
+    {
+        let mut set = NameSet::new(alloc);
+        set.add_all(&names)?;
+        Ok(KnownNames { names, set })
+    }
+
+    /// Returns whether the area has one of the names.
+    pub fn have(&self, area: &NumberedArea) -> bool
+        ensures { result ≡ has_one_of (names_in self.now.names.items) area.now }
+    {
+        self.set.contains(area)
+    }
+}
 
 pub fn need_areas<'a>(alloc: Global, needs: &[Need<'a>]) -> Result<Vec<&'a [u8]>, AllocError>
     ensures { IfOk result (λ names. names_in names.items ≡ map (λ n. n.area.now) needs.now) }

@@ -6,4 +6,4 @@ use Rattle.check_report.proofs.changes.add_region_changes.Given as goal
 
 abbrev pub invariant-loop-change : goal.invariant-loop-change
 invariant-loop-change g l = Adds g.W.Sink (Ok tt) l.initial.rows l.rows
-    (flat_map (region_change_rows (map (λ n. n.now) l.kept)) (take l.change-index l.changes))
+    (flat_map (region_change_rows (map (λ n. n.now) l.kept.names.items)) (take l.change-index l.changes))
