@@ -8,7 +8,7 @@ mod texts;
 pub use check_line::{CheckLine, Invocation, LineFault, read_check};
 pub use check_report::{Inspection, ReportFault, Request, inspect_change, inspect_image};
 use check_report::{Files, Form, Images, WriteFault, Written};
-use flash_store::{FileFlash, OpenFault, Output, Paged, WriteSink};
+use flash_store::{FileFlash, OpenFault, Output, Paged, RepeatingSink};
 use std::alloc::AllocError;
 use std::env;
 use std::hash::RandomState;
@@ -159,10 +159,10 @@ fn inspect<'a>(
 fn check<'a>(rt: &HostRuntime, line: &CheckLine<'a>) -> Result<bool, Refusal<'a>> {
     let request = request_of(line);
     let inspection = inspect(rt, line, request)?;
-    let out = WriteSink::new(Output::new(rt.alloc(), io::writer(rt)));
-    let Written { out, is_bad } = inspection.write(rt.alloc(), request, out);
+    let out = Output::new(rt.alloc(), RepeatingSink::new(io::writer(rt)));
+    let Written { mut out, is_bad } = inspection.write(rt.alloc(), request, out);
     let is_bad = is_bad?;
-    out.into_inner().finish().map_err(|_| Refusal::Output)?;
+    out.flush().map_err(|_| Refusal::Output)?;
     Ok(is_bad)
 }
 

@@ -4,11 +4,11 @@
 pub use cbfs_commands::{Command, Refusal, create_size, run};
 pub use cbfs_line::{Line, read_line};
 use flash_store::{
-    FileFlash, FileSource, Lock, MemSource, OpenFault, Output, Paged, Source, WriteSink,
+    FileFlash, FileSource, Lock, MemSource, OpenFault, Output, Paged, RepeatingSink, Sink, Source,
 };
 use std::env;
 use std::fs::File;
-use std::io::{self, ErrorKind, Write};
+use std::io::{self, ErrorKind};
 use std::process::ExitCode;
 
 const USAGE: &str = "\
@@ -42,10 +42,10 @@ fn make_output(rt: &HostRuntime, path: &str) -> Result<File, Refusal> {
 /// Runs a command that lists an image. The output is written after the release of the image's lock,
 /// even if the command is refused.
 fn list(rt: &HostRuntime, paged: &mut Paged<FileFlash>, command: &Command) -> Result<(), Refusal> {
-    let mut out = WriteSink::new(Output::keeping(rt.alloc(), io::writer(rt)));
+    let mut out = Output::keeping(rt.alloc(), RepeatingSink::new(io::writer(rt)));
     let answer = run(paged, command, &mut MemSource::new(&[]), &mut out);
     paged.flash().unlock();
-    finish(answer, out)
+    finish(answer, &mut out)
 }
 
 fn run_into_file(
@@ -54,17 +54,14 @@ fn run_into_file(
     command: &Command,
     path: &str,
 ) -> Result<(), Refusal> {
-    let mut out = WriteSink::new(Output::new(rt.alloc(), make_output(rt, path)?));
+    let mut out = Output::new(rt.alloc(), RepeatingSink::new(make_output(rt, path)?));
     let answer = run(paged, command, &mut MemSource::new(&[]), &mut out);
-    finish(answer, out)
+    finish(answer, &mut out)
 }
 
 /// Writes the buffered output after a completed or refused command.
-fn finish<W: Write + Drop>(
-    answer: Result<(), Refusal>,
-    out: WriteSink<Output<W>>,
-) -> Result<(), Refusal> {
-    let written = out.into_inner().finish();
+fn finish<S: Sink + Drop>(answer: Result<(), Refusal>, out: &mut Output<S>) -> Result<(), Refusal> {
+    let written = out.flush();
     answer?;
     written.map_err(|_| Refusal::Output)
 }
@@ -75,7 +72,12 @@ fn run_from<S: Source>(
     command: &Command,
     source: &mut S,
 ) -> Result<(), Refusal> {
-    run(paged, command, source, &mut WriteSink::new(io::writer(rt)))
+    run(
+        paged,
+        command,
+        source,
+        &mut RepeatingSink::new(io::writer(rt)),
+    )
 }
 
 fn create_from(

@@ -1,1 +1,2 @@
+pub mod BufferingLemmas
 pub mod StoringLemmas

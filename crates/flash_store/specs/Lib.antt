@@ -1,1 +1,2 @@
+pub mod Buffering
 pub mod Files

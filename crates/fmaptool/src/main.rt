@@ -4,7 +4,7 @@
 ghost use Rattle.std.specs.Prelude.{◌≡◌, ◌≢◌};
 ghost use Rattle.std.specs.IoError.{error_kind};
 
-use flash_store::{Output, WriteSink, open_beside_standard};
+use flash_store::{Output, RepeatingSink, open_beside_standard};
 use fmap_compiler::ReadText;
 pub use fmap_compiler::{Refusal, run};
 use fmd_lang::FmdFault;
@@ -50,10 +50,11 @@ fn compile_file(rt: &HostRuntime, input: &str, output: &str) -> Result<(), Failu
         Failure::Refused(Refusal::Output),
     ))?;
     let mut reader = ReadText::new(input);
-    let mut writer = WriteSink::new(Output::new(rt.alloc(), output));
+    let mut writer = Output::new(rt.alloc(), RepeatingSink::new(output));
     run(rt.alloc(), &mut reader, &mut writer)?;
-    let written = writer.into_inner().finish();
-    written.map_err(|_| Failure::Refused(Refusal::Output))
+    writer
+        .flush()
+        .map_err(|_| Failure::Refused(Refusal::Output))
 }
 
 /// Runs the command line; prints the usage if the command line is empty.

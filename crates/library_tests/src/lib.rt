@@ -7,6 +7,8 @@ mod compiler;
 #[cfg(test)]
 mod edit;
 #[cfg(test)]
+mod output;
+#[cfg(test)]
 mod report;
 #[cfg(test)]
 mod rows;

@@ -6,6 +6,6 @@ mod image;
 mod map;
 mod region;
 mod regions;
-mod reports;
+pub mod reports;
 mod rows;
 mod support;
