@@ -190,6 +190,7 @@ fn listed_at<F: Flash>(
     Ok(Listed::Attribute(head))
 }
 
+/// Returns a big-endian number of four bytes at a position in the region.
 pub fn value_at<F: Flash>(paged: &mut Paged<F>, region: Region, at: u64) -> Result<u32, FlashFault>
     requires { Reaches region (at + 4) paged.old.device }
 

@@ -12,7 +12,7 @@ mod region_reads;
 mod search;
 mod walk;
 
-pub use attribute_walk::{AttrWalk, attributes, packing};
+pub use attribute_walk::{AttrWalk, attributes, first_attribute, packing, value_at};
 pub use cell::Cell;
 pub use hashes::{HashState, check_hash};
 pub use laws::{
@@ -20,5 +20,6 @@ pub use laws::{
     walks_follow_the_cut,
 };
 pub use names::{name, name_is};
+pub use region_reads::{piece_in, read_in};
 pub use search::{find, is_component};
 pub use walk::{Step, Walk, WalkFault};

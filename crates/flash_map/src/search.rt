@@ -161,7 +161,8 @@ pub fn area<F: Flash>(paged: &mut Paged<F>, map: &FoundMap, i: u16) -> Result<Ar
     Ok(Area::read(&bytes))
 }
 
-fn area_named<F: Flash>(
+/// Returns the first area with the name.
+pub fn area_named<F: Flash>(
     paged: &mut Paged<F>,
     map: &FoundMap,
     name: &[u8],

@@ -1,0 +1,5 @@
+pub mod Hashes
+pub mod Places
+pub mod Magics
+pub mod Gathering
+pub mod Seals
