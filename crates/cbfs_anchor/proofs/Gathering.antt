@@ -1,11 +1,10 @@
 -- A walk that passes the metadata of cells to a hasher.
-use Rattle.std.proofs.Common.{◌≡◌, ℕ, ◌+◌, ◌-◌, ◌*◌, ◌/◌, ◌%◌, ◌<◌, ◌≤◌, ◌⊎◌, ⊎_elim, inl, inr, IsTrue, List, [], ◌∷◌, ◌++◌, length, Option, Some, None, Result, Ok, Err, refl, sym, ap, subst, ◌∙◌, arith, Bool, true, false, cond, append_assoc}
-use Rattle.std.specs.Prelude.{IsErrOf, MatchResult, IfOk}
+use Rattle.std.proofs.Common.{◌≡◌, ℕ, ◌+◌, ◌-◌, ◌/◌, ◌%◌, ◌≤◌, ◌⊎◌, ⊎_elim, inl, inr, IsTrue, List, [], ◌∷◌, ◌++◌, length, Option, Some, None, Result, Ok, Err, refl, sym, ap, ◌∙◌, arith, Bool, true, false, cond, append_assoc}
+use Rattle.std.specs.Prelude.{IsErrOf, MatchResult}
 use Rattle.std.specs.Option.{option_map_or, option_or}
 use Rattle.std.specs.Result.{result_map_both}
 use Rattle.std.proofs.lemmas.List.{append-nil}
 use Rattle.flash_format.specs.Head.{head_of, is_free}
-use Rattle.flash_format.specs.Cut.{Cut, cut}
 use Rattle.flash_format.specs.Components.{Component, component_at, components_from}
 use Rattle.flash_device.specs.Device.{fault_count}
 use Rattle.flash_device.specs.Pages.{Pages, HasRead}
@@ -178,20 +177,20 @@ module _ {F : Type 0} (demand : Demand) (a : Algorithm) (r : Range) (w : Walking
     still : IsTrue old.device.honest → IsTrue mid.device.honest
     still h = honest_still reads.device.calls.same_honesty (honest_still i.read.device.calls.same_honesty h)
 
-    module _ {T : Type 0} (result : Result T SealFault) (later : Hasher) (new : Pages F) (more : HasRead (2 + c.span / 3840) (fault_count by_device result) mid new)
+    module _ {T : Type 0} (result : Result T SealFault) (later : Hasher) (new : Pages F) (more : HasRead (3 + c.span / 3840) (fault_count by_device result) mid new)
         (hashed : IsTrue mid.device.honest → StandsIn (bytes_in r mid.device.content) c → (message : List ℕ) → Holds hasher message → HasHashed result (cell_metadata demand a c.at (cell_in (bytes_in r mid.device.content) c)) message later) where
       told : (h : IsTrue old.device.honest) → HasHashed result (cell_metadata demand a c.at (cell_in x c)) (i.so_far h).done later
       told h = (rw (same h) at (hashed (still h))) (stands h) (i.so_far h).done (i.so_far h).holds
 
-      read_more : HasRead (w.at / 16 + (n + (2 + c.span / 3840))) (fault_count by_device result) old new
-      read_more = HasRead-then (w.at / 16) (n + (2 + c.span / 3840)) (fault_count by_device result) old now new i.read (HasRead-then n (2 + c.span / 3840) (fault_count by_device result) now mid new reads more)
+      read_more : HasRead (w.at / 16 + (n + (3 + c.span / 3840))) (fault_count by_device result) old new
+      read_more = HasRead-then (w.at / 16) (n + (3 + c.span / 3840)) (fault_count by_device result) old now new i.read (HasRead-then n (3 + c.span / 3840) (fault_count by_device result) now mid new reads more)
 
       -- the metadata of the region, by the cell's
       whole : (h : IsTrue old.device.honest) → metadata_in demand a x ≡ prefixed (i.so_far h).done (each_cell demand a (cell_in x c) c (metadata_left demand a x (c.at + c.span)))
       whole h = (i.so_far h).whole ∙ ap (prefixed (i.so_far h).done) ((cell_told h).1 ∙ left_cell demand a x c)
 
     -- after the cell
-    pub gathering_more : {T : Type 0} (done : T) (v : Walking) (later : Hasher) (new : Pages F) → HasRead (2 + c.span / 3840) 0 mid new → v ≡ record w { at = w.at + c.span; steps = w.steps + 1 }
+    pub gathering_more : {T : Type 0} (done : T) (v : Walking) (later : Hasher) (new : Pages F) → HasRead (3 + c.span / 3840) 0 mid new → v ≡ record w { at = w.at + c.span; steps = w.steps + 1 }
         → algorithm_of later ≡ algorithm_of hasher
         → (IsTrue mid.device.honest → StandsIn (bytes_in r mid.device.content) c → (message : List ℕ) → Holds hasher message → HasHashed (let b : Result T SealFault = Ok done in b) (cell_metadata demand a c.at (cell_in (bytes_in r mid.device.content) c)) message later)
         → Gathering demand a r v later old new
@@ -200,7 +199,7 @@ module _ {F : Type 0} (demand : Demand) (a : Algorithm) (r : Range) (w : Walking
       going = i.going;
       inside = omega (arith, cell_of_region.inside, given.1);
       aligned = omega (arith, i.aligned, given.0.whole);
-      read = HasRead-within (w.at / 16 + (n + (2 + c.span / 3840))) ((w.at + c.span) / 16) 0 old new (omega (arith, few, given.0.positive, given.0.whole)) (read_more (let b : Result T SealFault = Ok done in b) later new more hashed);
+      read = HasRead-within (w.at / 16 + (n + (3 + c.span / 3840))) ((w.at + c.span) / 16) 0 old new (omega (arith, few, given.0.positive, given.0.whole)) (read_more (let b : Result T SealFault = Ok done in b) later new more hashed);
       algorithm = kind ∙ i.algorithm;
       so_far = λ h.
           let t = told (let b : Result T SealFault = Ok done in b) later new more hashed h in
@@ -221,11 +220,11 @@ module _ {F : Type 0} (demand : Demand) (a : Algorithm) (r : Range) (w : Walking
         cell_of_region = rw i.region at given.0
 
     -- a fault at the cell
-    pub gathering_refused : (T : Type 0) (fault : SealFault) (later : Hasher) (new : Pages F) → HasRead (2 + c.span / 3840) (by_device fault) mid new
+    pub gathering_refused : (T : Type 0) (fault : SealFault) (later : Hasher) (new : Pages F) → HasRead (3 + c.span / 3840) (by_device fault) mid new
         → (IsTrue mid.device.honest → StandsIn (bytes_in r mid.device.content) c → (message : List ℕ) → Holds hasher message → HasHashed (let b : Result T SealFault = Err fault in b) (cell_metadata demand a c.at (cell_in (bytes_in r mid.device.content) c)) message later)
         → HasRead (r.size / 16 + 2) (by_device fault) old new × (IsTrue old.device.honest → (fault ≡ faults.Device) ⊎ (metadata_in demand a x ≡ Err fault))
     gathering_refused T fault later new more hashed = (
-      HasRead-within (w.at / 16 + (n + (2 + c.span / 3840))) (r.size / 16 + 2) (by_device fault) old new (omega (arith, few, given.0.positive, given.0.whole, given.0.inside, given.1, i.inside, ap (λ (k : Range). k.size) i.region)) (read_more (let b : Result T SealFault = Err fault in b) later new more hashed),
+      HasRead-within (w.at / 16 + (n + (3 + c.span / 3840))) (r.size / 16 + 2) (by_device fault) old new (omega (arith, few, given.0.positive, given.0.whole, given.0.inside, given.1, i.inside, ap (λ (k : Range). k.size) i.region)) (read_more (let b : Result T SealFault = Err fault in b) later new more hashed),
       λ h. ⊎_elim (λ device. inl device)
           (λ is. inr (whole (let b : Result T SealFault = Err fault in b) later new more hashed h ∙ ap (λ (m : Message). prefixed (i.so_far h).done (and_then m (λ d. prefixed d (metadata_left demand a x (c.at + c.span))))) is))
           (told (let b : Result T SealFault = Err fault in b) later new more hashed h),

@@ -1,23 +1,33 @@
 -- The first hash attribute of a component, and its fault.
-use Rattle.std.proofs.Common.{◌≡◌, ℕ, ◌+◌, ◌-◌, ◌≤◌, List, length, Option, Some, refl, sym, ap, ◌∙◌, arith}
-use Rattle.std.specs.Prelude.{slice_range}
-use Rattle.std.specs.Option.{option_map}
+use Rattle.std.proofs.Common.{◌≡◌, ℕ, ◌+◌, ◌-◌, ◌<◌, ◌≤◌, Bool, cond, List, [], ◌∷◌, ◌++◌, length, take, drop, Option, Some, None, Result, Ok, Err, refl, sym, ap, ◌∙◌, arith}
+use Rattle.std.specs.Prelude.{slice_range, nat_lt}
+use Rattle.std.specs.Option.{option_map, option_map_or}
+use Rattle.std.proofs.lemmas.Bool.{lt-ltb, le-ltb}
+use Rattle.std.proofs.lemmas.List.{take-take}
 use Rattle.byteorder.specs.Endian.{big_number}
 use Rattle.flash_format.specs.declared.attribute.AttrHead.{AttrHead}
 use Rattle.flash_format.specs.declared.head.Head.{Head}
-use Rattle.flash_format.specs.Head.{be32, head_of}
-use Rattle.flash_format.specs.Entry.{Attribute, data_of, least_len, HASH}
-use Rattle.flash_format.specs.Components.{cell_attributes}
-use Rattle.cbfs_walk.specs.Cells.{PassesChecks, cell_in, content_start}
+use Rattle.flash_format.specs.Head.{be32, head_of, is_free}
+use Rattle.flash_format.specs.Entry.{Attribute, data_of, least_len, name_end, HASH}
+use Rattle.flash_format.specs.Components.{component_at}
+use Rattle.flash_format.proofs.Fronts.{range-take}
+use Rattle.cbfs_walk.specs.Cells.{IsComponentIn, PassesChecks, cell_in, content_start}
 use Rattle.cbfs_walk.specs.Walks.{StandsIn}
 use Rattle.cbfs_walk.specs.AttrWalks.{IsAttrIn}
 use Rattle.cbfs_walk.specs.declared.cell.Cell.{Cell}
-use Rattle.cbfs_walk.proofs.Parts.{range-inner, length-range}
-use Rattle.cbfs_walk.proofs.Checks.{checks_give}
+use Rattle.cbfs_walk.proofs.Parts.{range_is, range-inner, length-range}
+use Rattle.cbfs_walk.proofs.Checks.{checks_give, content_fits}
+use Rattle.cbfs_walk.proofs.CellNames.{has_field}
 use Rattle.cbfs_walk.proofs.CutLaws.{standing, cell_head}
 use Rattle.cbfs_walk.proofs.AttributeScans.{data_at}
-use Rattle.cbfs_anchor.specs.Metadata.{hash_from, stored_hash}
+use Rattle.cbfs_anchor.specs.Metadata.{cell_metadata, component_fault, hash_from, stored_hash, terminated}
+use Rattle.cbfs_anchor.specs.declared.algorithm.Algorithm.{Algorithm}
+use Rattle.cbfs_anchor.specs.declared.demand.Demand.{Demand}
 use Rattle.cbfs_anchor.specs.declared.demand.StoredHash.{StoredHash}
+use Rattle.cbfs_anchor.specs.declared.fault.SealFault.{SealFault}
+
+abbrev Message : Type 0
+Message = Result (List ℕ) SealFault
 
 hash_len : (h : AttrHead) → h.tag ≡ HASH → least_len h.tag ≡ 12
 hash_len h e = rw e refl
@@ -42,3 +52,37 @@ hash_read x c found number all inside is value told =
 -- the head in a cell's bytes
 pub head_here : (x : List ℕ) (size : ℕ) (c : Cell) → PassesChecks size c → StandsIn x c → head_of (cell_in x c) ≡ c.head
 head_here x size c checks stands = let k = checks_give (size - c.at) c.head c.span checks in cell_head x c (standing x c stands) k.positive
+
+-- ---- the metadata of a component
+
+-- in the cell, as behind its position
+terminated_here : (x : List ℕ) (c : Cell) (end offset : ℕ) → end ≤ offset → offset ≤ c.span → terminated end offset (cell_in x c) ≡ terminated end offset (drop c.at x)
+terminated_here x c end offset inner fits =
+    let y = drop c.at x in
+    let front : take (end - 1) (take c.span y) ≡ take (end - 1) y = take-take (end - 1) c.span y (omega arith) in
+    let rest : slice_range (take c.span y) end offset ≡ slice_range y end offset = range-take y c.span end offset fits in
+    ap (terminated end offset) (range_is x c.at c.span)
+    ∙ ap (λ l. l ++ (0 ∷ []) ++ slice_range (take c.span y) end offset) front
+    ∙ ap (λ l. take (end - 1) y ++ (0 ∷ []) ++ l) rest
+
+module _ (demand : Demand) (a : Algorithm) (x : List ℕ) (size : ℕ) (c : Cell) (is : IsComponentIn size c) (stands : StandsIn x c) (none : None ≡ component_fault demand a (component_at c.at (cell_in x c))) where
+  abbrev counted : Bool → Message
+  counted long = Ok (cond long [] (terminated (name_end c.head) c.head.offset (cell_in x c)))
+
+  counts : cell_metadata demand a c.at (cell_in x c) ≡ counted (nat_lt 256 c.head.offset)
+  counts =
+      let its = component_fault demand a (component_at c.at (cell_in x c)) in
+      let by = λ (h : Head) (o : Option SealFault). cond (is_free h) (let m : Message = Ok [] in m) (option_map_or (λ fault. Err fault) o (Ok (cond (nat_lt 256 h.offset) [] (terminated (name_end h) h.offset (cell_in x c))))) in
+      ap (λ (h : Head). by h its) (head_here x size c is.checks stands)
+      ∙ ap (λ o. by c.head o) (sym none)
+      ∙ ap (λ b. cond b (let m : Message = Ok [] in m) (counted (nat_lt 256 c.head.offset))) is.used
+
+  pub cell_counts : c.head.offset ≤ 256 → cell_metadata demand a c.at (cell_in x c) ≡ Ok (terminated (name_end c.head) c.head.offset (drop c.at x))
+  cell_counts short =
+      let k = content_fits size c is.checks in
+      let f = has_field size c is in
+      counts ∙ ap counted (le-ltb 256 c.head.offset short)
+      ∙ ap (λ (l : List ℕ). let m : Message = Ok l in m) (terminated_here x c (name_end c.head) c.head.offset f.high (omega (arith, k.in_cell)))
+
+  pub cell_too_long : 256 < c.head.offset → cell_metadata demand a c.at (cell_in x c) ≡ Ok []
+  cell_too_long long = counts ∙ ap counted (lt-ltb 256 c.head.offset long)

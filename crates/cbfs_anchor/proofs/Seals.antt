@@ -1,13 +1,10 @@
 -- The digests of an image, step by step, and the effect of a seal.
-use Rattle.std.proofs.Common.{◌≡◌, ◌⊎◌, ⊎_elim, inl, inr, ℕ, ◌+◌, ◌-◌, ◌*◌, ◌≤◌, Bool, true, false, ◌&&◌, IsTrue, List, ◌++◌, length, take, drop, Option, Some, None, Result, Ok, Err, refl, sym, ap, subst, ◌∙◌, arith}
-use Rattle.std.specs.Prelude.{IsErrOf, MatchResult, slice_range}
+use Rattle.std.proofs.Common.{◌≡◌, ◌⊎◌, inl, inr, ℕ, ◌+◌, ◌≤◌, true, List, ◌++◌, length, take, drop, Option, Some, None, Result, Ok, Err, refl, sym, ap, subst, ◌∙◌}
+use Rattle.std.specs.Prelude.{IsErrOf}
 use Rattle.std.specs.Option.{option_map_or}
-use Rattle.std.specs.Str.{bytes_eq}
 use Rattle.std.proofs.lemmas.Slice.Eq.{bytes_eq-Decides}
-use Rattle.std.proofs.lemmas.Bool.{and_parts}
 use Rattle.std.proofs.lemmas.List.{take-append-drop}
-use Rattle.flash_device.specs.Device.{overwritten, SameOutside}
-use Rattle.flash_device.specs.Regions.{Range, bytes_in}
+use Rattle.flash_device.specs.Regions.{bytes_in}
 use Rattle.flash_device.proofs.RegionLemmas.{image_is}
 use Rattle.cbfs_anchor.specs.declared.anchor.Anchor.{Anchor}
 use Rattle.cbfs_anchor.specs.declared.demand.Demand.{Demand}
@@ -20,7 +17,7 @@ use Rattle.cbfs_anchor.specs.Faults.{and_then}
 use Rattle.cbfs_anchor.specs.Layout.{anchor_in, digests_range}
 use Rattle.cbfs_anchor.specs.Places.{place_in}
 use Rattle.cbfs_anchor.specs.Metadata.{metadata_in}
-use Rattle.cbfs_anchor.specs.Seals.{DiffersInDigests, IsReport, IsReported, IsSeal, IsStopped, Survey, digests, report_digests, sealed, survey_at, survey_by, survey_in, writing_fault}
+use Rattle.cbfs_anchor.specs.Seals.{IsReport, IsReported, Survey, digests, report_digests, sealed, survey_at, survey_by, survey_in, writing_fault}
 
 -- ---- after the anchor is found
 

@@ -5,12 +5,11 @@
 --   11              the number of the algorithm
 --   12 up to 12 + d the digest of the metadata, of d bytes
 --   from 12 + d     the digest of the flash map, of d bytes
-use Rattle.std.specs.Prelude.{ℕ, ◌+◌, ◌*◌, List, [], ◌∷◌, length, drop, Option, Some, None, Result, Ok, Err, slice_index, slice_range, nat_lt, nat_eq, Bool, ◌||◌, if◌then◌else◌}
+use Rattle.std.specs.Prelude.{ℕ, ◌+◌, ◌*◌, List, [], ◌∷◌, length, Result, Ok, Err, slice_index, nat_lt, nat_eq, Bool, ◌||◌, if◌then◌else◌}
 use Rattle.std.specs.Option.{option_map_or}
 use Rattle.std.specs.List.{starts_with}
 use Rattle.memchr.specs.Find.{first_of, matches}
 use Rattle.flash_device.specs.Regions.{Range}
-use lib.Chars.{codes}
 use Rattle.cbfs_anchor.specs.declared.anchor.Anchor.{Anchor}
 use Rattle.cbfs_anchor.specs.declared.fault.SealFault.{SealFault}
 use Rattle.cbfs_anchor.specs.declared.fault.SealFault.TheVariants as faults

@@ -1,10 +1,11 @@
 -- The metadata of a region: of each component, in order, the bytes before its content (header,
--- name, attributes, and padding). Free space doesn't count.
-use Rattle.std.specs.Prelude.{ℕ, ◌+◌, ◌-◌, Bool, false, ◌&&◌, ◌||◌, not, List, [], ◌∷◌, ◌++◌, length, take, Option, Some, None, Result, Ok, Err, is_some, ◌==◌, nat_lt, nat_le, if◌then◌else◌}
+-- name, attributes, and padding). Free space doesn't count. Coreboot terminates a name in memory
+-- before it hashes, so the last byte of each name field counts as NUL.
+use Rattle.std.specs.Prelude.{ℕ, ◌-◌, Bool, false, ◌&&◌, ◌||◌, List, [], ◌∷◌, ◌++◌, length, take, slice_range, Option, Some, None, Result, Ok, Err, is_some, ◌==◌, nat_lt, nat_le, if◌then◌else◌}
 use Rattle.std.specs.Option.{option_map_or, option_or, option_map}
 use Rattle.std.specs.Result.{result_map_both}
 use Rattle.flash_format.specs.Head.{be32, head_of, is_free}
-use Rattle.flash_format.specs.Entry.{Attribute, data_of, HASH}
+use Rattle.flash_format.specs.Entry.{Attribute, data_of, name_end, HASH}
 use Rattle.flash_format.specs.Cut.{Cut, End, cut}
 use Rattle.flash_format.specs.Components.{Component, components_from, component_at}
 use Rattle.cbfs_walk.specs.CellReadings.{place_after}
@@ -17,7 +18,7 @@ use Rattle.cbfs_anchor.specs.declared.demand.Demand.{Demand}
 use Rattle.cbfs_anchor.specs.declared.demand.Demand.TheVariants as demands
 use Rattle.cbfs_anchor.specs.declared.demand.StoredHash.{StoredHash}
 use Rattle.cbfs_anchor.specs.Algorithms.{number_of, digest_len}
-use Rattle.cbfs_anchor.specs.Faults.{walk_fault, and_then}
+use Rattle.cbfs_anchor.specs.Faults.{walk_fault}
 
 -- the firmware doesn't find a component with more bytes before its content
 abbrev pub longest_metadata : ℕ
@@ -36,9 +37,14 @@ metadata_len c = (head_of c.bytes).offset
 abbrev pub is_long : ℕ → Bool
 is_long len = nat_lt longest_metadata len
 
--- the bytes before the content; longer metadata doesn't count
+-- the bytes before the content, the last byte of the name field as NUL
+abbrev pub terminated : ℕ → ℕ → List ℕ → List ℕ
+terminated end offset bytes = take (end - 1) bytes ++ (0 ∷ []) ++ slice_range bytes end offset
+
+-- longer metadata doesn't count
 abbrev pub metadata : Component → List ℕ
-metadata c = if is_long (metadata_len c) then [] else take (metadata_len c) c.bytes
+metadata c = if is_long (metadata_len c) then []
+    else terminated (name_end (head_of c.bytes)) (metadata_len c) c.bytes
 
 -- what the digest of the metadata covers
 unfoldable pub all_metadata : List Component → List ℕ

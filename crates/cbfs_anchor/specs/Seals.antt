@@ -1,10 +1,9 @@
 -- The digests of an image, and what a seal does.
-use Rattle.std.specs.Prelude.{◌≡◌, ◌⊎◌, ℕ, ◌+◌, ◌*◌, ◌/◌, ◌&&◌, Bool, List, ◌++◌, length, take, drop, Option, Some, None, Result, Ok, Err, MatchResult, slice_range, true, if◌then◌else◌}
+use Rattle.std.specs.Prelude.{◌≡◌, ◌⊎◌, ℕ, ◌+◌, ◌/◌, ◌&&◌, Bool, not, List, ◌++◌, length, take, drop, Option, Some, None, Result, Ok, Err, MatchResult, if◌then◌else◌}
 use Rattle.std.specs.Option.{option_map_or}
 use Rattle.std.specs.Str.{bytes_eq}
 use Rattle.flash_device.specs.Device.{Device, overwritten, SameOutside}
-use Rattle.flash_device.specs.Regions.{Range, bytes_in}
-use Rattle.cbfs_anchor.specs.declared.algorithm.Algorithm.{Algorithm}
+use Rattle.flash_device.specs.Regions.{bytes_in}
 use Rattle.cbfs_anchor.specs.declared.anchor.Anchor.{Anchor}
 use Rattle.cbfs_anchor.specs.declared.fault.SealFault.{SealFault}
 use Rattle.cbfs_anchor.specs.declared.fault.SealFault.TheVariants as faults
@@ -65,6 +64,18 @@ pub record IsReport (s : Survey) (image : List ℕ) (report : Report) : Type 0 w
   pub map : take (digest_len s.anchor.algorithm) report.map ≡ s.map
   pub metadata_valid : report.metadata_valid ≡ bytes_eq (stored_metadata s.anchor image) s.metadata
   pub map_valid : report.map_valid ≡ bytes_eq (stored_map s.anchor image) s.map
+
+-- the anchor has both digests
+abbrev pub has_digests : Survey → List ℕ → Bool
+has_digests s image = bytes_eq (stored_metadata s.anchor image) s.metadata
+    && bytes_eq (stored_map s.anchor image) s.map
+
+-- whether an image has an anchor with an outdated digest, whatever its components satisfy
+abbrev pub IsOutdated : Result Bool SealFault → List ℕ → Type 0
+IsOutdated result image = MatchResult result
+    (λ outdated. (s : Survey) × (survey_in demands.Nothing image ≡ Ok s)
+    × (outdated ≡ not (has_digests s image)))
+    (λ fault. (fault ≡ faults.Device) ⊎ (survey_in demands.Nothing image ≡ Err fault))
 
 -- the image with both digests renewed
 abbrev pub sealed : Survey → List ℕ → List ℕ

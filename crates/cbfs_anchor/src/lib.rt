@@ -18,4 +18,4 @@ pub use demand::Demand;
 pub use fault::SealFault;
 pub use names::name_at;
 pub use report::Report;
-pub use sealing::{inspect, seal};
+pub use sealing::{inspect, is_outdated, seal};

@@ -1,20 +1,21 @@
 //! The metadata of a region, as a message of a hasher.
-ghost use Rattle.std.specs.Prelude.{◌≡◌, ◌⊎◌, ℕ, ◌+◌, ◌/◌, List, ◌++◌, IfOk, Ok, Err, MatchResult};
+ghost use Rattle.std.specs.Prelude.{◌≡◌, ◌⊎◌, ℕ, ◌+◌, ◌/◌, ◌≤◌, drop, List, ◌++◌, IfOk, OnOk, Ok, Err, MatchResult};
 ghost use Rattle.flash_format.specs.Components.{cell_attributes, component_at};
+ghost use Rattle.flash_format.specs.Entry.{name_end};
 ghost use Rattle.flash_device.specs.Pages.{HasAnswered, HasReadBy, IfFound, OnHonestIn};
 ghost use Rattle.flash_device.specs.Regions.{LiesOn};
 ghost use Rattle.cbfs_walk.specs.Cells.{IsCellOn, IsCellIn, IsComponentIn, cell_in};
 ghost use Rattle.cbfs_walk.specs.Walks.{ReadsIn, ReadsCellAs, StandsIn, reads_over};
 ghost use Rattle.cbfs_anchor.specs.Algorithms.{Holds, algorithm_of};
 ghost use Rattle.cbfs_anchor.specs.Faults.{by_device};
-ghost use Rattle.cbfs_anchor.specs.Metadata.{cell_metadata, component_fault, metadata_in, stored_hash};
+ghost use Rattle.cbfs_anchor.specs.Metadata.{cell_metadata, component_fault, metadata_in, stored_hash, terminated};
 
 use crate::algorithm::Algorithm;
 use crate::demand::{Demand, LONGEST_METADATA, StoredHash, fault_of};
 use crate::fault::SealFault;
 use crate::hasher::Hasher;
 use cbfs_walk::{
-    Cell, Step, Walk, cells_stand_in_their_image, first_attribute, piece_in, value_at,
+    Cell, Step, Walk, cells_stand_in_their_image, first_attribute, name_end, piece_in, value_at,
 };
 use flash_device::{Flash, FlashFault, Paged};
 use flash_format::AttrHead;
@@ -71,6 +72,34 @@ fn component_fault<F: Flash>(
     ))
 }
 
+/// Passes the bytes before a component's content to a hasher, the last byte of the name field as
+/// NUL: coreboot terminates a name in memory before it hashes.
+#[tactic(auto, using(cbfs_walk::proofs::CellNames::has_field, cbfs_walk::proofs::Checks::content_fits))]
+fn hash_terminated<F: Flash>(
+    paged: &mut Paged<F>,
+    region: Region,
+    cell: &Cell,
+    hasher: &mut Hasher,
+) -> Result<(), FlashFault>
+    requires cell { IsCellOn IsComponentIn region cell.now paged.old.device }
+    requires short { cell.now.head.offset ≤ 256 }
+
+    ensures after { HasAnswered 2 paged.old paged.new result }
+    ensures algorithm { algorithm_of hasher.new ≡ algorithm_of hasher.old }
+    ensures hashed { OnHonestIn paged.old.device region (λ x. (message : List ℕ)
+        → Holds hasher.old message → OnOk result (Holds hasher.new (message ++ terminated
+        (name_end cell.now.head) cell.now.head.offset (drop cell.now.at x)))) }
+{
+    let end = name_end(&cell.head);
+    let bytes = piece_in(paged, region, cell.at, end as usize - 1)?;
+    hasher.update(bytes);
+    hasher.update(&[0]);
+    let at = cell.at + u64::from(end);
+    let bytes = piece_in(paged, region, at, (cell.head.offset - end) as usize)?;
+    hasher.update(bytes);
+    Ok(())
+}
+
 /// Passes a cell's metadata to a hasher.
 fn hash_cell<F: Flash>(
     paged: &mut Paged<F>,
@@ -82,7 +111,7 @@ fn hash_cell<F: Flash>(
 ) -> Result<(), SealFault>
     requires { IsCellOn IsCellIn region cell.now paged.old.device }
 
-    ensures after { HasReadBy by_device (2 + cell.now.span / 3840) paged.old paged.new result }
+    ensures after { HasReadBy by_device (3 + cell.now.span / 3840) paged.old paged.new result }
     ensures algorithm { algorithm_of hasher.new ≡ algorithm_of hasher.old }
     ensures hashed { OnHonestIn paged.old.device region (λ x. StandsIn x cell.now
         → (message : List ℕ) → Holds hasher.old message → MatchResult result
@@ -99,8 +128,7 @@ fn hash_cell<F: Flash>(
         return Err(fault);
     }
     if cell.head.offset <= LONGEST_METADATA {
-        let bytes = piece_in(paged, region, cell.at, cell.head.offset as usize)?;
-        hasher.update(bytes);
+        hash_terminated(paged, region, cell, hasher)?;
     }
     Ok(())
 }

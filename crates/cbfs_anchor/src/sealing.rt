@@ -6,7 +6,7 @@ ghost use Rattle.flash_device.specs.Regions.{LiesOn};
 ghost use Rattle.cbfs_anchor.specs.Algorithms.{digest_len};
 ghost use Rattle.cbfs_anchor.specs.Faults.{by_device};
 ghost use Rattle.cbfs_anchor.specs.Layout.{anchor_len};
-ghost use Rattle.cbfs_anchor.specs.Seals.{IsInspection, IsReported, IsSeal, inspection_reads, report_digests, survey_at, writing_fault};
+ghost use Rattle.cbfs_anchor.specs.Seals.{IsInspection, IsOutdated, IsReported, IsSeal, inspection_reads, report_digests, survey_at, writing_fault};
 
 use crate::anchor::{Anchor, DIGESTS_PLACE, find_anchor, has_header};
 use crate::demand::Demand;
@@ -89,6 +89,16 @@ pub fn inspect<F: Flash>(paged: &mut Paged<F>, demand: Demand) -> Result<Report,
     let place = find_place(paged)?;
     let anchor = find_anchor(paged, place.anchor)?;
     inspect_anchor(paged, demand, &place, anchor)
+}
+
+/// Returns whether an image has an anchor with an outdated digest, or the first error.
+pub fn is_outdated<F: Flash>(paged: &mut Paged<F>) -> Result<bool, SealFault>
+    ensures after { HasReadBy by_device (inspection_reads paged.old.device)
+        paged.old paged.new result }
+    ensures outdated { OnHonest paged.old.device (IsOutdated result) }
+{
+    let report = inspect(paged, Demand::Nothing)?;
+    Ok(!(report.metadata_valid && report.map_valid))
 }
 
 /// Writes both digests of a report by one call.

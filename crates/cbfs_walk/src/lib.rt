@@ -19,7 +19,7 @@ pub use laws::{
     cells_stand_in_their_image, listed_components_are_found, readings_take_steps,
     walks_follow_the_cut,
 };
-pub use names::{name, name_is};
+pub use names::{name, name_end, name_is};
 pub use region_reads::{piece_in, read_in};
 pub use search::{find, is_component};
 pub use walk::{Step, Walk, WalkFault};

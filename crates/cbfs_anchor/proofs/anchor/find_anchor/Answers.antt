@@ -1,4 +1,4 @@
-use Rattle.std.proofs.Common.{inr, sym, ap, arith, ◌∙◌, ◌+◌, Some, None, Ok}
+use Rattle.std.proofs.Common.{inr, sym, ap, arith, ◌∙◌, ◌+◌, Ok}
 use Rattle.flash_device.proofs.DeviceLemmas.{honest_still}
 use Rattle.cbfs_walk.proofs.Parts.{length-region}
 use Rattle.cbfs_anchor.specs.declared.anchor.Anchor.{Anchor}

@@ -1,7 +1,5 @@
-use Rattle.std.proofs.lemmas.Grind.{common_steps}
-use Rattle.std.proofs.Common.{arith, ap, sym, ◌∙◌, ◌+◌, Some, None}
+use Rattle.std.proofs.Common.{arith, ap, ◌∙◌}
 use Rattle.std.specs.Option.{option_map}
-use Rattle.flash_format.specs.Entry.{HASH}
 use Rattle.flash_device.proofs.DeviceLemmas.{honest_still}
 use Rattle.cbfs_walk.proofs.Checks.{content_fits}
 use Rattle.cbfs_walk.proofs.Parts.{length-region}

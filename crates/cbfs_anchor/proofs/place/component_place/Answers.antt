@@ -1,4 +1,4 @@
-use Rattle.std.proofs.Common.{inr, sym}
+use Rattle.std.proofs.Common.{inr}
 use Rattle.cbfs_anchor.proofs.Hashes.{head_here}
 use Rattle.cbfs_anchor.proofs.Places.{component_placed}
 use Rattle.cbfs_anchor.proofs.place.component_place.Goals as goal
