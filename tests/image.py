@@ -202,13 +202,23 @@ def anchor(algorithm, metadata_digest, map_digest, ignored=bytes(3)):
     return ANCHOR_MAGIC + ignored + bytes((algorithm,)) + metadata_digest + map_digest
 
 
+def terminated(component):
+    """Returns the metadata of a component as it is hashed: the last byte of the name field is NUL.
+
+    The name field ends at the attributes, or without attributes at the content.
+    """
+    attributes_offset, offset = struct.unpack(">II", component.metadata[16:24])
+    end = attributes_offset or offset
+    return component.metadata[: end - 1] + b"\0" + component.metadata[end:]
+
+
 def metadata_digest(algorithm, components):
     """Returns the digest of the metadata of components, in order.
 
     The metadata of a component is all bytes before its content. A component with more than 256
     bytes of metadata is left out.
     """
-    pieces = [one.metadata for one in components if len(one.metadata) <= 256]
+    pieces = [terminated(one) for one in components if len(one.metadata) <= 256]
     return digest(algorithm, b"".join(pieces))
 
 
