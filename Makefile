@@ -20,8 +20,8 @@ FOLDERS = $(BIN) $(MAN1) $(MAN5) $(BASH_FILES) $(ZSH_FILES) $(FISH_FILES) $(DOC)
 DOCUMENTS = addition.svg bench.svg growth.svg layers.svg overview.svg cbfscheck.schema.json \
 	CLAUSES.md DECISIONS.md DEVELOPING.md EXAMPLES.md FORMAT.md MISTAKES.md MOVING.md PROMISES.md VERIFICATION.md
 EXAMPLES = add-aligned add-at-address add-at-end bad-digests cbfs-regions check-build component-digest component-place \
-	copy-preserved extract-all flash-checked flashrom-layout fmap-config replace-component sign-region undo-nested-map
-PROGRAMS = cbfstool fmaptool cbfscheck
+	copy-preserved edit-verified extract-all flash-checked flashrom-layout fmap-config replace-component sign-region undo-nested-map
+PROGRAMS = cbfstool fmaptool cbfscheck cbfsseal
 FILES = $(foreach program,$(PROGRAMS),$(BIN)/$(program)$(SUFFIX) $(MAN1)/$(program)$(SUFFIX).1 \
 	$(BASH_FILES)/$(program)$(SUFFIX) $(ZSH_FILES)/_$(program)$(SUFFIX) $(FISH_FILES)/$(program)$(SUFFIX).fish) \
 	$(MAN5)/fmd$(SUFFIX).5 $(DOC)/README.md $(DOC)/CHANGELOG.md $(DOC)/LICENSE $(DOC)/bench/RESULTS.md \
@@ -29,6 +29,7 @@ FILES = $(foreach program,$(PROGRAMS),$(BIN)/$(program)$(SUFFIX) $(MAN1)/$(progr
 CBFSTOOL = crates/cbfstool/out/cbfstool
 FMAPTOOL = crates/fmaptool/out/fmaptool
 CBFSCHECK = crates/cbfscheck/out/cbfscheck
+CBFSSEAL = crates/cbfsseal/out/cbfsseal
 INSTALL = install
 INSTALL_DATA = $(INSTALL) -m 644
 # (dist and deb strip the programs; `make install` installs them as they were built)
@@ -41,12 +42,12 @@ SOURCE_DATE_EPOCH ?= $(shell LC_ALL=C date -u -d "$$(sed -n 's/^Released on \(.*
 MAINTAINER = $(shell cat dist/maintainer)
 ARCHIVE = cbfstool$(SUFFIX)-$(VERSION)-$(shell uname -m)
 # (the oldest C library that has all that the programs call)
-LIBC = $(shell objdump -T $(CBFSTOOL) $(FMAPTOOL) $(CBFSCHECK) | sed -n 's/.*GLIBC_\([0-9.]*\).*/\1/p' | sort -Vu | tail -n 1)
+LIBC = $(shell objdump -T $(CBFSTOOL) $(FMAPTOOL) $(CBFSCHECK) $(CBFSSEAL) | sed -n 's/.*GLIBC_\([0-9.]*\).*/\1/p' | sort -Vu | tail -n 1)
 
 # A page with the names of the programs and pages as they are installed: in macros as they are, in examples with dashes that
 # stay dashes. What the programs print begins with their plain names and a colon.
-NAMES = \(cbfstool\|fmaptool\|cbfscheck\)\>\([^:]\|$$\)
-NAMED = sed 's/cbfstool\|fmaptool\|cbfscheck/&$(SUFFIX)/g'
+NAMES = \(cbfstool\|fmaptool\|cbfscheck\|cbfsseal\)\>\([^:]\|$$\)
+NAMED = sed 's/cbfstool\|fmaptool\|cbfscheck\|cbfsseal/&$(SUFFIX)/g'
 ESCAPED = $(subst -,\\-,$(SUFFIX))
 CAPITALS = $(shell printf %s '$(SUFFIX)' | LC_ALL=C tr a-z A-Z)
 PAGE = LC_ALL=C sed -e '/^\./s/$(NAMES)/\1$(SUFFIX)\2/g' -e '/^[^.]/s/$(NAMES)/\1$(ESCAPED)\2/g' \
@@ -70,7 +71,7 @@ cbfstool:
 	@./prove cbfstool
 	@dist/show-sample $(CBFSTOOL)
 
-fmaptool cbfscheck:
+fmaptool cbfscheck cbfsseal:
 	@./prove $@
 
 help:
@@ -103,6 +104,9 @@ $(FMAPTOOL): $$(call sources,fmaptool)
 $(CBFSCHECK): $$(call sources,cbfscheck)
 	$(call build,cbfscheck)
 
+$(CBFSSEAL): $$(call sources,cbfsseal)
+	$(call build,cbfsseal)
+
 # (without rt it tests the programs as they were built)
 check:
 	@if command -v rt > /dev/null; then checks/check; else checks/check --built; fi
@@ -122,11 +126,12 @@ install: put
 		done; \
 		[ -z "$$same" ] || echo "install: programs of the same names:$$same; PATH decides which ones run, and SUFFIX=-proved gives other names"; }
 
-put: $(CBFSTOOL) $(FMAPTOOL) $(CBFSCHECK)
+put: $(CBFSTOOL) $(FMAPTOOL) $(CBFSCHECK) $(CBFSSEAL)
 	for folder in $(FOLDERS); do $(INSTALL) -d "$(DESTDIR)$$folder" || exit; done
 	$(INSTALL) -m 755 $(CBFSTOOL) "$(DESTDIR)$(BIN)/cbfstool$(SUFFIX)"
 	$(INSTALL) -m 755 $(FMAPTOOL) "$(DESTDIR)$(BIN)/fmaptool$(SUFFIX)"
 	$(INSTALL) -m 755 $(CBFSCHECK) "$(DESTDIR)$(BIN)/cbfscheck$(SUFFIX)"
+	$(INSTALL) -m 755 $(CBFSSEAL) "$(DESTDIR)$(BIN)/cbfsseal$(SUFFIX)"
 	for program in $(PROGRAMS); do $(STRIP) "$(DESTDIR)$(BIN)/$$program$(SUFFIX)" || exit; done
 	for program in $(PROGRAMS); do \
 		$(PAGE) man/$$program.1 > "$(DESTDIR)$(MAN1)/$$program$(SUFFIX).1" || exit; done
