@@ -2,11 +2,13 @@
 #![tactic(auto)]
 
 mod erase_filter;
+mod file_identity;
 mod file_source;
 mod flaky_file;
 mod open_fault;
 mod os_file;
 mod output;
+mod output_file;
 mod read_ahead;
 mod repeating_sink;
 mod standard_descriptors;
@@ -16,6 +18,7 @@ mod stored_source;
 mod transfer;
 
 pub use erase_filter::EraseFilter;
+pub use file_identity::{FileIdentity, FileKind};
 pub use file_source::FileSource;
 pub use flaky_file::FlakyFile;
 pub use flash_device::{
@@ -30,6 +33,7 @@ pub use flash_map::{
 pub use open_fault::OpenFault;
 pub use os_file::{Lock, OsFile};
 pub use output::Output;
+pub use output_file::OutputFile;
 pub use read_ahead::ReadAhead;
 pub use repeating_sink::RepeatingSink;
 pub use standard_descriptors::open_beside_standard;

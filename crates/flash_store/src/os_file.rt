@@ -2,13 +2,15 @@
 ghost use Rattle.std.specs.Prelude.{◌≡◌, ◌≢◌, Ok, Err, IfOk, IfErr, length};
 ghost use Rattle.std.specs.IoError.{error_kind};
 
+use crate::file_identity::{FileIdentity, FileKind};
 use crate::open_fault::{OpenFault, checked_length};
+use crate::output_file::close;
 use crate::standard_descriptors::open_beside_standard;
 use crate::storage::{Storage, StorageFault};
 use std::fs::{File, Metadata, OpenOptions};
 use std::io::{self, ErrorKind, Seek, SeekFrom};
 use std::marker::Model;
-use std::os::unix::fs::{FileExt, FileTypeExt, MetadataExt};
+use std::os::unix::fs::FileExt;
 use std::rt::Files;
 use std::snapshot::Snapshot;
 
@@ -17,6 +19,8 @@ use std::snapshot::Snapshot;
 pub struct OsFile {
     file: File,
     len: u32,
+    kind: FileKind,
+    identity: FileIdentity,
     faithful: Snapshot<bool>,
 }
 
@@ -82,7 +86,7 @@ impl OsFile {
         } else if opened.len()? < size {
             return Err(OpenFault::Failed(ErrorKind::StorageFull));
         }
-        Ok(Self::with_length(opened.file, size))
+        Ok(Self::with_length(opened, size))
     }
 
     /// Opens a file for reading with a shared lock. Refuses a pipe or a directory.
@@ -90,7 +94,8 @@ impl OsFile {
         open_locked(rt, Access::Read, path, Lock::Shared)?.with_all()
     }
 
-    /// Opens a regular file for reading. Refuses others: a pipe would wait for a writer.
+    /// Opens a regular file for reading. Refuses others: a pipe would wait for a writer. Refuses a
+    /// file with bytes after its stated length, such as most files of `/proc`, which state 0.
     pub fn open_to_read<R: Files<File = File>>(rt: &R, path: &str) -> Result<OsFile, OpenFault> {
         if !rt.metadata(path)?.is_file() {
             return Err(OpenFault::Failed(ErrorKind::Unsupported));
@@ -101,7 +106,10 @@ impl OsFile {
             return Err(OpenFault::Failed(ErrorKind::Unsupported));
         }
         let len = checked_length(metadata.len())?;
-        Ok(Self::with_length(file, len))
+        if !ends_at(&file, u64::from(len))? {
+            return Err(OpenFault::Failed(ErrorKind::InvalidData));
+        }
+        Ok(Self::with_length(Opened { file, metadata }, len))
     }
 
     /// Releases the lock.
@@ -109,12 +117,33 @@ impl OsFile {
         let _given_back = self.file.unlock();
     }
 
-    fn with_length(file: File, len: u32) -> OsFile
+    /// Returns the identity of the file.
+    pub fn identity(&self) -> FileIdentity {
+        self.identity
+    }
+
+    /// Returns the error of storing the written bytes, as far as the system reports one: a block
+    /// device stores them now. A regular file costs no more time: a copy of its descriptor is
+    /// closed, which reports an error of a network file system.
+    pub fn write_back(&self) -> io::Result<()> {
+        if self.kind == FileKind::BlockDevice {
+            return self.file.sync_data();
+        }
+        match self.file.try_clone() {
+            Ok(copy) => close(copy),
+            Err(_) => Ok(()),
+        }
+    }
+
+    fn with_length(opened: Opened, len: u32) -> OsFile
         ensures { length result.content ≡ len }
     {
+        let Opened { file, metadata } = opened;
         OsFile {
             file,
             len,
+            kind: FileKind::of(&metadata),
+            identity: FileIdentity::of(&metadata),
             faithful: Snapshot::of(&false),
         }
     }
@@ -151,17 +180,28 @@ impl Access {
     }
 }
 
-/// Refuses a pipe, which waits for a writer, and a directory, whose length depends on the file
-/// system.
-fn refuse_pipes<R: Files<File = File>>(rt: &R, path: &str) -> Result<(), OpenFault> {
-    let kind = rt.metadata(path)?.file_type();
-    if kind.is_dir() {
-        return Err(OpenFault::Failed(ErrorKind::IsADirectory));
+/// Refuses a path that is neither a regular file nor a block device, before it is opened: a pipe
+/// waits for a writer, the length of a directory depends on the file system, and the opening of a
+/// character device can have effects. `Create` makes a missing file.
+fn check_path<R: Files<File = File>>(rt: &R, access: Access, path: &str) -> Result<(), OpenFault> {
+    match rt.metadata(path) {
+        Ok(metadata) => FileKind::of(&metadata).check_image(),
+        Err(fault) if access == Access::Create && fault.kind() == ErrorKind::NotFound => Ok(()),
+        Err(fault) => Err(OpenFault::from(fault)),
     }
-    if kind.is_fifo() {
-        return Err(OpenFault::Failed(ErrorKind::Unsupported));
+}
+
+/// Returns true if a file has no byte from `at` on.
+fn ends_at(file: &File, at: u64) -> Result<bool, StorageFault> {
+    let mut next = [0; 1];
+    for _ in 0..OPENINGS {
+        match moved(file.read_at(&mut next, at)) {
+            Ok(n) => return Ok(n == 0),
+            Err(StorageFault::Failed) => return Err(StorageFault::Failed),
+            Err(StorageFault::Interrupted) => {}
+        }
     }
-    Ok(())
+    Err(StorageFault::Interrupted)
 }
 
 /// The maximum number of attempts.
@@ -177,15 +217,14 @@ fn open_locked<R: Files<File = File>>(
 ) -> Result<Opened, OpenFault> {
     let how = access.options();
     for _ in 0..OPENINGS {
-        if access == Access::Read {
-            refuse_pipes(rt, path)?;
-        }
+        check_path(rt, access, path)?;
         let file = open_beside_standard(rt, &how, path)?;
         lock.take(&file)?;
         let opened = Opened {
             metadata: file.metadata()?,
             file,
         };
+        FileKind::of(&opened.metadata).check_image()?;
         if opened.is_at(rt, path)? {
             return Ok(opened);
         }
@@ -206,7 +245,7 @@ impl Opened {
             Err(fault) if fault.kind() == ErrorKind::NotFound => return Ok(false),
             answer => answer?,
         };
-        Ok(self.metadata.dev() == there.dev() && self.metadata.ino() == there.ino())
+        Ok(FileIdentity::of(&self.metadata).is(FileIdentity::of(&there)))
     }
 
     /// Returns the length from the metadata, or a block device's from a seek. Refuses files without
@@ -220,7 +259,7 @@ impl Opened {
 
     fn with_all(mut self) -> Result<OsFile, OpenFault> {
         let len = self.len()?;
-        Ok(OsFile::with_length(self.file, len))
+        Ok(OsFile::with_length(self, len))
     }
 }
 

@@ -3,6 +3,7 @@ ghost use Rattle.std.specs.Prelude.{◌≡◌, ◌+◌, IsOk, IsErr, IsTrue, OnO
 ghost use Rattle.flash_store.specs.Files.{stored_device};
 
 use crate::erase_filter::EraseFilter;
+use crate::file_identity::FileIdentity;
 use crate::open_fault::OpenFault;
 use crate::os_file::{Lock, OsFile};
 use crate::read_ahead::ReadAhead;
@@ -142,6 +143,20 @@ impl StoredFlash<ReadAhead<EraseFilter<OsFile>>> {
     /// Releases the lock. The caller makes no further calls.
     pub fn unlock(&self) {
         self.storage.storage().storage().unlock();
+    }
+
+    /// Returns the identity of the file.
+    pub fn identity(&self) -> FileIdentity {
+        self.storage.storage().storage().identity()
+    }
+
+    /// Waits until a block device has stored the written bytes. Reports an error of storing the
+    /// bytes of a regular file only if closing the file reports it.
+    pub fn write_back(&self) -> Result<(), FlashFault> {
+        match self.storage.storage().storage().write_back() {
+            Ok(()) => Ok(()),
+            Err(_) => Err(FlashFault),
+        }
     }
 }
 

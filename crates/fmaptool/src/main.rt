@@ -4,12 +4,12 @@
 ghost use Rattle.std.specs.Prelude.{◌≡◌, ◌≢◌};
 ghost use Rattle.std.specs.IoError.{error_kind};
 
-use flash_store::{Output, RepeatingSink, open_beside_standard};
+use flash_store::{FileIdentity, Output, OutputFile, RepeatingSink, open_beside_standard};
 use fmap_compiler::ReadText;
 pub use fmap_compiler::{Refusal, run};
 use fmd_lang::FmdFault;
 use std::env;
-use std::fs::{File, OpenOptions};
+use std::fs::OpenOptions;
 use std::io::{self, ErrorKind};
 use std::process::ExitCode;
 use thiserror::Error;
@@ -45,16 +45,21 @@ fn compile_file(rt: &HostRuntime, input: &str, output: &str) -> Result<(), Failu
     let input = open_beside_standard(rt, OpenOptions::new().read(true), input).map_err(
         |fault| failure_of(&fault, Failure::Refused(Refusal::Read)),
     )?;
-    let output = File::create(rt, output).map_err(|fault| failure_of(
+    let identity = input
+        .metadata()
+        .map(|metadata| FileIdentity::of(&metadata))
+        .map_err(|fault| failure_of(&fault, Failure::Refused(Refusal::Read)))?;
+    let output = OutputFile::create(rt, output, identity).map_err(|fault| failure_of(
         &fault,
         Failure::Refused(Refusal::Output),
     ))?;
     let mut reader = ReadText::new(input);
     let mut writer = Output::new(rt.alloc(), RepeatingSink::new(output));
     run(rt.alloc(), &mut reader, &mut writer)?;
-    writer
-        .flush()
-        .map_err(|_| Failure::Refused(Refusal::Output))
+    let written = writer.flush();
+    let closed = writer.into_inner().writer.close();
+    written.map_err(|_| Failure::Refused(Refusal::Output))?;
+    closed.map_err(|_| Failure::Refused(Refusal::Output))
 }
 
 /// Runs the command line; prints the usage if the command line is empty.
