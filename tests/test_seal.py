@@ -304,7 +304,7 @@ class CommandLine(Seal):
     def test_usage_help_and_version(self):
         usage = "usage: cbfsseal [-v] [--allow-unhashed] IMAGE\n       cbfsseal --help | --version\n"
         self.check("cbfsseal", status=2, message=usage)
-        self.check("cbfsseal --version", output="cbfsseal 2.0\n")
+        self.check("cbfsseal --version", output="cbfsseal 2.1\n")
 
     def test_missing_image(self):
         self.refuses(1, "device fault", "cbfsseal none.rom")
