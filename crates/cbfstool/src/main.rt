@@ -4,10 +4,11 @@
 pub use cbfs_commands::{Command, Refusal, create_size, run};
 pub use cbfs_line::{Line, read_line};
 use flash_store::{
-    FileFlash, FileIdentity, FileSource, Lock, MemSource, OpenFault, Output, OutputFile, Paged,
-    RepeatingSink, Sink, Source,
+    FileFlash, FileIdentity, FileSource, Lock, MemSource, OpenFault, Output, Paged, RepeatingSink,
+    Sink, Source, create_output,
 };
 use std::env;
+use std::fs::File;
 use std::io::{self, ErrorKind};
 use std::process::ExitCode;
 
@@ -31,8 +32,8 @@ fn open_source(rt: &HostRuntime, path: &str) -> Result<FileSource, Refusal> {
 }
 
 /// Creates or empties the output file of a command, which must not be the image.
-fn make_output(rt: &HostRuntime, path: &str, image: FileIdentity) -> Result<OutputFile, Refusal> {
-    match OutputFile::create(rt, path, image) {
+fn make_output(rt: &HostRuntime, path: &str, image: FileIdentity) -> Result<File, Refusal> {
+    match create_output(rt, path, image) {
         Ok(file) => Ok(file),
         Err(fault) if fault.kind() == ErrorKind::OutOfMemory => Err(Refusal::Memory),
         Err(_) => Err(Refusal::Output),
@@ -48,8 +49,7 @@ fn list(rt: &HostRuntime, paged: &mut Paged<FileFlash>, command: &Command) -> Re
     finish(answer, &mut out)
 }
 
-/// Runs a command that copies bytes of the image to a file. The file is closed before the status
-/// is known, since closing it can report that its bytes are not stored.
+/// Runs a command that copies bytes of the image to a file.
 fn run_into_file(
     rt: &HostRuntime,
     paged: &mut Paged<FileFlash>,
@@ -59,10 +59,7 @@ fn run_into_file(
     let file = make_output(rt, path, paged.flash().identity())?;
     let mut out = Output::new(rt.alloc(), RepeatingSink::new(file));
     let answer = run(paged, command, &mut MemSource::new(&[]), &mut out);
-    let written = finish(answer, &mut out);
-    let closed = out.into_inner().writer.close();
-    written?;
-    closed.map_err(|_| Refusal::Output)
+    finish(answer, &mut out)
 }
 
 /// Writes the buffered output after a completed or refused command.
@@ -72,8 +69,7 @@ fn finish<S: Sink + Drop>(answer: Result<(), Refusal>, out: &mut Output<S>) -> R
     written.map_err(|_| Refusal::Output)
 }
 
-/// Runs a command that changes the image, and waits until the image is stored, as far as the system
-/// reports this.
+/// Runs a command that changes the image, and waits until a block device has stored it.
 fn run_from<S: Source>(
     rt: &HostRuntime,
     paged: &mut Paged<FileFlash>,

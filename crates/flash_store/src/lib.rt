@@ -33,7 +33,7 @@ pub use flash_map::{
 pub use open_fault::OpenFault;
 pub use os_file::{Lock, OsFile};
 pub use output::Output;
-pub use output_file::OutputFile;
+pub use output_file::create_output;
 pub use read_ahead::ReadAhead;
 pub use repeating_sink::RepeatingSink;
 pub use standard_descriptors::open_beside_standard;

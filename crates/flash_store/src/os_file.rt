@@ -4,7 +4,6 @@ ghost use Rattle.std.specs.IoError.{error_kind};
 
 use crate::file_identity::{FileIdentity, FileKind};
 use crate::open_fault::{OpenFault, checked_length};
-use crate::output_file::close;
 use crate::standard_descriptors::open_beside_standard;
 use crate::storage::{Storage, StorageFault};
 use std::fs::{File, Metadata, OpenOptions};
@@ -122,16 +121,12 @@ impl OsFile {
         self.identity
     }
 
-    /// Returns the error of storing the written bytes, as far as the system reports one: a block
-    /// device stores them now. A regular file costs no more time: a copy of its descriptor is
-    /// closed, which reports an error of a network file system.
+    /// Waits until a block device has stored the written bytes, and returns the error. A regular
+    /// file is not synced, because this would take longer than a command.
     pub fn write_back(&self) -> io::Result<()> {
-        if self.kind == FileKind::BlockDevice {
-            return self.file.sync_data();
-        }
-        match self.file.try_clone() {
-            Ok(copy) => close(copy),
-            Err(_) => Ok(()),
+        match self.kind {
+            FileKind::BlockDevice => self.file.sync_data(),
+            FileKind::Regular | FileKind::Directory | FileKind::Other => Ok(()),
         }
     }
 

@@ -1,56 +1,26 @@
 //! The file of a command's output.
 use crate::file_identity::{FileIdentity, FileKind};
 use std::fs::{File, Metadata, OpenOptions};
-use std::io::{self, ErrorKind, Write};
-use std::os::fd::IntoRawFd;
+use std::io::{self, ErrorKind};
 use std::rt::Files;
 
-/// A file that a command writes.
-#[derive(Drop)]
-pub struct OutputFile {
-    file: File,
-    kind: FileKind,
-}
-
-impl OutputFile {
-    /// Creates or empties a file. Refuses the file that the command reads, and leaves it unchanged:
-    /// so the file is opened, compared, and only then emptied.
-    pub fn create<R: Files<File = File>>(
-        rt: &R,
-        path: &str,
-        input: FileIdentity,
-    ) -> io::Result<OutputFile> {
-        let file = OpenOptions::new().write(true).create(true).open(rt, path)?;
-        let metadata = metadata_of(&file)?;
-        let kind = FileKind::of(&metadata);
-        if kind.check_image().is_ok() && FileIdentity::of(&metadata).is(input) {
-            return Err(io::Error::from(ErrorKind::ResourceBusy));
-        }
-        if kind == FileKind::Regular {
-            file.set_len(0)?;
-        }
-        Ok(OutputFile { file, kind })
+/// Creates or empties the file of an output. Refuses the file that the command reads, and leaves it
+/// unchanged: so the file is opened, compared, and only then emptied.
+pub fn create_output<R: Files<File = File>>(
+    rt: &R,
+    path: &str,
+    input: FileIdentity,
+) -> io::Result<File> {
+    let file = OpenOptions::new().write(true).create(true).open(rt, path)?;
+    let metadata = metadata_of(&file)?;
+    let kind = FileKind::of(&metadata);
+    if kind.check_image().is_ok() && FileIdentity::of(&metadata).is(input) {
+        return Err(io::Error::from(ErrorKind::ResourceBusy));
     }
-
-    /// Closes the file. A network file system, or one with quotas, can report only now that it did
-    /// not store the bytes.
-    pub fn close(self) -> io::Result<()> {
-        let OutputFile { file, kind } = self;
-        if kind != FileKind::Regular {
-            return Ok(());
-        }
-        close(file)
+    if kind == FileKind::Regular {
+        file.set_len(0)?;
     }
-}
-
-impl Write for OutputFile {
-    fn write(&mut self, buf: &[u8]) -> io::Result<usize> {
-        self.file.write(buf)
-    }
-
-    fn flush(&mut self) -> io::Result<()> {
-        Ok(())
-    }
+    Ok(file)
 }
 
 /// The maximum number of consecutive interrupted calls.
@@ -66,12 +36,4 @@ fn metadata_of(file: &File) -> io::Result<Metadata> {
         }
     }
     Err(io::Error::from(ErrorKind::Interrupted))
-}
-
-/// Closes a file, and returns the error of the call, which dropping the file would hide.
-pub fn close(file: File) -> io::Result<()> {
-    if libc::close(file.into_raw_fd()) < 0 {
-        return Err(io::Error::from(ErrorKind::Other));
-    }
-    Ok(())
 }

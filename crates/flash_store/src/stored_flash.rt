@@ -150,8 +150,7 @@ impl StoredFlash<ReadAhead<EraseFilter<OsFile>>> {
         self.storage.storage().storage().identity()
     }
 
-    /// Waits until a block device has stored the written bytes. Reports an error of storing the
-    /// bytes of a regular file only if closing the file reports it.
+    /// Waits until a block device has stored the written bytes. A regular file is not synced.
     pub fn write_back(&self) -> Result<(), FlashFault> {
         match self.storage.storage().storage().write_back() {
             Ok(()) => Ok(()),

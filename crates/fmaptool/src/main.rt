@@ -4,7 +4,7 @@
 ghost use Rattle.std.specs.Prelude.{◌≡◌, ◌≢◌};
 ghost use Rattle.std.specs.IoError.{error_kind};
 
-use flash_store::{FileIdentity, Output, OutputFile, RepeatingSink, open_beside_standard};
+use flash_store::{FileIdentity, Output, RepeatingSink, create_output, open_beside_standard};
 use fmap_compiler::ReadText;
 pub use fmap_compiler::{Refusal, run};
 use fmd_lang::FmdFault;
@@ -49,17 +49,16 @@ fn compile_file(rt: &HostRuntime, input: &str, output: &str) -> Result<(), Failu
         .metadata()
         .map(|metadata| FileIdentity::of(&metadata))
         .map_err(|fault| failure_of(&fault, Failure::Refused(Refusal::Read)))?;
-    let output = OutputFile::create(rt, output, identity).map_err(|fault| failure_of(
+    let output = create_output(rt, output, identity).map_err(|fault| failure_of(
         &fault,
         Failure::Refused(Refusal::Output),
     ))?;
     let mut reader = ReadText::new(input);
     let mut writer = Output::new(rt.alloc(), RepeatingSink::new(output));
     run(rt.alloc(), &mut reader, &mut writer)?;
-    let written = writer.flush();
-    let closed = writer.into_inner().writer.close();
-    written.map_err(|_| Failure::Refused(Refusal::Output))?;
-    closed.map_err(|_| Failure::Refused(Refusal::Output))
+    writer
+        .flush()
+        .map_err(|_| Failure::Refused(Refusal::Output))
 }
 
 /// Runs the command line; prints the usage if the command line is empty.
