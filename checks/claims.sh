@@ -664,7 +664,7 @@ libraries() {
         [ "$(head -n 1 "$file")" = "# $name" ] || fail "claims: the README of $name has another title"
         [ "$(wc -l < "$file")" -le 25 ] || fail "claims: the README of $name has $(wc -l < "$file") lines"
         case $name in
-            library_tests | cbfstool | fmaptool | cbfscheck) continue ;;
+            library_tests | cbfstool | fmaptool | cbfscheck | cbfsseal) continue ;;
         esac
         exported "$name" > used
         for other in $(sed -n 's/.*re-exports all names of //p' "$file" | grep -oE '\[[a-z_]*\]' | tr -d '[]'); do
@@ -758,7 +758,7 @@ versions() {
     local page version date
     version=$(cat "$top/VERSION")
     [[ $version =~ ^[0-9]+(\.[0-9]+)+$ ]] || fail "claims: $version is no version"
-    for page in cbfstool.1 fmaptool.1 cbfscheck.1 fmd.5; do
+    for page in cbfstool.1 fmaptool.1 cbfscheck.1 cbfsseal.1 fmd.5; do
         section "$page" HISTORY | grep -xF "This page is of version $version." > /dev/null || fail "claims: $page isn't of version $version"
     done
     grep -F "cbfscheck $version" "$top/crates/cbfscheck/src/texts.rt" > /dev/null || fail "claims: cbfscheck isn't of version $version"

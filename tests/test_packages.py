@@ -16,7 +16,7 @@ import unittest
 
 from tests.programs import TOP, Folder
 
-PROGRAMS = ("cbfstool", "fmaptool", "cbfscheck")
+PROGRAMS = ("cbfstool", "fmaptool", "cbfscheck", "cbfsseal")
 HAS_DPKG = shutil.which("dpkg-deb") is not None
 # The characters that make, the shell, or a pattern of sed treats specially.
 SPECIAL = "\"'`\\$&;,*?[]#|<>() \t\n"
@@ -230,9 +230,9 @@ class Names(MakeTest):
             ("man1/cbfstool-proved.1", "CBFSTOOL\\-PROVED 1"), (
                 "man1/fmaptool-proved.1", "FMAPTOOL\\-PROVED 1"
             ),
-            ("man1/cbfscheck-proved.1", "CBFSCHECK\\-PROVED 1"), (
-                "man5/fmd-proved.5", "FMD\\-PROVED 5"
-            ),
+            ("man1/cbfscheck-proved.1", "CBFSCHECK\\-PROVED 1"),
+            ("man1/cbfsseal-proved.1", "CBFSSEAL\\-PROVED 1"),
+            ("man5/fmd-proved.5", "FMD\\-PROVED 5"),
         ]:
             lines = (stage / "usr/share/man" / page).read_text(encoding="utf-8").splitlines()
             name = pathlib.Path(page).stem
@@ -243,7 +243,7 @@ class Names(MakeTest):
             self.assertEqual(next(line for line in lines if line.startswith(".Nm")), f".Nm {name}")
             for line in lines:
                 if not line.startswith('.\\"'):
-                    self.assertNotRegex(line, r"^\.(Xr|Nm) (cbfstool|fmaptool|cbfscheck|fmd)( |$)")
+                    self.assertNotRegex(line, r"^\.(Xr|Nm) (cbfstool|fmaptool|cbfscheck|cbfsseal|fmd)( |$)")
 
     def test_a_prefix_with_a_special_character(self):
         for character in SPECIAL:
@@ -297,6 +297,7 @@ class Help(MakeTest):
         "cbfstool",
         "fmaptool",
         "cbfscheck",
+        "cbfsseal",
         "test",
         "check",
         "install",
@@ -313,7 +314,7 @@ class Help(MakeTest):
 
     def test_each_target_is_listed_and_exists(self):
         listed = re.findall(r"\bmake ([a-z]+)", self.text)
-        listed += [name for name in re.findall(r"\b(fmaptool|cbfscheck)\b", self.text)]
+        listed += [name for name in re.findall(r"\b(fmaptool|cbfscheck|cbfsseal)\b", self.text)]
         self.assertEqual(sorted(set(listed)), sorted(self.TARGETS))
         self.make("-n", *self.TARGETS)
 
