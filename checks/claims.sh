@@ -211,7 +211,7 @@ listed_refusals() {
         sed 's/{at}/N/; s/{section}/N/; s/{what}/W/' > sources
     section fmaptool.1 DIAGNOSTICS | sed -n 's/^\.It \([0-9]*\) Qq \(.*\)/\1 \2/p' > listed
     diff sources listed > differ || fail "claims: fmaptool.1 has other refusals: $(cat differ)"
-    sed -n '/^## fmaptool/,$s/^| \([0-9]*\) | `\([^`]*\)` |.*/\1 \2/p' "$top/docs/FORMAT.md" | diff listed - > differ ||
+    sed -n '/^## fmaptool/,/^## cbfsseal/s/^| \([0-9]*\) | `\([^`]*\)` |.*/\1 \2/p' "$top/docs/FORMAT.md" | diff listed - > differ ||
         fail "claims: FORMAT.md has other refusals: $(cat differ)"
     section fmaptool.1 DIAGNOSTICS | awk '/^\.It 6 / { inside = 1 } /^\.It 7 / { inside = 0 } inside' | quoted | sort > expected
     sed -n '/^pub enum Expected/,/^}/s/.*#\[error("\(.*\)")\]/\1/p' "$top/crates/fmd_lang/src/fault.rt" | sed 's/}}/}/' | sort |
@@ -272,12 +272,6 @@ provoke() {
             again print
             rmdir tried.rom
             [ "$status" = 1 ] && [ "$(cat told)" = "cbfstool: $2" ] || return 1
-            # (the image as the file to write is lost)
-            for words in "extract -n t/raw" read; do
-                cp types.rom tried.rom
-                again $words -f tried.rom
-                [ "$status" = 1 ] && [ "$(cat told)" = "cbfstool: $2" ] && [ ! -s tried.rom ] || return 1
-            done
             cp types.rom tried.rom
             chmod 444 tried.rom
             status=0
@@ -289,7 +283,14 @@ provoke() {
             fi
             rm -f tried.rom
             ;;
-        2) again read -f absent/file ;;
+        2)
+            # (the image as the file to write is unchanged)
+            for words in "extract -n t/raw" read; do
+                again $words -f tried.rom
+                [ "$status" = 1 ] && [ "$(cat told)" = "cbfstool: $2" ] && command cmp -s types.rom tried.rom || return 1
+            done
+            again read -f absent/file
+            ;;
         3)
             again write -f /dev/null
             [ "$status" = 1 ] && [ "$(cat told)" = "cbfstool: $2" ] || return 1
