@@ -243,7 +243,8 @@ class Names(MakeTest):
             self.assertEqual(next(line for line in lines if line.startswith(".Nm")), f".Nm {name}")
             for line in lines:
                 if not line.startswith('.\\"'):
-                    self.assertNotRegex(line, r"^\.(Xr|Nm) (cbfstool|fmaptool|cbfscheck|cbfsseal|fmd)( |$)")
+                    plain = r"^\.(Xr|Nm) (cbfstool|fmaptool|cbfscheck|cbfsseal|fmd)( |$)"
+                    self.assertNotRegex(line, plain)
 
     def test_a_prefix_with_a_special_character(self):
         for character in SPECIAL:

@@ -218,7 +218,8 @@ class Refusals(Seal):
         inner = Component(b"bootblock", b"1234" + outdated(SHA256), type=BOOTBLOCK)
         self.refused(in_area([inner], b"").data(), "no anchor")
         wrong = Component(b"bootblock", b"1234" + outdated(SHA256), type=RAW)
-        self.refused(Image(SIZE, [FMAP, COREBOOT]).put("COREBOOT", region(wrong)).data(), "no anchor")
+        made = Image(SIZE, [FMAP, COREBOOT]).put("COREBOOT", region(wrong))
+        self.refused(made.data(), "no anchor")
 
     def test_only_the_first_component_of_the_name(self):
         first = Component(b"bootblock", b"1234", type=BOOTBLOCK)
@@ -248,7 +249,8 @@ class Refusals(Seal):
         made = Image(SIZE, areas).put("COREBOOT", region()).put_at(0x1F00, outdated(SHA256))
         self.refused(made.data(), message)
         areas = [FMAP, COREBOOT, Area("BOOTBLOCK", 0, 0x200)]
-        made = Image(SIZE, areas, map_at=0x40).put("COREBOOT", region()).put_at(0, outdated(SHA256)[:0x40])
+        made = Image(SIZE, areas, map_at=0x40).put("COREBOOT", region())
+        made.put_at(0, outdated(SHA256)[:0x40])
         self.refused(made.data(), message)
 
     def test_headers_with_a_digest(self):
@@ -297,12 +299,16 @@ class Refusals(Seal):
 class CommandLine(Seal):
     def test_bad_lines(self):
         message = "bad command line (see cbfsseal --help)"
-        for line in ("-x image.rom", "image.rom other.rom", "-v", "-v -v image.rom", "-v=1 image.rom"):
+        lines = ("-x image.rom", "image.rom other.rom", "-v", "-v -v image.rom", "-v=1 image.rom")
+        for line in lines:
             with self.subTest(line):
                 self.refuses(2, message, f"cbfsseal {line}", {"image.rom": b"x"})
 
     def test_usage_help_and_version(self):
-        usage = "usage: cbfsseal [-v] [--allow-unhashed] IMAGE\n       cbfsseal --help | --version\n"
+        usage = (
+            "usage: cbfsseal [-v] [--allow-unhashed] IMAGE\n"
+            "       cbfsseal --help | --version\n"
+        )
         self.check("cbfsseal", status=2, message=usage)
         self.check("cbfsseal --version", output="cbfsseal 2.1\n")
 
