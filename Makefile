@@ -17,8 +17,10 @@ DOC = $(PREFIX)/share/doc/cbfstool$(SUFFIX)
 # (the folder of the documents as the pages name it)
 DOC_SHOWN = $(DOC)
 FOLDERS = $(BIN) $(MAN1) $(MAN5) $(BASH_FILES) $(ZSH_FILES) $(FISH_FILES) $(DOC)/docs $(DOC)/bench $(DOC)/examples $(DOC)
-DOCUMENTS = addition.svg bench.svg growth.svg layers.svg overview.svg cbfscheck.schema.json \
+DOCUMENTS = addition.svg bench.svg growth.svg layers.svg overview.svg proved.svg region.svg cbfscheck.schema.json \
 	CLAUSES.md DECISIONS.md DEVELOPING.md EXAMPLES.md FORMAT.md MISTAKES.md MOVING.md PROMISES.md VERIFICATION.md
+# (the documents whose links lead to installed files)
+LINKED = README.md CHANGELOG.md bench/RESULTS.md $(addprefix docs/,$(filter %.md,$(DOCUMENTS)))
 EXAMPLES = add-aligned add-at-address add-at-end bad-digests cbfs-regions check-build component-digest component-place \
 	copy-preserved edit-verified extract-all flash-checked flashrom-layout fmap-config replace-component sign-region undo-nested-map
 PROGRAMS = cbfstool fmaptool cbfscheck cbfsseal
@@ -143,10 +145,12 @@ put: $(CBFSTOOL) $(FMAPTOOL) $(CBFSCHECK) $(CBFSSEAL)
 		$(NAMED) completion/$$program.fish > "$(DESTDIR)$(FISH_FILES)/$$name.fish" || exit; done
 	for example in $(EXAMPLES); do \
 		$(NAMED) dist/examples/$$example > "$(DESTDIR)$(DOC)/examples/$$example" || exit; done
-	$(INSTALL_DATA) README.md CHANGELOG.md LICENSE "$(DESTDIR)$(DOC)"
-	$(INSTALL_DATA) $(addprefix docs/,$(DOCUMENTS)) "$(DESTDIR)$(DOC)/docs"
-	$(INSTALL_DATA) bench/RESULTS.md "$(DESTDIR)$(DOC)/bench"
-	cd "$(DESTDIR)/" && chmod 644 $(patsubst /%,%,$(filter $(MAN1)/% $(MAN5)/% $(BASH_FILES)/% $(ZSH_FILES)/% $(FISH_FILES)/%,$(FILES))) \
+	$(INSTALL_DATA) LICENSE "$(DESTDIR)$(DOC)"
+	$(INSTALL_DATA) $(addprefix docs/,$(filter-out %.md,$(DOCUMENTS))) "$(DESTDIR)$(DOC)/docs"
+	for document in $(LINKED); do \
+		dist/installed-document $$document > "$(DESTDIR)$(DOC)/$$document" || exit; done
+	cd "$(DESTDIR)/" && chmod 644 $(patsubst /%,%,$(filter $(MAN1)/% $(MAN5)/% $(BASH_FILES)/% $(ZSH_FILES)/% $(FISH_FILES)/%,$(FILES)) \
+		$(addprefix $(DOC)/,$(LINKED))) \
 		&& chmod 755 $(patsubst /%,%,$(addprefix $(DOC)/examples/,$(EXAMPLES)))
 
 # Folders that other programs use too stay, but the one of the documents, and empty ones of a staging folder, go.
@@ -158,10 +162,10 @@ uninstall:
 
 # The archive and the package have a README of their own, with the names of the programs as they are there, and the sample
 # that it uses.
-OWN_README = LC_ALL=C sed -e 's/\<\(cbfstool\|fmaptool\|cbfscheck\|man fmd\)\>/&$(SUFFIX)/g'
+OWN_README = LC_ALL=C sed -e 's/\<\(cbfstool\|fmaptool\|cbfscheck\|cbfsseal\|man fmd\)\>/&$(SUFFIX)/g'
 
 # (the pages name the documents from the archive's own folder)
-dist: $(CBFSTOOL) $(FMAPTOOL) $(CBFSCHECK)
+dist: $(CBFSTOOL) $(FMAPTOOL) $(CBFSCHECK) $(CBFSSEAL)
 	rm -rf "$(OUT)/dist"
 	mkdir -p "$(OUT)/dist"
 	$(MAKE) put DESTDIR="$$(cd "$(OUT)/dist" && pwd)" PREFIX=/$(ARCHIVE) DOC_SHOWN=share/doc/cbfstool$(SUFFIX) STRIP='strip --remove-section=.comment'
@@ -174,17 +178,20 @@ dist: $(CBFSTOOL) $(FMAPTOOL) $(CBFSCHECK)
 	rm -rf "$(OUT)/dist"
 	@echo "$(OUT)/$(ARCHIVE).tar.gz"
 
-deb: $(CBFSTOOL) $(FMAPTOOL) $(CBFSCHECK)
+deb: $(CBFSTOOL) $(FMAPTOOL) $(CBFSCHECK) $(CBFSSEAL)
 	rm -rf "$(OUT)/deb"
 	mkdir -p "$(OUT)/deb"
 	$(MAKE) package SUFFIX="$(or $(SUFFIX),-proved)" PREFIX=/usr ZSH_FILES=/usr/share/zsh/vendor-completions STRIP='strip --remove-section=.comment' \
 		DESTDIR="$$(cd "$(OUT)/deb" && pwd)"
 	rm -rf "$(OUT)/deb"
+	@echo "$(OUT)/cbfstool$(or $(SUFFIX),-proved)_$(VERSION)_$$(dpkg --print-architecture).deb"
 
 package: put
 	gzip -9n "$(DESTDIR)$(MAN1)"/*.1 "$(DESTDIR)$(MAN5)"/*.5
 	mv "$(DESTDIR)$(DOC)/LICENSE" "$(DESTDIR)$(DOC)/copyright"
 	rm "$(DESTDIR)$(DOC)/CHANGELOG.md"
+	cd "$(DESTDIR)$(DOC)" && sed -E -i 's,\]\((\.\./)?CHANGELOG\.md\),](\1changelog.gz),g; s,\]\((\.\./)?LICENSE\),](\1copyright),g' \
+		$(filter-out CHANGELOG.md,$(LINKED))
 	dist/debian-changelog cbfstool$(SUFFIX) $(call quoted,$(MAINTAINER)) | gzip -9n > "$(DESTDIR)$(DOC)/changelog.gz"
 	$(OWN_README) -e '/^This archive runs /d; /^\$$ PATH=/d; s/^Put its .*/In an empty folder:/; s/this archive/this package/' \
 		-e 's,\<share/doc/,/usr/share/doc/,; s,\<samples/,$(DOC)/samples/,' dist/README.md > "$(DESTDIR)$(DOC)/README.Debian"
@@ -194,10 +201,12 @@ package: put
 	printf '%s\n' "Package: cbfstool$(SUFFIX)" "Version: $(VERSION)" "Architecture: $$(dpkg --print-architecture)" \
 		'Maintainer: $(subst ','\'',$(MAINTAINER))' "Installed-Size: $$(du -k -s --apparent-size "$(DESTDIR)/usr" | cut -f 1)" \
 		"Section: utils" "Priority: optional" "Depends: libc6 (>= $(LIBC))" \
-		"Description: proved cbfstool, fmaptool and cbfscheck for coreboot flash images" \
+		"Description: proved cbfstool, fmaptool, cbfscheck and cbfsseal for coreboot" \
 		" cbfstool$(SUFFIX) lists, reads and changes the regions of a flash image," \
-		" fmaptool$(SUFFIX) compiles a flashmap descriptor, and cbfscheck$(SUFFIX) checks" \
-		" that the flash map and the file systems of an image are sound." \
+		" fmaptool$(SUFFIX) compiles a flashmap descriptor, cbfscheck$(SUFFIX) checks" \
+		" that the flash map and the file systems of an image are sound, and" \
+		" cbfsseal$(SUFFIX) renews the digests in the bootblock of a board with" \
+		" CBFS verification." \
 		" ." \
 		" Functions are proved to satisfy their contracts. The names differ from" \
 		" those of coreboot-utils, so both packages can be installed." > "$(DESTDIR)/DEBIAN/control"

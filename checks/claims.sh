@@ -198,7 +198,7 @@ listed_refusals() {
     [ "$(wc -l < listed)" -gt 20 ] || fail "claims: only $(wc -l < listed) refusals"
     section cbfstool.1 DIAGNOSTICS | awk '/^\.It 9 / { inside = 1 } /^\.It 10 / { inside = 0 } inside' | quoted |
         sed 's/ (.*//' | sort > kinds
-    sed -n '/^fn damage/,/^}/s/.*=> "\(.*\)",/\1/p' "$top/crates/cbfs_requests/src/refusal.rt" | sort | diff kinds - ||
+    sed -n "s/^            DamageKind::.*=> \"\(.*\)\",/\1/p" "$top/crates/flash_format/src/damage_name.rt" | sort | diff kinds - ||
         fail "claims: cbfstool.1 has other kinds of damage"
     mv listed refusals
     # (each kind of damage has the number that it has in the sources)
@@ -492,6 +492,7 @@ words() {
         [ ! -e out ] || fail "claims: $line: a file was made"
         count=$((count + 1))
     done < <(section cbfstool.1 DIAGNOSTICS | awk '
+        /^\.Ss / { exit }
         /^\.It [0-9]/ { inside = $2 == 20 }
         inside && /^\.It$/ { item++ }
         inside && /^\.(Cm|Li) .* [,:]$/ || inside && /^\.Cm [a-zA-Z-]* [,:]$/ {
@@ -663,7 +664,7 @@ libraries() {
         file=$pages/$name.README
         [ -e "$file" ] || file=$folder/README.md
         [ "$(head -n 1 "$file")" = "# $name" ] || fail "claims: the README of $name has another title"
-        [ "$(wc -l < "$file")" -le 25 ] || fail "claims: the README of $name has $(wc -l < "$file") lines"
+        [ "$(wc -l < "$file")" -le 60 ] || fail "claims: the README of $name has $(wc -l < "$file") lines"
         case $name in
             library_tests | cbfstool | fmaptool | cbfscheck | cbfsseal) continue ;;
         esac
@@ -686,7 +687,7 @@ mistakes() {
     [ -e "$file" ] || file=$top/docs/MISTAKES.md
     while read -r word; do
         case $word in
-            checks/*) [ -e "$top/$word" ] || fail "claims: MISTAKES.md names $word, which isn't there" ;;
+            checks/* | tests/*) [ -e "$top/$word" ] || fail "claims: MISTAKES.md names $word, which isn't there" ;;
             *_*) [ -d "$top/crates/$word" ] || [ -n "$(find "$top"/crates/*/must-fail -name "$word.edit")" ] ||
                 grep -rqsE --include='*.rt' --include='*.antt' "(fn|^) ?$word( :|\\(|<)" "$top"/crates/*/{src,specs,proofs} ||
                 fail "claims: MISTAKES.md names $word, which isn't there" ;;
@@ -735,7 +736,7 @@ walks() {
     [ -e "$file" ] || file=$top/docs/DEVELOPING.md
     walk "An added file with a digest" 25
     walk "A check of two images" 30
-    walk "A descriptor" 16
+    walk "A descriptor" 18
     while read -r word; do
         count=$((count + 1))
         case $word in
@@ -745,10 +746,10 @@ walks() {
     done < <(sed -n '/^## What a change affects/,/^## How a proof/p' "$file" |
         grep -oE '`(([A-Za-z_0-9/]+\.(rt|antt|edit|1|5|json))|(checks|docs|man|bench)/[A-Za-z_0-9.]+)`' | tr -d '`' | sort -u)
     [ "$count" -gt 50 ] || fail "claims: only $count files that a change affects in DEVELOPING.md"
-    sed -n '/^## How a proof/,/^## The gate/p' "$file" | awk '/^```/ { block = !block; next } block && NF' > lines
+    sed -n '/^## One contract/,/^## A failed proof/p; /^## How a proof/,/^## The gate/p' "$file" | awk '/^```/ { block = !block; next } block && NF' > lines
     [ "$(wc -l < lines)" -gt 10 ] || fail "claims: only $(wc -l < lines) lines of examples in DEVELOPING.md"
     while IFS= read -r line; do
-        grep -rqF --include='*.rt' --include='*.antt' --include='*.edit' --exclude-dir=out -e "$line" "$top/crates" ||
+        grep -rqF --include='*.rt' --include='*.antt' --include='*.edit' --include='*.py' --exclude-dir=out -e "$line" "$top/crates" "$top/tests" ||
             fail "claims: DEVELOPING.md has an example that isn't in the crates: $line"
     done < lines
 }
@@ -798,15 +799,16 @@ fmd.5|COREBOOT(CBFS)
 ROWS
 }
 
-# readme: the README's first lines have the two commands, it names each of its three promises once, and its picture stands after
-# "Getting it" and has at most eight boxes
+# readme: the README's first lines have the two commands, it names each of its three promises once, and its pictures stand after
+# "Getting it" and have at most eight boxes each
 readme() {
     local file=$pages/README.md picture boxes
     [ -e "$file" ] || file=$top/README.md
     [ "$(head -n 14 "$file" | grep -cE '^\| `make (cbfstool|test)` \|')" = 2 ] || fail "claims: the README doesn't begin with make cbfstool and make test"
     [ "$(sed -n '/^## What is promised/,/^## Building/p' "$file" | grep -cE '^[0-9]+\. ')" = 3 ] || fail "claims: the README hasn't three promises"
     [ "$(grep -nE '^!\[|^## Getting it' "$file" | sed 's/.*](\(.*\)).*/\1/; s/.*## //' | head -n 1)" = "Getting it" ] || fail "claims: the README has a picture first"
-    picture=$(sed -n 's/^!\[.*](\(.*\))$/\1/p' "$file")
-    boxes=$(grep -c '<rect x=' "$top/$picture")
-    [ "$boxes" -gt 2 ] && [ "$boxes" -le 8 ] || fail "claims: $picture has $boxes boxes"
+    while read -r picture; do
+        boxes=$(grep -c '<rect x=' "$top/$picture")
+        [ "$boxes" -gt 2 ] && [ "$boxes" -le 8 ] || fail "claims: $picture has $boxes boxes"
+    done < <(sed -n 's/^!\[.*](\(.*\))$/\1/p' "$file")
 }

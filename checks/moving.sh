@@ -61,6 +61,9 @@ make_files() {
     part 5000 "$(size_of FW_MAIN_B)" > main.bin
     part 6000 20 > fwid
     printf ptr_ > pointer
+    # (a bootblock with an anchor of SHA-256, without a gap before it, and a board on which it is a component)
+    { part 1000 4000 && printf '\255MdtHsh\25\0\0\0\2' && head -c 64 /dev/zero && part 6000 12272; } > verified.bin
+    sed 's/BOOTBLOCK [0-9]*K//' chip.fmd > verified.fmd
     make_elf > payload.elf
     cp payload.elf romstage.elf
     # (as the image of an embedded controller has one)
@@ -168,6 +171,17 @@ make_elf() {
     # sections: none, and the names of the sections
     head -c 40 /dev/zero
     printf '\1\0\0\0\3\0\0\0\0\0\0\0\0\0\0\0\100\20\0\0\13\0\0\0\0\0\0\0\0\0\0\0\1\0\0\0\0\0\0\0'
+}
+
+# same_anchor IMAGE IMAGE: coreboot's finds a valid metadata hash in both images, and cbfscheck two valid digests, and nothing
+# bad beside the remarks of the region
+same_anchor() {
+    local image
+    for image; do
+        [[ $("$theirs" "$image" print -v 2> /dev/null | tail -n 1) = "[METADATA HASH]"*:valid ]] || wrong "coreboot's finds no valid metadata hash"
+        cbfscheck -r COREBOOT "$image" > "$work/report" || wrong "cbfscheck: $(grep '^bad' "$work/report")"
+        [ "$(grep -cE $'\t(metadata|map) hash sha256 valid$' "$work/report")" = 2 ] || wrong "cbfscheck finds no valid anchor"
+    done
 }
 
 # without_lengths IMAGE [REGION]: the image, with NULs for the length of each free cell that is the last of its region, or
@@ -425,6 +439,8 @@ planted_mistakes() {
     plant document "$makefile" 's/add-at-end \$@.new COREBOOT/add-at-end $@.new FW_MAIN_A/' "the cells differ"
     plant document "$makefile" 's/^regions = COREBOOT FW_MAIN_A/regions = COREBOOT/' "the cells differ"
     plant document "$makefile" 's/add-at-end /add-at-ends /' "ours ends with status 2"
+    plant document '/^### A board with/,/^Compared/p' '/^\t\$(CBFS\(SEAL\|CHECK\)) /d' "no valid metadata hash"
+    plant document '/^### A board with/,/^Compared/p' '/^\t\$(CBFSSEAL) /d' "ours ends with status 2"
     plant document '/^### All areas/,/^Compared/p' 's/^Compared: .*/Compared: image/' "coreboot's leaves the image as it was"
     plant document '/^### All areas/,/^Compared/p' 's/layout$/layout | grep -v GBB/' "they list other areas"
     plant document '/^### The list/,/^Compared/p' 's/^Compared: .*/Compared: file `chip.fmd`/' "doesn't make chip.fmd"

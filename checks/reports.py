@@ -31,6 +31,7 @@ KINDS = {
     "region-size": ("bad", "size is 0 or no multiple of 64"),
     "no-cbfs": ("bad", "no CBFS"),
     "component-shadowed": ("bad", "has the name of an earlier component"),
+    "metadata-too-long": ("bad", "metadata longer than 256 bytes: firmware can't find it"),
     "component-type": ("remark", "type without a name"),
     "component-name": ("remark", "name isn't UTF-8"),
     "hash-valid": ("remark", "valid"),
@@ -279,6 +280,8 @@ def of_component(area, row, names, wishes):
     """The rows of a component after others of these names."""
     place = (area.name, row.name, row.at)
     rows = [finding("component-shadowed", *place)] * (row.name in names)
+    offset = int.from_bytes(row.cell[20:24], "big")
+    rows += [finding("metadata-too-long", *place)] * (offset > 256)
     rows += [finding("component-name", *place)] * (not is_text(row.name))
     rows += [finding("component-type", *place, row.type)] * (row.type not in TYPES)
     code, what, verdict = of_hash(row, wishes)

@@ -134,6 +134,13 @@ class Completions:
         )
         return line.rstrip(" ") != typed
 
+    def test_each_special_character_is_in_a_hostile_name(self):
+        """No row of the list of hostile names can be left out."""
+        special = "$`'\"\\;|&<>()*{}~#!%:= \t\n\r\x1b"
+        self.assertLessEqual(set(special), set("".join(HOSTILE)))
+        self.assertEqual(len(HOSTILE), 25)
+        self.assertLess(SOON, ENDLESS)
+
     def test_hostile_components_run_nothing(self):
         for quote in QUOTES:
             for name in HOSTILE:

@@ -92,6 +92,7 @@ class Component:
     def __init__(self, name, content=b"", type=RAW, attributes=(), gap=0, name_field=None,
                  length=None, attributes_offset=None, offset=None, magic=MAGIC, fill=b"\xff",
                  keeps=b""):
+        self.name, self.type, self.length = name, type, len(content)
         field = name + bytes(4 - len(name) % 4) if name_field is None else name_field
         stored = b"".join(attributes)
         start = HEAD_SIZE + len(field)
@@ -132,6 +133,23 @@ def join(*parts, size=None, fill=b"\xff"):
 def empty_region(size, keeps=b"\xff\xff\xff\xff"):
     """Returns a region of one empty entry, which does not cover the last four bytes."""
     return FreeEntry(size, keeps=keeps).bytes
+
+
+def region(size, components, keeps=b"\xff\xff\xff\xff"):
+    """Returns a region with these components, by their positions.
+
+    An empty entry covers each run of free bytes. One that ends with the region keeps the last four
+    bytes.
+    """
+    parts, end = [], 0
+    for position, component in sorted(components.items()):
+        if end < position:
+            parts.append(FreeEntry(position - end))
+        parts.append(component)
+        end = position + len(component.bytes)
+    if end < size:
+        parts.append(FreeEntry(size - end, keeps=keeps))
+    return join(*parts)
 
 
 # ---- Flash maps

@@ -1,20 +1,28 @@
 #!/usr/bin/env python3
-"""Random sequences of cbfstool's `add` and `remove`, each sealed by cbfsseal.
+"""Images with anchors, judged by coreboot's cbfstool (package coreboot-utils).
 
-    python3 -m tests.peers_seal [COUNT] [SEED]
+    python3 -m tests.peers_seal sequences [COUNT] [SEED]
+    python3 -m tests.peers_seal images [COUNT] [SEED]
 
-Run by hand. The judge is coreboot's cbfstool (package coreboot-utils): its `print -v` has to call
-the anchor of each sealed image valid, and of each edited image invalid. The programs under test are
-those of tests/programs.py.
+Run by hand. The programs under test are those of tests/programs.py.
+
+`sequences` runs random sequences of our `add` and `remove`, each sealed by cbfsseal: the judge's
+`print -v` has to call the anchor of each sealed image valid, and of each edited image invalid.
+
+`images` makes images by coreboot's commands alone: our cbfscheck finds nothing bad in any of them,
+and cbfsseal finds both digests right, by the judge's word too.
 """
 
 import pathlib
 import random
+import struct
 import subprocess
 import sys
 import tempfile
 
-from tests.image import BOOTBLOCK, HASHES, SHA256, SHA512, Component, FreeEntry, Image, join
+from tests.image import (
+    BOOTBLOCK, HASHES, SHA256, SHA512, Area, Component, FreeEntry, Image, flash_map, join,
+)
 from tests.programs import program
 from tests.test_seal import BOOT_AREA, COREBOOT, FMAP, SIZE, outdated
 
@@ -77,16 +85,163 @@ def check(chance, folder, algorithm, in_area):
     return None
 
 
-def main(count="500", seed="1"):
+def sequences(chance, folder):
+    """Checks a sequence of edits and seals, and returns its fault, or None."""
+    algorithm, in_area = chance.choice(list(HASHES)), chance.random() < 0.5
+    fault = check(chance, folder, algorithm, in_area)
+    return f"{fault}: {HASHES[algorithm]}, area: {in_area}" if fault else None
+
+
+# ---- Images of coreboot's commands
+
+LARGE = 0x40000
+AREAS = [FMAP, Area("COREBOOT", 0x1000, 0x20000)]
+PLAIN_TYPES = ["raw", "bootsplash", "mrc_cache", "microcode", "optionrom", "spd", "cmos_default"]
+
+
+def elf(chance):
+    """Returns a 32-bit ELF file with a loadable segment, sections, and their names."""
+    code = chance.randbytes(chance.randint(1, 900)) + bytes(chance.randrange(600))
+    names, start, address = b"\0.text\0.shstrtab\0", 0x1000, 0x100000
+    sections = -(-(start + len(code) + len(names)) // 4) * 4
+    head = b"\x7fELF\1\1\1" + bytes(9) + struct.pack(
+        "<HHIIIIIHHHHHH", 2, 3, 1, address, 52, sections, 0, 52, 32, 1, 40, 3, 2)
+    segment = struct.pack("<8I", 1, start, address, address, len(code), len(code) + 32, 7, 0x1000)
+    rows = [(0,) * 10, (1, 1, 6, address, start, len(code), 0, 0, 4, 0),
+            (7, 3, 0, 0, start + len(code), len(names), 0, 0, 1, 0)]
+    made = (head + segment).ljust(start, b"\0") + code + names
+    return made.ljust(sections, b"\0") + b"".join(struct.pack("<10I", *row) for row in rows)
+
+
+def added(chance, kind, name):
+    """Returns the words of a command of coreboot's tool that adds a component."""
+    place = ["-b", hex(chance.randrange(0x20000))] if chance.random() < 0.15 else []
+    packing = ["-c", chance.choice(["none", "lzma", "lz4"])] if chance.random() < 0.4 else []
+    align = ["-a", chance.choice(["64", "256", "4096"])] if chance.random() < 0.2 else []
+    if kind == "int":
+        return ["add-int", "-n", name, "-i", str(chance.randrange(2**40)), *place]
+    if kind == "header":
+        return ["add-master-header"]
+    if kind in ("stage", "payload"):
+        return [f"add-{kind}", "-n", name, "-f", "elf", *packing, *place]
+    if kind == "flat":
+        return ["add-flat-binary", "-n", name, "-f", "file", "-l", "0x100000", "-e", "0x100000",
+                *packing]
+    return ["add", "-n", name, "-f", "file", "-t", kind, *packing, *(place or align)]
+
+
+class Build:
+    """A build of an image by coreboot's commands, with a bootblock that has an anchor."""
+
+    def __init__(self, chance, folder):
+        self.chance = chance
+        self.folder = folder
+        self.image = folder / "image.rom"
+        self.algorithm, self.in_area = chance.choice(list(HASHES)), chance.random() < 0.5
+        self.names = []
+        self.log = []
+        self.checked = 0
+
+    def run(self, words):
+        """Runs a command of coreboot's tool on the image, and returns whether it was accepted."""
+        self.log.append(" ".join(words))
+        done = subprocess.run([JUDGE, self.image, *words], cwd=self.folder,
+                              stdout=subprocess.PIPE, stderr=subprocess.PIPE)
+        return done.returncode == 0
+
+    def begin(self):
+        """Creates the image with its flash map."""
+        areas = [*AREAS, Area("BOOTBLOCK", 0x30000, 0x2000)] if self.in_area else AREAS
+        (self.folder / "map").write_bytes(flash_map(LARGE, areas))
+        self.image.unlink(missing_ok=True)
+        return self.run(["create", "-M", "map", "-r", "COREBOOT"])
+
+    def add_bootblock(self):
+        """Puts the bootblock into its area, or adds it as a component."""
+        content = bytes(self.chance.randrange(300)) + outdated(self.algorithm) + b"code" * 9
+        if self.in_area:
+            (self.folder / "boot").write_bytes(content.ljust(0x2000, b"\xff"))
+            return self.run(["write", "-r", "BOOTBLOCK", "-f", "boot"])
+        (self.folder / "boot").write_bytes(content)
+        place = ["-b", hex(self.chance.randrange(0x1000, 0x1F000, 64))]
+        return self.run(["add", "-n", "bootblock", "-t", "bootblock", "-f", "boot",
+                         *(place if self.chance.random() < 0.7 else [])])
+
+    def step(self, kinds):
+        """Adds or removes a component, and returns whether the command was accepted."""
+        if self.names and self.chance.random() < 0.3:
+            name = self.chance.choice(self.names)
+            if self.run(["remove", "-n", name]):
+                self.names.remove(name)
+                return True
+            return False
+        (self.folder / "file").write_bytes(self.chance.randbytes(self.chance.randint(1, 3000)))
+        (self.folder / "elf").write_bytes(elf(self.chance))
+        name = "c" * self.chance.randint(1, 40) + str(self.chance.randrange(10**6))
+        words = added(self.chance, self.chance.choice(kinds), name)
+        if not self.run(words):
+            return False
+        self.names.append("cbfs master header" if words[0] == "add-master-header" else name)
+        return True
+
+    def fault(self):
+        """Returns what a program finds wrong with the image, or None."""
+        if state(self.image) != "valid":
+            return None if self.log[-1].startswith("write") else "the judge: invalid"
+        self.checked += 1
+        report = subprocess.run([program("cbfscheck"), "-v", "-r", "COREBOOT", self.image],
+                                stdout=subprocess.PIPE, stderr=subprocess.PIPE)
+        if report.returncode or b"\t0 bad" not in report.stdout and b"\nbad" in report.stdout:
+            return f"cbfscheck: {(report.stdout + report.stderr).decode(errors='replace')}"
+        before = self.image.read_bytes()
+        sealed = subprocess.run([program("cbfsseal"), "-v", "--allow-unhashed", self.image],
+                                stdout=subprocess.PIPE, stderr=subprocess.PIPE)
+        if sealed.stdout.count(b" valid\n") != 2 or self.image.read_bytes() != before:
+            return f"cbfsseal: {(sealed.stdout + sealed.stderr).decode(errors='replace')}"
+        return None
+
+
+def images(chance, folder):
+    """Makes an image, checks it after each command, and returns the fault or None.
+
+    Before the bootblock has its anchor, coreboot's tool gives no component a digest, so that only
+    components which another program than the firmware reads are added there.
+    """
+    build = Build(chance, folder)
+    if not build.begin():
+        return "the image is not created"
+    for _ in range(chance.choice([0, 0, 0, 1, 2, 3])):
+        build.step(PLAIN_TYPES)
+    if not build.add_bootblock():
+        return f"no bootblock: {build.log}"
+    kinds = [*PLAIN_TYPES, "int", "header", "stage", "payload", "flat"]
+    for _ in range(chance.randint(1, 8)):
+        if build.step(kinds):
+            fault = build.fault()
+            if fault:
+                return f"{fault}\n{build.log}\n{HASHES[build.algorithm]}, area: {build.in_area}"
+    CHECKED.append(build.checked)
+    return None
+
+
+CHECKED = []
+PARTS = {"sequences": sequences, "images": images}
+
+
+def main(part, count="500", seed="1"):
     chance = random.Random(int(seed))
     with tempfile.TemporaryDirectory() as path:
         for number in range(int(count)):
-            algorithm, in_area = chance.choice(list(HASHES)), chance.random() < 0.5
-            fault = check(chance, pathlib.Path(path), algorithm, in_area)
+            fault = PARTS[part](chance, pathlib.Path(path))
             if fault:
-                sys.exit(f"sequence {number}: {fault}: {HASHES[algorithm]}, area: {in_area}")
-    print(f"{count} sequences: every sealed image is valid")
+                sys.exit(f"{part}, {number}: {fault}")
+    if part == "sequences":
+        print(f"{count} sequences: every sealed image is valid")
+    else:
+        print(f"{count} builds, {sum(CHECKED)} images: nothing is bad, and both digests are right")
 
 
 if __name__ == "__main__":
+    if len(sys.argv) < 2 or sys.argv[1] not in PARTS:
+        sys.exit(__doc__)
     main(*sys.argv[1:])

@@ -13,16 +13,35 @@ compares status, output, message and files with literal values:
 
 A failure prints the command, the expected and the seen values as a diff, and the path of the
 folder, which is kept.
+
+A command can also run under conditions that the system seldom makes, which are arguments of
+`check`, `refuses` and `Folder.run`:
+
+    closed=(0, 2)               standard descriptors that are closed
+    file_limit=4096             bytes that a file of the command may have at most
+    as_nobody=True              a user who owns nothing, if the test runs as root
+    faults=Faults("image.rom", "write 1 1 EIO")      system calls that fail (tests/faults/calls.c)
+
+`Folder.start` starts a command, and returns while it runs; `locked` holds the lock of a file.
 """
 
+import concurrent.futures
 import contextlib
 import difflib
+import errno
+import fcntl
+import itertools
 import os
 import pathlib
+import re
+import resource
 import shlex
 import shutil
+import signal
 import subprocess
 import tempfile
+import threading
+import time
 import unittest
 
 TOP = pathlib.Path(__file__).resolve().parent.parent
@@ -50,6 +69,127 @@ def words_of(command):
     return [os.fspath(word) for word in command]
 
 
+HAS_COMPILER = shutil.which("cc") is not None
+# The variable UNPROVED says that the programs were built by `rt try`. They are slower, and take
+# memory in another way, in which no request can be refused.
+IS_PROVED = not os.environ.get("UNPROVED")
+if_memory_can_be_refused = unittest.skipUnless(
+    HAS_COMPILER and IS_PROVED, "a proved build" if HAS_COMPILER else "cc"
+)
+ALWAYS = 10**9
+NOBODY = 65534
+
+
+LIBRARIES = {}
+COMPILING = threading.Lock()
+
+
+def library(name):
+    """Compiles tests/faults/NAME.c once for a file of tests, and returns the path of the result."""
+    with COMPILING:
+        return compiled(name)
+
+
+def compiled(name):
+    """Returns the path of a library, which is compiled unless it was compiled before."""
+    if name not in LIBRARIES:
+        folder = tempfile.TemporaryDirectory(prefix="faults-")
+        os.chmod(folder.name, 0o755)
+        made = os.path.join(folder.name, f"{name}.so")
+        source = TOP / "tests" / "faults" / f"{name}.c"
+        subprocess.run(["cc", "-O1", "-shared", "-fPIC", "-o", made, source, "-ldl"], check=True)
+        LIBRARIES[name] = folder, made
+        unittest.addModuleCleanup(lambda: LIBRARIES.pop(name)[0].cleanup())
+    return LIBRARIES[name][1]
+
+
+class Faults:
+    """Changes of the system calls on a file, as tests/faults/calls.c states them.
+
+    `file` is a path as it stands on the command line. A change is for example `write 1 1 EIO` or
+    `read 2 always EINTR`: the call, the first and the last number, and an error or another way.
+    After the command, `calls` has a tuple of name, number and way for each call on the file.
+    """
+
+    def __init__(self, file, *changes, pause=""):
+        self.file = file
+        self.changes = ",".join(map(self.numbered, changes))
+        self.pause = pause
+        self.calls = []
+
+    @staticmethod
+    def numbered(change):
+        """Returns a change with numbers instead of the names of errors and of `always`."""
+        name, first, last, way = change.split()
+        number = str(ALWAYS) if last == "always" else last
+        return f"{name} {first} {number} {getattr(errno, way, way)}"
+
+    def environment(self, listed):
+        """Returns the environment of a command whose calls are listed in this file."""
+        return {
+            "LD_PRELOAD": library("calls"), "FAULT_FILE": self.file, "FAULTS": self.changes,
+            "FAULT_LIST": os.fspath(listed), "FAULT_PAUSE": os.fspath(self.pause),
+        }
+
+    def read_calls(self, listed):
+        """Reads the list of calls, and removes it."""
+        lines = listed.read_text().splitlines() if listed.exists() else []
+        rows = [line.split(" ") for line in lines]
+        self.calls = [(name, int(number), way) for name, number, way in rows]
+        listed.unlink(missing_ok=True)
+
+    def changed(self):
+        """Returns how many calls were changed."""
+        return sum(way != "" for _, _, way in self.calls)
+
+
+@contextlib.contextmanager
+def locked(path, how=fcntl.LOCK_EX):
+    """Holds a lock of a file, which must be free."""
+    with open(path, "rb") as file:
+        fcntl.flock(file, how | fcntl.LOCK_NB)
+        try:
+            yield
+        finally:
+            # (a process that another thread starts may have the open file for a moment)
+            fcntl.flock(file, fcntl.LOCK_UN)
+
+
+def is_locked(path, how=fcntl.LOCK_EX):
+    """Returns whether a lock of another process excludes this one."""
+    try:
+        with locked(path, how):
+            return False
+    except BlockingIOError:
+        return True
+
+
+def waits_for_lock(process, path):
+    """Returns whether /proc/locks shows that a process waits for the lock of a file."""
+    waiting = rf"-> FLOCK .* {process} [0-9a-f]+:[0-9a-f]+:{os.stat(path).st_ino} "
+    return re.search(waiting, pathlib.Path("/proc/locks").read_text()) is not None
+
+
+def preparation(closed, file_limit, as_nobody):
+    """Returns a function that makes the conditions of a command, in its process, or None."""
+    if not closed and file_limit is None and not as_nobody:
+        return None
+
+    def prepare():
+        if file_limit is not None:
+            # A write after the limit then fails with EFBIG.
+            signal.signal(signal.SIGXFSZ, signal.SIG_IGN)
+            resource.setrlimit(resource.RLIMIT_FSIZE, (file_limit, file_limit))
+        if as_nobody and os.getuid() == 0:
+            os.setgroups([])
+            os.setgid(NOBODY)
+            os.setuid(NOBODY)
+        for number in closed:
+            os.close(number)
+
+    return prepare
+
+
 class Run:
     """The result of a command: status, output, message, and the files before and after it."""
 
@@ -64,10 +204,15 @@ class Run:
 
 
 class Folder:
-    """A new folder with files, in which commands run."""
+    """A new folder with files, in which commands run.
+
+    `notes` is the path of a file beside the folder, for what another program notes of a command.
+    """
 
     def __init__(self, files=()):
         self.path = pathlib.Path(tempfile.mkdtemp(prefix="test-"))
+        self.notes = self.path.with_name(f"{self.path.name}.notes")
+        self.started = []
         for name, content in dict(files).items():
             self.put(name, content)
 
@@ -83,28 +228,82 @@ class Folder:
         return {str(path.relative_to(self.path)): path.read_bytes() for path in paths}
 
     def remove(self):
-        """Removes the folder."""
+        """Stops the commands, and removes the folder and the notes."""
+        self.stop()
         shutil.rmtree(self.path, ignore_errors=True)
+        self.notes.unlink(missing_ok=True)
 
-    def run(self, command, stdin=b"", environment=None, limit=TIME_LIMIT):
-        """Runs a command line and waits for it. The programs under test are the first on PATH.
+    def stop(self):
+        """Kills the commands that have been started and still run."""
+        for one in self.started:
+            one.kill()
 
-        A command that a signal ends has the negative number of the signal as its status, as in
-        `subprocess`. A command that exceeds the time limit has the status None.
-        """
-        words = words_of(command)
+    def start(self, command, environment=None, closed=(), file_limit=None, as_nobody=False,
+              faults=None):
+        """Starts a command line. The programs under test are the first on PATH."""
         folders = [os.path.dirname(program(name)) for name in NAMES]
         path = os.pathsep.join([*folders, os.environ.get("PATH", "")])
+        listed = self.path.with_name(f"{self.path.name}.calls")
+        changes = faults.environment(listed) if faults else {}
         before = self.files()
+        process = subprocess.Popen(
+            words_of(command), cwd=self.path,
+            stdin=subprocess.PIPE, stdout=subprocess.PIPE, stderr=subprocess.PIPE,
+            env={**os.environ, "PATH": path, **changes, **(environment or {})},
+            preexec_fn=preparation(closed, file_limit, as_nobody), start_new_session=True,
+        )
+        self.started.append(Started(command, self, process, before, faults, listed))
+        return self.started[-1]
+
+    def run(self, command, stdin=b"", limit=TIME_LIMIT, **conditions):
+        """Runs a command line and waits for it. The conditions are those of `start`."""
+        return self.start(command, **conditions).end(stdin, limit)
+
+
+class Started:
+    """A command that was started in a folder."""
+
+    def __init__(self, command, folder, process, before, faults, listed):
+        self.command = command
+        self.folder = folder
+        self.process = process
+        self.before = before
+        self.faults = faults
+        self.listed = listed
+
+    def end(self, stdin=b"", limit=TIME_LIMIT):
+        """Waits for the end, and returns the run.
+
+        A command that a signal ends has the negative number of the signal as its status, as in
+        `subprocess`. A command that exceeds the time limit is killed, and has the status None.
+        """
+        status = None
         try:
-            done = subprocess.run(
-                words, cwd=self.path, input=stdin, stdout=subprocess.PIPE, stderr=subprocess.PIPE,
-                env={**os.environ, "PATH": path, **(environment or {})}, timeout=limit,
-            )
-            seen = done.returncode, done.stdout, done.stderr
-        except subprocess.TimeoutExpired as stopped:
-            seen = None, stopped.stdout or b"", stopped.stderr or b""
-        return Run(command, self.path, *seen, before, self.files())
+            output, message = self.process.communicate(stdin, limit)
+            status = self.process.returncode
+        except subprocess.TimeoutExpired:
+            # (its own processes may have its output)
+            self.kill()
+            output, message = self.process.communicate()
+        if self.faults:
+            self.faults.read_calls(self.listed)
+        after = self.folder.files()
+        return Run(self.command, self.folder.path, status, output, message, self.before, after)
+
+    def kill(self):
+        """Kills the command, and the commands that it has started, unless it has ended."""
+        if self.process.poll() is None:
+            os.killpg(self.process.pid, signal.SIGKILL)
+            self.process.wait()
+
+    def waits_for_lock(self, path, limit=20):
+        """Waits until the command waits for the lock of a file, and returns False if it ends."""
+        last = time.monotonic() + limit
+        while self.process.poll() is None and time.monotonic() < last:
+            if waits_for_lock(self.process.pid, path):
+                return True
+            time.sleep(0.002)
+        return False
 
 
 def as_lines(value):
@@ -146,11 +345,12 @@ class ProgramTest(unittest.TestCase):
     def folder(self, files=()):
         """Returns a new folder with files. It is removed after the test, unless the test fails."""
         made = Folder(files)
-        self._folders = [*getattr(self, "_folders", []), made]
+        self.__dict__.setdefault("_folders", []).append(made)
         return made
 
     def tearDown(self):
         for made in getattr(self, "_folders", []):
+            made.stop()
             if not getattr(made, "kept", False):
                 made.remove()
         super().tearDown()
@@ -162,7 +362,10 @@ class ProgramTest(unittest.TestCase):
         that it removes; all other files must stay as they were. Returns the run.
         """
         folder = files if isinstance(files, Folder) else self.folder(files)
-        done = folder.run(command, **run)
+        return self.compare_run(folder, folder.run(command, **run), status, output, message, left)
+
+    def compare_run(self, folder, done, status=0, output=b"", message="", left=None):
+        """Compares all that a run did, as `check` does, and returns the run."""
         self.compare(folder, done, "status", status, done.status)
         self.compare(folder, done, "message", as_bytes(message), done.message)
         self.compare(folder, done, "output", as_bytes(output), done.output)
@@ -176,6 +379,51 @@ class ProgramTest(unittest.TestCase):
         """Checks that a command fails with this message, and changes no other file than `left`."""
         name = words_of(command)[0]
         return self.check(command, files, status, b"", f"{name}: {message}\n", left, **run)
+
+    def refuse_memory(self, command, files, output=b"", left=None, made=()):
+        """Refuses each request for memory of a command in turn.
+
+        A run either reports that, and leaves at most empty files of the names `made`, or it does
+        without the memory, and has the stated output and files. Returns the numbers of the
+        requests whose refusal was reported, and of those that were spared.
+        """
+        name, reported, spared = words_of(command)[0], [], []
+        for number in itertools.count(1):
+            memory = Faults("", f"memory {number} {number} ENOMEM")
+            folder = self.folder(files)
+            done = folder.run(command, faults=memory)
+            if memory.changed() and done.status:
+                empty = {one: b"" for one in made if one in done.after}
+                self.compare_run(folder, done, 1, "", f"{name}: out of memory\n", empty)
+                reported.append(number)
+            else:
+                self.compare_run(folder, done, output=output, left=left)
+                if not memory.changed():
+                    return reported, spared
+                spared.append(number)
+            folder.remove()
+
+    def check_rows(self, check, rows, at_once=4):
+        """Checks the rows of a table as subtests, several at once.
+
+        `check` gets the fields of a row; the first one is the title of the subtest.
+        """
+        def outcome(row):
+            try:
+                return check(*row)
+            except (self.failureException, unittest.SkipTest) as raised:
+                return raised
+
+        with concurrent.futures.ThreadPoolExecutor(at_once) as pool:
+            try:
+                for row, raised in zip(rows, pool.map(outcome, rows)):
+                    with self.subTest(row[0]):
+                        if raised is not None:
+                            raise raised
+            except BaseException:
+                # (with the option -f the first failure ends the test)
+                pool.shutdown(cancel_futures=True)
+                raise
 
     def compare(self, folder, done, what, expected, seen):
         """Fails with the command, a diff and the folder if a value differs."""

@@ -224,7 +224,7 @@ class ReplaceComponent(ExampleTest):
             self.stand_in(
                 "cbfstool", f'[ "$2" != {command} ] || kill -TERM $PPID $$\nexec "$REAL" "$@"'
             )
-            run = self.replace(folder, status=-15)
+            run = self.replace(folder, status=143)
             self.leaves(run, before)
 
     def test_a_signal_in_the_last_step_does_not_stop_it(self):
@@ -466,13 +466,31 @@ class Names(ExampleTest):
         folder = self.folder({"big.fmap": table})
         run = self.example(folder, "fmap-config", "big.fmap")
         self.assertEqual(run.output.decode().splitlines(), [
-            "#define FMAP_OFFSET 0x200", "#define FMAP_SIZE 0x8c",
+            "#ifndef FMAPTOOL_GENERATED_HEADER_H_", "#define FMAPTOOL_GENERATED_HEADER_H_", "",
+            "#define FMAP_OFFSET 0x200", "#define FMAP_SIZE 0x8c", "",
+            '#define FMAP_TERMINAL_SECTIONS "FMAP A "', "",
             "#define FMAP_SECTION_BIG_START 0x123456789ab000",
             "#define FMAP_SECTION_BIG_SIZE 0x1000",
             "#define FMAP_SECTION_FMAP_START 0x123456789ab200",
             "#define FMAP_SECTION_FMAP_SIZE 0x100",
-            "#define FMAP_SECTION_A_START 0x123456789ab300", "#define FMAP_SECTION_A_SIZE 0x40",
+            "#define FMAP_SECTION_A_START 0x123456789ab300", "#define FMAP_SECTION_A_SIZE 0x40", "",
+            "#endif",
         ])
+
+    def test_areas_that_contain_others(self):
+        """FMAP_TERMINAL_SECTIONS has the areas that contain no other area."""
+        folder = self.folder({"board.fmd": "F 64K { A 8K { B { C 1K D } FMAP 1K } E { G } H 1K }"})
+        self.assertEqual(folder.run("fmaptool board.fmd board.fmap").status, 0)
+        run = self.example(folder, "fmap-config", "board.fmap")
+        self.assertIn(b'#define FMAP_TERMINAL_SECTIONS "C D FMAP G H "\n', run.output)
+
+    def test_a_map_at_the_start(self):
+        """C's `%#x` prints 0 without 0x; the first area FMAP counts."""
+        areas = [image.Area("FMAP", 0, 0x100), image.Area("FMAP", 0x200, 0x100)]
+        folder = self.folder({"board.fmap": image.flash_map(0x1000, areas, name=b"F")})
+        lines = self.example(folder, "fmap-config", "board.fmap").output.decode().splitlines()
+        self.assertEqual(lines[3:5], ["#define FMAP_OFFSET 0", "#define FMAP_SIZE 0x8c"])
+        self.assertEqual(lines[8], "#define FMAP_SECTION_F_START 0")
 
     def test_a_table_that_is_read_only(self):
         table = image.flash_map(0x1000, [image.Area("FMAP", 0, 0x100)], name=b"F")

@@ -221,6 +221,140 @@ class Packages(MakeTest):
         self.assertLessEqual(stated, sum(-(-size // 1024) for size in files) + 4 * len(folders))
 
 
+    @unittest.skipUnless(HAS_DPKG, "dpkg-deb is not installed")
+    def test_the_control_file(self):
+        """The fields are literal, except the size, which is that of the folder usr alone."""
+        words = ["dpkg-deb", "-f", self.packed("deb")]
+        text = subprocess.run(words, stdout=subprocess.PIPE, check=True, text=True).stdout
+        fields = dict(line.split(": ", 1) for line in text.splitlines() if line[0] != " ")
+        self.assertEqual(fields["Package"], "cbfstool-proved")
+        self.assertEqual(fields["Version"], text_of("VERSION").strip())
+        self.assertEqual(fields["Maintainer"], text_of("dist/maintainer").strip())
+        self.assertRegex(fields["Depends"], r"^libc6 \(>= 2\.\d+\)$")
+        unpacked = self.path / "fields"
+        subprocess.run(["dpkg-deb", "-x", self.packed("deb"), unpacked], check=True)
+        words = ["du", "-k", "-s", "--apparent-size", unpacked / "usr"]
+        size = subprocess.run(words, stdout=subprocess.PIPE, check=True, text=True).stdout
+        self.assertEqual(fields["Installed-Size"], size.split()[0])
+
+    def test_the_changelog(self):
+        """Each release has its version, changes, and the line of its maintainer and date."""
+        words = [TOP / "dist" / "debian-changelog", "cbfstool-x", "A B <a@b.c>"]
+        text = subprocess.run(words, stdout=subprocess.PIPE, check=True, text=True).stdout
+        versions = re.findall(r"^## (.+)$", text_of("CHANGELOG.md"), re.MULTILINE)
+        heads = re.findall(r"^cbfstool-x \((.+)\) unstable; urgency=medium$", text, re.MULTILINE)
+        self.assertEqual(heads, versions)
+        dates = re.findall(r"^ -- A B <a@b.c>  (.+)$", text, re.MULTILINE)
+        self.assertEqual(len(dates), len(versions))
+        newest = datetime.datetime.strptime(dates[0], "%a, %d %b %Y %H:%M:%S %z")
+        self.assertEqual(int(newest.timestamp()), release_time())
+        count = len(re.findall(r"^- ", text_of("CHANGELOG.md"), re.MULTILINE))
+        self.assertEqual(len(re.findall(r"^  \* ", text, re.MULTILINE)), count)
+
+
+class Contents(MakeTest):
+    """An installation has all files that its pages and scripts name."""
+
+    DOC = "usr/local/share/doc/cbfstool"
+
+    def test_all_examples_are_installed(self):
+        stage = self.installed()
+        names = sorted(path.name for path in (TOP / "dist" / "examples").iterdir())
+        self.assertEqual(sorted(os.listdir(stage / self.DOC / "examples")), names)
+
+    def test_all_documents_are_installed(self):
+        stage = self.installed()
+        names = sorted(path.name for path in (TOP / "docs").iterdir())
+        self.assertEqual(sorted(os.listdir(stage / self.DOC / "docs")), names)
+        names = [f"docs/{name}" for name in names]
+        for name in ["README.md", "CHANGELOG.md", "LICENSE", "bench/RESULTS.md", *names]:
+            text = (stage / self.DOC / name).read_text(encoding="utf-8")
+            if name.endswith(".md"):
+                self.assertEqual(self.without_links(text), self.without_links(text_of(name)), name)
+            else:
+                self.assertEqual(text, text_of(name), name)
+
+    def without_links(self, text):
+        """Returns the text of a document without the targets of its links."""
+        return re.sub(r"\[([^][]*)\]\([^)\s]+\)", r"\1", text)
+
+    def follow_links(self, folder):
+        """Checks that each link in the documents of a folder leads to a file of the folder."""
+        count = 0
+        for path in folder.rglob("*.md"):
+            for target in re.findall(r"\]\(([^)\s]+)\)", path.read_text(encoding="utf-8")):
+                name = target.partition("#")[0]
+                if name and "://" not in target:
+                    linked = (path.parent / name).resolve()
+                    self.assertTrue(linked.exists(), f"{path.name}: {target}")
+                    self.assertTrue(linked.is_relative_to(folder.resolve()), target)
+                    count += 1
+        self.assertGreater(count, 40)
+
+    def test_links_of_installed_documents(self):
+        """A link leads to an installed file, and those to the scripts of the examples stay."""
+        folder = self.installed() / self.DOC
+        self.follow_links(folder)
+        readme = (folder / "README.md").read_text(encoding="utf-8")
+        for name in ["edit-verified", "add-at-end"]:
+            self.assertIn(f"[{name}](examples/{name})", readme)
+
+    @unittest.skipUnless(HAS_DPKG, "dpkg-deb is not installed")
+    def test_links_of_the_package(self):
+        words = ["dpkg-deb", "-x", self.packed("deb"), self.path / "unpacked"]
+        subprocess.run(words, check=True)
+        self.follow_links(self.path / "unpacked/usr/share/doc/cbfstool-proved")
+
+    def test_installed_scripts_call_the_installed_programs(self):
+        stage = self.installed(SUFFIX="-x")
+        for path in (stage / (self.DOC + "-x") / "examples").iterdir():
+            for line in path.read_text(encoding="utf-8").splitlines():
+                for name in re.findall(r":-(cbfs\w+|fmaptool)(-x)?\}", line):
+                    self.assertEqual(name[1], "-x", f"{path.name}: {line}")
+
+    def test_completions_of_the_installed_names(self):
+        stage = self.installed(SUFFIX="-x") / "usr/local/share"
+        for program in PROGRAMS:
+            name = f"{program}-x"
+            bash = (stage / "bash-completion/completions" / name).read_text(encoding="utf-8")
+            self.assertRegex(bash, rf"(?m)^complete .* {name}$")
+            zsh = (stage / "zsh/site-functions" / f"_{name}").read_text(encoding="utf-8")
+            self.assertTrue(zsh.startswith(f"#compdef {name}\n"), zsh[:40])
+            fish = (stage / "fish/vendor_completions.d" / f"{name}.fish").read_text("utf-8")
+            self.assertIn(f"complete -c {name} ", fish)
+
+    def test_the_session_of_the_archive(self):
+        """Each file that the session of its README reads is in the archive or made before."""
+        archive = self.packed("dist")
+        subprocess.run(["tar", "-C", self.path, "-xf", archive], check=True)
+        [folder] = [path for path in self.path.iterdir() if (path / "README.md").exists()]
+        text = (folder / "README.md").read_text(encoding="utf-8")
+        self.assertIn("$ fmaptool samples/board.fmd board.fmap", text)
+        self.assertTrue((folder / "samples" / "board.fmd").exists())
+        for name in re.findall(r"`(share/[^`]+)`", text):
+            self.assertTrue((folder / name).exists(), name)
+        for name in re.findall(r"`man (\w+)`", text):
+            self.assertTrue(list((folder / "share/man").glob(f"man*/{name}.[15]")), name)
+
+    def test_the_sample_stays(self):
+        """`make` lists a copy of the sample, which may be read-only."""
+        copy = self.path / "copy"
+        for name in ["dist/show-sample", "samples/types.rom"]:
+            (copy / name).parent.mkdir(parents=True)
+            shutil.copy(TOP / name, copy / name)
+        (copy / "samples/types.rom").chmod(0o444)
+        tool = self.path / "tool"
+        tool.write_text('#!/bin/sh\nprintf X > image.rom\nseq 9\n', encoding="utf-8")
+        tool.chmod(0o755)
+        words = [copy / "dist/show-sample", tool]
+        text = subprocess.run(words, stdout=subprocess.PIPE, check=True, text=True).stdout
+        self.assertIn("\n1\n2\n3\n4\n9\n", text)
+        self.assertIn("(9 rows, of which 5 are shown)", text)
+        sample = copy / "samples/types.rom"
+        self.assertEqual(sample.read_bytes(), (TOP / "samples/types.rom").read_bytes())
+        self.assertEqual(stat.S_IMODE(sample.stat().st_mode), 0o444)
+
+
 class Names(MakeTest):
     """Pages and programs have the suffix, and other names are refused."""
 
@@ -261,6 +395,19 @@ class Names(MakeTest):
             words = [TOP / "dist" / "check-names", prefix, "-a.b_c+1"]
             said = subprocess.run(words, stdout=subprocess.PIPE, check=True, text=True).stdout
             self.assertEqual(said, "")
+
+    def test_a_relative_prefix(self):
+        for prefix in ["usr/local", "./usr", "~/usr", ""]:
+            words = [TOP / "dist" / "check-names", prefix, ""]
+            said = subprocess.run(words, stdout=subprocess.PIPE, check=True, text=True).stdout
+            self.assertEqual(said, f"PREFIX is not an absolute path: {prefix}\n")
+
+    def test_a_suffix_with_another_character(self):
+        for character in SPECIAL + "/=:@%~{}!^":
+            words = [TOP / "dist" / "check-names", "/usr", f"-a{character}b"]
+            said = subprocess.run(words, stdout=subprocess.PIPE, check=True, text=True).stdout
+            wanted = "SUFFIX has other characters than letters, digits and . _ + -\n"
+            self.assertEqual(said, wanted, character)
 
     def test_nothing_is_left_after_uninstall(self):
         for variables in [{}, {"PREFIX": "/opt/flash", "SUFFIX": "-proved"}]:
@@ -324,6 +471,14 @@ class Help(MakeTest):
             self.assertRegex(self.text, rf"\b{name}={re.escape(value)}(\s|$)")
         for name in ("SOURCE_DATE_EPOCH", "MAINTAINER"):
             self.assertIn(name, self.text)
+
+    def test_the_path_is_printed_last(self):
+        """The last line of a target that packs is the path of the archive or package."""
+        for target in ["dist"] + ["deb"] * HAS_DPKG:
+            folder = self.path / target
+            said = self.make(target, f"OUT={folder}")
+            [made] = folder.iterdir()
+            self.assertEqual(said.splitlines()[-1], str(made))
 
     @unittest.skipUnless(HAS_DPKG, "dpkg-deb is not installed")
     def test_the_package_has_the_suffix(self):

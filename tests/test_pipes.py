@@ -1,15 +1,19 @@
-"""Edits an image while a program prints its listing to a pipe that nobody reads yet.
+"""Listings that go to a pipe, while other commands work on the same image.
 
 A program releases the lock of the image before it prints, so that a command further down a pipe can
 change the image. This also holds for a listing that ends with a refusal, because the region has a
 damaged entry after its first components.
 """
 
+import os
+import shutil
 import subprocess
 import unittest
 
 from tests import image
-from tests.programs import ProgramTest, program
+from tests.commands import COMMANDS, KEEPS, REGION, SOURCE, Example
+from tests.programs import IS_PROVED, ProgramTest, if_memory_can_be_refused, program
+from tests.texts import rows as lines
 
 # The listing of so many components is longer than the 65,536 bytes that a pipe holds.
 COMPONENTS = 4000
@@ -76,6 +80,136 @@ class Pipes(ProgramTest):
 
     def test_a_report_of_a_damaged_image(self):
         self.edits_below(DAMAGED, ["cbfscheck", "-v", "--list", "image.rom"])
+
+
+# The listings of these images are longer than the 65,536 bytes that a pipe holds. cbfscheck accepts
+# at most 4096 areas.
+MANY = Example(4000)
+MANY_AREAS = Example(40, more=1500)
+REPORT = lines(*MANY.findings(*MANY.without_hashes()), "0_bad,_4005_remarks,_0_changes")
+LISTINGS = {
+    "print": (MANY, "cbfstool image print", MANY.listing()),
+    "print -v": (MANY, "cbfstool image print -v", MANY.listing()),
+    "layout": (MANY_AREAS, "cbfstool image layout", MANY_AREAS.layout()),
+    "cbfscheck": (MANY, "cbfscheck -v image", REPORT),
+}
+# The seconds in which a command ends.
+LIMIT = 20 if IS_PROVED else 100
+
+# Reads a listing, and runs a command after each of the first lines.
+LOOP = """
+set -o pipefail
+{listing} | {{
+    for round in {rounds}; do
+        IFS= read -r line && printf '%s\\n' "$line" >> listed || exit 3
+        {command} < /dev/null > printed 2>> refused || exit 4
+    done
+    cat >> listed
+}}
+"""
+
+# Commands that are run several times, with `$round` as a part of a name, and the image afterwards.
+REPEATED = {
+    "extract": "cbfstool image extract -n c$round -f out",
+    "add": "cbfstool image add -n new$round -t raw -f source",
+    "remove": "cbfstool image remove -n c$round",
+}
+ROUNDS = (1, 2, 3)
+
+
+class Loops(ProgramTest):
+    """A loop reads a listing, and runs a command on the same image for each line."""
+
+    programs = ("cbfstool", "cbfscheck")
+
+    def left(self, example, name):
+        """Returns the files that the repeated command makes or changes."""
+        if name == "add":
+            return {"image": example.added("new1", "new2", "new3")}
+        if name == "remove":
+            return {"image": example.removed(*ROUNDS)}
+        return example.left(name)
+
+    def check_loop(self, title, listing, name):
+        """Checks the listing, the result of the command, and that no process waits."""
+        example, words, listed = LISTINGS[listing]
+        # (a created image has no components)
+        rounds = ROUNDS[:1] if name == "create" else ROUNDS
+        loop = LOOP.format(listing=words, command=REPEATED.get(name, COMMANDS[name]),
+                           rounds=" ".join(map(str, rounds)))
+        folder = self.folder(example.files)
+        self.check(["bash", "-c", loop], folder, limit=LIMIT, left={
+            **self.left(example, name), "listed": listed, "printed": example.output(name),
+            "refused": b""})
+        folder.remove()
+
+    @unittest.skipUnless(shutil.which("bash"), "bash")
+    def test_each_command(self):
+        self.check_rows(self.check_loop, [
+            (f"{listing} | {name}", listing, name) for listing in LISTINGS for name in COMMANDS
+        ])
+
+
+class Readers(ProgramTest):
+    """The reader of a listing ends early, or does not read."""
+
+    programs = ("cbfstool", "cbfscheck")
+
+    @unittest.skipUnless(shutil.which("bash"), "bash")
+    def test_a_reader_of_one_line(self):
+        for listing, (example, words, listed) in LISTINGS.items():
+            with self.subTest(listing):
+                name, status = words.split()[0], 2 if listing == "cbfscheck" else 1
+                pipe = f"{words} 2> refused | head -n 1; exit ${{PIPESTATUS[0]}}"
+                self.check(["bash", "-c", pipe], example.files, status, limit=LIMIT,
+                           output=listed.partition("\n")[0] + "\n",
+                           left={"refused": f"{name}: output fault\n"})
+
+    def check_unread(self, listing):
+        """Checks that all commands end while the pipe is full, and the listing afterwards."""
+        example, words, listed = LISTINGS[listing]
+        folder = self.folder(example.files)
+        started = folder.start(words)
+        # (the first byte shows that the program prints)
+        first = os.read(started.process.stdout.fileno(), 1)
+        for name in ("print", "extract", "cbfscheck", "add", "remove", "write"):
+            done = folder.run(COMMANDS[name], limit=LIMIT)
+            self.compare(folder, done, "status", 0, done.status)
+            self.compare(folder, done, "message", b"", done.message)
+            if name in ("print", "cbfscheck"):
+                self.compare(folder, done, "output", example.output(name).encode(), done.output)
+        self.assertIsNone(started.process.poll(), "the listing is shorter than a pipe holds")
+        rest = example.cells[2:] + [image.Component(b"new", SOURCE)]
+        free = image.FreeEntry(8192 - 768, keeps=KEEPS)
+        after = example.image_with(example.cells[0], image.FreeEntry(64), *rest, free, spare=REGION)
+        done = started.end(limit=LIMIT)
+        done.output = first + done.output
+        self.compare_run(folder, done, output=listed, left={"image": after, "out": b"data"})
+
+    def test_no_reader(self):
+        self.check_rows(self.check_unread, [(listing,) for listing in LISTINGS])
+
+
+@if_memory_can_be_refused
+class RefusedMemory(ProgramTest):
+    """Each request for memory is refused in turn."""
+
+    programs = ("cbfstool",)
+
+    def check_memory(self, command):
+        """Checks that those of the first steps are reported, and those for the listing are spared.
+
+        There is at least one of the latter for each 65,536 bytes.
+        """
+        example = Example(3000, more=1500)
+        listed = example.output(command)
+        reported, spared = self.refuse_memory(COMMANDS[command], {"image": example.image}, listed)
+        self.assertEqual(reported, list(range(1, len(reported) + 1)))
+        self.assertGreaterEqual(len(reported), 3)
+        self.assertGreaterEqual(len(spared), (len(listed) - 1) // 65536)
+
+    def test_listings(self):
+        self.check_rows(self.check_memory, [("print",), ("print -v",), ("layout",)])
 
 
 if __name__ == "__main__":

@@ -16,6 +16,10 @@ FMAP = Area("FMAP", 0, 0x200)
 COREBOOT = Area("COREBOOT", 0x1000, 0x1000)
 BOOT_AREA = Area("BOOTBLOCK", 0x2000, 0x2000)
 SIZE = 0x4000
+USAGE = (
+    "usage: cbfsseal [-v] [--allow-unhashed] IMAGE\n"
+    "       cbfsseal --help | --version\n"
+)
 LENGTHS = {SHA1: 20, SHA256: 32, SHA512: 64, SHA224: 28, SHA384: 48}
 
 
@@ -254,7 +258,8 @@ class Refusals(Seal):
         self.refused(made.data(), message)
 
     def test_headers_with_a_digest(self):
-        message = "bootblock with a header that may have a digest of its own"
+        message = ("bootblock with a header that may have a digest of its own: "
+                   "use coreboot's cbfstool")
         for start in (b"\x7fELF", b"\xd1\xdc\x4b\x84"):
             made = in_area([], outdated(SHA256)).put_at(0x2000, start)
             self.refused(made.data(), message)
@@ -299,18 +304,34 @@ class Refusals(Seal):
 class CommandLine(Seal):
     def test_bad_lines(self):
         message = "bad command line (see cbfsseal --help)"
-        lines = ("-x image.rom", "image.rom other.rom", "-v", "-v -v image.rom", "-v=1 image.rom")
+        lines = (
+            "-x image.rom", "image.rom other.rom", "-v", "-v -v image.rom", "-v=1 image.rom",
+            "-vv image.rom", "--verbose image.rom", "--allow-unhashed",
+            "--allow-unhashed image.rom --allow-unhashed", "--allow-unhashed=true image.rom",
+            "--", "image.rom -- -v", "-- image.rom image.rom", "--- image.rom",
+        )
         for line in lines:
             with self.subTest(line):
                 self.refuses(2, message, f"cbfsseal {line}", {"image.rom": b"x"})
 
     def test_usage_help_and_version(self):
-        usage = (
-            "usage: cbfsseal [-v] [--allow-unhashed] IMAGE\n"
-            "       cbfsseal --help | --version\n"
-        )
-        self.check("cbfsseal", status=2, message=usage)
-        self.check("cbfsseal --version", output="cbfsseal 2.1\n")
+        self.check("cbfsseal", status=2, message=USAGE)
+        self.check("cbfsseal --version", output="cbfsseal 2.2\n")
+        self.check("cbfsseal -x --version --help", output="cbfsseal 2.2\n")
+        for line in ("-h", "--help", "image.rom --help", "-v -h --version", "-h -- --version"):
+            with self.subTest(line):
+                done = self.folder().run(f"cbfsseal {line}")
+                self.assertEqual((done.status, done.message), (0, b""))
+                self.assertTrue(done.output.startswith(USAGE.encode().split(b"\n")[0]))
+                self.assertTrue(done.output.endswith(b"\nExample: cbfsseal coreboot.rom\n"))
+
+    def test_paths_that_look_like_options(self):
+        made = in_area([], outdated(SHA256))
+        right = in_area([], sealed_anchor(SHA256, [], made.map, b"abc")).data()
+        for line, name in (("-- --help", "--help"), ("-", "-"), ("-- -v", "-v"), ("-- --", "--"),
+                           ("--allow-unhashed -- -x", "-x")):
+            with self.subTest(line):
+                self.check(f"cbfsseal {line}", {name: made.data()}, left={name: right})
 
     def test_missing_image(self):
         self.refuses(1, "device fault", "cbfsseal none.rom")

@@ -16,8 +16,9 @@ use Rattle.cbfs_walk.specs.Walks.{StandsIn}
 use Rattle.cbfs_walk.specs.AttrWalks.{IsAttrIn}
 use Rattle.cbfs_walk.specs.declared.cell.Cell.{Cell}
 use Rattle.cbfs_walk.proofs.Parts.{range_is, range-inner, length-range}
-use Rattle.cbfs_walk.proofs.Checks.{checks_give, content_fits}
-use Rattle.cbfs_walk.proofs.CellNames.{has_field}
+use Rattle.cbfs_walk.proofs.Checks.{checks_give}
+pub use Rattle.cbfs_walk.proofs.Checks.{content_fits}
+pub use Rattle.cbfs_walk.proofs.CellNames.{has_field}
 use Rattle.cbfs_walk.proofs.CutLaws.{standing, cell_head}
 use Rattle.cbfs_walk.proofs.AttributeScans.{data_at}
 use Rattle.cbfs_anchor.specs.Metadata.{cell_metadata, component_fault, hash_from, stored_hash, terminated}

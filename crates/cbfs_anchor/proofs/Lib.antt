@@ -3,3 +3,8 @@ pub mod Places
 pub mod Magics
 pub mod Gathering
 pub mod Seals
+mod ReadNames
+mod SealLaws
+mod SealedComponents
+mod SealedAnchors
+mod SmallImage

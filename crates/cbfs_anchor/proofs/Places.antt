@@ -20,7 +20,7 @@ use Rattle.cbfs_anchor.specs.declared.place.Place.{Place}
 use Rattle.cbfs_anchor.specs.declared.fault.SealFault.{SealFault}
 use Rattle.cbfs_anchor.specs.declared.fault.SealFault.TheVariants as faults
 use Rattle.cbfs_anchor.specs.Faults.{and_then, walk_fault}
-use Rattle.cbfs_anchor.specs.Places.{area_range, component_place, content_place, place_by, place_in}
+use Rattle.cbfs_anchor.specs.Places.{area_range, component_place, content_place, place_by, place_in, place_with}
 
 -- the search's answer, as a component
 abbrev found_at : List ℕ → Cell → Result (Option Component) WalkFault
@@ -45,12 +45,22 @@ pub place_without_map : (image : List ℕ) → None ≡ found_in image → Err f
 unfolding place_in
 place_without_map image none = rw (← none) refl
 
-abbrev after_map : List ℕ → FoundMap → Result Place SealFault
-after_map image map = and_then (area_range image map (codes "COREBOOT")) (place_by image map)
-
-place_with_map : (image : List ℕ) (map : FoundMap) → Some map ≡ found_in image → after_map image map ≡ place_in image
+place_with_map : (image : List ℕ) (map : FoundMap) → Some map ≡ found_in image → place_with image map ≡ place_in image
 unfolding place_in
-place_with_map image map found = ap (λ o. option_map_or (after_map image) o (Err faults.NoFmap)) found
+place_with_map image map found = ap (λ o. option_map_or (place_with image) o (Err faults.NoFmap)) found
+
+pub with_refused : (image : List ℕ) (map : FoundMap) (fault : SealFault)
+    → (let a : Result Range SealFault = Err fault in IsErrOf a faults.Device ⊎ (a ≡ area_range image map (codes "COREBOOT")))
+    → (let a : Result Place SealFault = Err fault in IsErrOf a faults.Device ⊎ (a ≡ place_with image map))
+with_refused image map fault (inl device) = let is : fault ≡ faults.Device = cc in inl (ap (λ (f : SealFault). let a : Result Place SealFault = Err f in a) is)
+with_refused image map fault (inr none) = inr (ap (λ (r : Result Range SealFault). and_then r (place_by image map)) none)
+
+pub with_found : (image : List ℕ) (map : FoundMap) (coreboot : Range) (result : Result Place SealFault)
+    → (let a : Result Range SealFault = Ok coreboot in IsErrOf a faults.Device ⊎ (a ≡ area_range image map (codes "COREBOOT")))
+    → IsErrOf result faults.Device ⊎ (result ≡ place_by image map coreboot) → IsErrOf result faults.Device ⊎ (result ≡ place_with image map)
+with_found image map coreboot result there (inl device) = inl device
+with_found image map coreboot result (inl device) (inr is) = absurd cc
+with_found image map coreboot result (inr there) (inr is) = inr (is ∙ ap (λ (r : Result Range SealFault). and_then r (place_by image map)) there)
 
 pub place_refused : (image : List ℕ) (map : FoundMap) (fault : SealFault) → Some map ≡ found_in image
     → (let a : Result Range SealFault = Err fault in IsErrOf a faults.Device ⊎ (a ≡ area_range image map (codes "COREBOOT")))

@@ -6,6 +6,7 @@ use Rattle.std.proofs.lemmas.Slice.Eq.{bytes_eq-Decides}
 use Rattle.std.proofs.lemmas.List.{take-append-drop}
 use Rattle.flash_device.specs.Regions.{bytes_in}
 use Rattle.flash_device.proofs.RegionLemmas.{image_is}
+use Rattle.flash_map.specs.declared.search.FoundMap.{FoundMap}
 use Rattle.cbfs_anchor.specs.declared.anchor.Anchor.{Anchor}
 use Rattle.cbfs_anchor.specs.declared.demand.Demand.{Demand}
 use Rattle.cbfs_anchor.specs.declared.place.Place.{Place}
@@ -15,9 +16,9 @@ use Rattle.cbfs_anchor.specs.declared.fault.SealFault.TheVariants as faults
 use Rattle.cbfs_anchor.specs.Algorithms.{digest_len}
 use Rattle.cbfs_anchor.specs.Faults.{and_then}
 use Rattle.cbfs_anchor.specs.Layout.{anchor_in, digests_range}
-use Rattle.cbfs_anchor.specs.Places.{place_in}
+use Rattle.cbfs_anchor.specs.Places.{place_in, place_with}
 use Rattle.cbfs_anchor.specs.Metadata.{metadata_in}
-use Rattle.cbfs_anchor.specs.Seals.{IsReport, IsReported, Survey, digests, report_digests, sealed, survey_at, survey_by, survey_in, writing_fault}
+use Rattle.cbfs_anchor.specs.Seals.{IsReport, IsReported, Survey, digests, report_digests, sealed, survey_at, survey_by, survey_from, survey_in, survey_with, writing_fault}
 
 -- ---- after the anchor is found
 
@@ -39,33 +40,53 @@ module _ (demand : Demand) (image : List ℕ) (place : Place) (a : Anchor) where
 
 -- ---- the whole survey
 
-survey_place : (demand : Demand) (image : List ℕ) (found : Result Place SealFault) → found ≡ place_in image
-    → and_then found (λ place. and_then (anchor_in place.anchor.start (bytes_in place.anchor image)) (survey_at demand image place)) ≡ survey_in demand image
-unfolding survey_in
-survey_place demand image found is = ap (λ (r : Result Place SealFault). and_then r (λ place. and_then (anchor_in place.anchor.start (bytes_in place.anchor image)) (survey_at demand image place))) is
-
 abbrev KnowsOr : {T : Type 0} → Result T SealFault → Result T SealFault → Type 0
 KnowsOr found is = IsErrOf found faults.Device ⊎ (found ≡ is)
 
+-- after the range with the anchor is found
+pub no_anchor : (demand : Demand) (image : List ℕ) (place : Place) (fault : SealFault) → (let a : Result Anchor SealFault = Err fault in KnowsOr a (anchor_in place.anchor.start (bytes_in place.anchor image)))
+    → (fault ≡ faults.Device) ⊎ (survey_from demand image place ≡ Err fault)
+no_anchor demand image place fault (inl device) = inl cc
+no_anchor demand image place fault (inr is) = inr (ap (λ (r : Result Anchor SealFault). and_then r (survey_at demand image place)) (sym is))
+
+pub inspected : (demand : Demand) (image : List ℕ) (place : Place) (a : Anchor) (result : Result Report SealFault) → (let b : Result Anchor SealFault = Ok a in KnowsOr b (anchor_in place.anchor.start (bytes_in place.anchor image)))
+    → IsReported (survey_at demand image place a) result image → IsReported (survey_from demand image place) result image
+inspected demand image place a result (inl device) told = absurd cc
+inspected demand image place a result (inr is) told =
+    subst (λ (survey : Result Survey SealFault). IsReported survey result image) (ap (λ (r : Result Anchor SealFault). and_then r (survey_at demand image place)) is) told
+
+-- by a place, or the error of its search
+module _ (demand : Demand) (image : List ℕ) (there : Result Place SealFault) where
+  abbrev by_place : Result Survey SealFault
+  by_place = and_then there (survey_from demand image)
+
+  unplaced : (fault : SealFault) → (let a : Result Place SealFault = Err fault in KnowsOr a there) → (fault ≡ faults.Device) ⊎ (by_place ≡ Err fault)
+  unplaced fault (inl device) = inl cc
+  unplaced fault (inr is) = inr (ap (λ (r : Result Place SealFault). and_then r (survey_from demand image)) (sym is))
+
+  placed : (place : Place) (result : Result Report SealFault) → (let b : Result Place SealFault = Ok place in KnowsOr b there) → IsReported (survey_from demand image place) result image → IsReported by_place result image
+  placed place result (inl device) told = absurd cc
+  placed place result (inr is) told =
+      subst (λ (survey : Result Survey SealFault). IsReported survey result image) (ap (λ (r : Result Place SealFault). and_then r (survey_from demand image)) is) told
+
 pub no_place : (demand : Demand) (image : List ℕ) (fault : SealFault) → (let a : Result Place SealFault = Err fault in KnowsOr a (place_in image)) → (fault ≡ faults.Device) ⊎ (survey_in demand image ≡ Err fault)
-no_place demand image fault (inl device) = inl cc
-no_place demand image fault (inr is) = inr (sym (survey_place demand image (Err fault) is))
+unfolding survey_in
+no_place demand image fault there = unplaced demand image (place_in image) fault there
 
-pub no_anchor : (demand : Demand) (image : List ℕ) (place : Place) (fault : SealFault) → (let a : Result Place SealFault = Ok place in KnowsOr a (place_in image))
-    → (let a : Result Anchor SealFault = Err fault in KnowsOr a (anchor_in place.anchor.start (bytes_in place.anchor image))) → (fault ≡ faults.Device) ⊎ (survey_in demand image ≡ Err fault)
-no_anchor demand image place fault there (inl device) = inl cc
-no_anchor demand image place fault (inl device) (inr is) = absurd cc
-no_anchor demand image place fault (inr there) (inr is) =
-    inr (sym (survey_place demand image (Ok place) there) ∙ ap (λ (r : Result Anchor SealFault). and_then r (survey_at demand image place)) (sym is))
+pub place_inspected : (demand : Demand) (image : List ℕ) (place : Place) (result : Result Report SealFault) → (let b : Result Place SealFault = Ok place in KnowsOr b (place_in image))
+    → IsReported (survey_from demand image place) result image → IsReported (survey_in demand image) result image
+unfolding survey_in
+place_inspected demand image place result there told = placed demand image (place_in image) place result there told
 
-pub inspected : (demand : Demand) (image : List ℕ) (place : Place) (a : Anchor) (result : Result Report SealFault) → (let b : Result Place SealFault = Ok place in KnowsOr b (place_in image))
-    → (let b : Result Anchor SealFault = Ok a in KnowsOr b (anchor_in place.anchor.start (bytes_in place.anchor image))) → IsReported (survey_at demand image place a) result image → IsReported (survey_in demand image) result image
-inspected demand image place a result there (inl device) told = absurd cc
-inspected demand image place a result (inl device) (inr is) told = absurd cc
-inspected demand image place a result (inr there) (inr is) told =
-    let whole : survey_at demand image place a ≡ survey_in demand image =
-    ap (λ (r : Result Anchor SealFault). and_then r (survey_at demand image place)) is ∙ survey_place demand image (Ok place) there in
-    subst (λ (survey : Result Survey SealFault). IsReported survey result image) whole told
+-- the same by a known map
+pub no_place_with : (demand : Demand) (image : List ℕ) (map : FoundMap) (fault : SealFault) → (let a : Result Place SealFault = Err fault in KnowsOr a (place_with image map)) → (fault ≡ faults.Device) ⊎ (survey_with demand image map ≡ Err fault)
+unfolding survey_with
+no_place_with demand image map fault there = unplaced demand image (place_with image map) fault there
+
+pub place_inspected_with : (demand : Demand) (image : List ℕ) (map : FoundMap) (place : Place) (result : Result Report SealFault) → (let b : Result Place SealFault = Ok place in KnowsOr b (place_with image map))
+    → IsReported (survey_from demand image place) result image → IsReported (survey_with demand image map) result image
+unfolding survey_with
+place_inspected_with demand image map place result there told = placed demand image (place_with image map) place result there told
 
 -- ---- the seal
 

@@ -1,6 +1,9 @@
+pub mod AlgorithmNames
 pub mod Algorithms
+pub mod ComponentNames
 pub mod Faults
 pub mod Layout
 pub mod Places
 pub mod Metadata
 pub mod Seals
+pub mod Samples

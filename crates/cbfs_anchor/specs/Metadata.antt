@@ -104,8 +104,9 @@ metadata_up_to at end all = result_map_both (λ none. all_metadata all) walk_fau
 
 -- of neighbouring cells from a position on: the first fault of a component, damage, or the metadata
 abbrev pub metadata_from : Demand → Algorithm → ℕ → Cut → Result (List ℕ) SealFault
-metadata_from demand a at k = let all = components_from at k.cells in option_map_or
-    (λ fault. Err fault) (first_fault demand a all) (metadata_up_to (place_after at k.cells) k.end all)
+metadata_from demand a at k = let all = components_from at k.cells in
+    option_map_or (λ fault. Err fault) (first_fault demand a all)
+    (metadata_up_to (place_after at k.cells) k.end all)
 
 -- of a region; a fault of its shape takes precedence
 unfoldable pub metadata_in : Demand → Algorithm → List ℕ → Result (List ℕ) SealFault

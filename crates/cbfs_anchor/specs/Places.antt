@@ -18,14 +18,12 @@ use Rattle.cbfs_anchor.specs.declared.place.Place.{Place}
 use Rattle.cbfs_anchor.specs.declared.fault.SealFault.{SealFault}
 use Rattle.cbfs_anchor.specs.declared.fault.SealFault.TheVariants as faults
 use Rattle.cbfs_anchor.specs.Faults.{and_then, store_fault, walk_fault}
+use Rattle.cbfs_anchor.specs.Metadata.{bootblock_type}
 
 -- the first area with the name
 abbrev pub area_range : List ℕ → FoundMap → List ℕ → Result Range SealFault
 area_range image map name = result_map_both (λ range. range) store_fault
     (region_by_area (length image) (find (is_area name) (areas_of image map)))
-
-abbrev pub bootblock_type : ℕ
-bootblock_type = 1
 
 -- the content of a component of a region
 abbrev pub content_range : Range → Component → Range
@@ -63,9 +61,12 @@ place_by image map coreboot = option_map_or
     (find (is_area (codes "BOOTBLOCK")) (areas_of image map))
     (component_place (map_range map) coreboot (bytes_in coreboot image))
 
+-- after the map is found
+abbrev pub place_with : List ℕ → FoundMap → Result Place SealFault
+place_with image map = and_then (area_range image map (codes "COREBOOT")) (place_by image map)
+
 unfoldable pub place_in : List ℕ → Result Place SealFault
-place_in image = option_map_or (λ map. and_then (area_range image map (codes "COREBOOT"))
-    (place_by image map)) (found_in image) (Err faults.NoFmap)
+place_in image = option_map_or (place_with image) (found_in image) (Err faults.NoFmap)
 
 -- the maximum number of device calls
 abbrev pub place_reads : Device → ℕ

@@ -1,6 +1,7 @@
 //! Digest algorithms of anchors.
-ghost use Rattle.std.specs.Prelude.{◌≡◌, ◌≤◌};
+ghost use Rattle.std.specs.Prelude.{◌≡◌, ◌≤◌, length};
 ghost use Rattle.cbfs_anchor.specs.Algorithms.{number_of, digest_len, algorithm_numbered};
+ghost use Rattle.cbfs_anchor.specs.AlgorithmNames.{name_of};
 
 /// A digest algorithm of an anchor.
 #[derive(Clone, Copy, Debug, PartialEq, Eq)]
@@ -56,7 +57,10 @@ impl Algorithm {
     }
 
     /// Returns the printed name.
-    pub fn name(self) -> &'static str {
+    pub fn name(self) -> &'static str
+        ensures value { result.now ≡ name_of self }
+        ensures short { length result.now ≤ 6 }
+    {
         match self {
             Algorithm::Sha1 => "sha1",
             Algorithm::Sha256 => "sha256",

@@ -84,7 +84,8 @@ fn loaded_fault(
     Some(SealFault::Unhashed { at })
 }
 
-fn has_hash_of(algorithm: Algorithm, hash: Option<StoredHash>) -> bool
+/// Returns whether a component stores a digest of this algorithm.
+pub fn has_hash_of(algorithm: Algorithm, hash: Option<StoredHash>) -> bool
     ensures { result ≡ has_hash_of algorithm hash }
 {
     match hash {

@@ -31,7 +31,7 @@ pub enum SealFault {
     #[error("not a CBFS region")]
     NotCbfs,
     /// 7: damaged entry; the offset is relative to the region's start.
-    #[error("damaged entry at {at:#x}: {}", damage(*.kind))]
+    #[error("damaged entry at {at:#x}: {}", .kind.name())]
     Damaged { at: u64, kind: DamageKind },
     /// 8: no anchor in the area BOOTBLOCK, or without the area in the component `bootblock`.
     #[error("no anchor")]
@@ -46,7 +46,7 @@ pub enum SealFault {
     #[error("anchor inside the flash map or COREBOOT")]
     Misplaced,
     /// 12: bootblock with the header of an ELF file or an MBN file.
-    #[error("bootblock with a header that may have a digest of its own")]
+    #[error("bootblock with a header that may have a digest of its own: use coreboot's cbfstool")]
     OwnDigest,
     /// 13: component with more than 256 bytes before its content.
     #[error("metadata longer than 256 bytes at {at:#x}")]
@@ -57,16 +57,6 @@ pub enum SealFault {
     /// 15: component without a digest of the anchor's algorithm.
     #[error("no digest of the anchor's algorithm at {at:#x}")]
     Unhashed { at: u64 },
-}
-
-fn damage(kind: DamageKind) -> &'static str {
-    match kind {
-        DamageKind::Offset => "offset",
-        DamageKind::AttrOffset => "attributes",
-        DamageKind::Extent => "extent",
-        DamageKind::Name => "name",
-        DamageKind::AttrLength => "attribute length",
-    }
 }
 
 impl From<FlashFault> for SealFault {

@@ -26,7 +26,7 @@ const READ_AT_ONCE: u64 = 256;
 
 /// Returns a component's first hash attribute.
 #[tactic(auto, using(cbfs_walk::proofs::Checks::content_fits))]
-fn first_hash<F: Flash>(
+pub fn first_hash<F: Flash>(
     paged: &mut Paged<F>,
     region: Region,
     cell: &Cell,
@@ -74,7 +74,7 @@ fn component_fault<F: Flash>(
 
 /// Passes the bytes before a component's content to a hasher, the last byte of the name field as
 /// NUL: coreboot terminates a name in memory before it hashes.
-#[tactic(auto, using(cbfs_walk::proofs::CellNames::has_field, cbfs_walk::proofs::Checks::content_fits))]
+#[tactic(auto, using(crate::proofs::Hashes::has_field, crate::proofs::Hashes::content_fits))]
 fn hash_terminated<F: Flash>(
     paged: &mut Paged<F>,
     region: Region,

@@ -24,7 +24,7 @@ pub struct Place {
 }
 
 /// Returns the first area with the name.
-fn area_range<F: Flash>(
+pub fn area_range<F: Flash>(
     paged: &mut Paged<F>,
     map: &FoundMap,
     name: &[u8],
@@ -74,7 +74,7 @@ fn component_place<F: Flash>(
 }
 
 /// Returns the places after COREBOOT is found.
-fn place_by<F: Flash>(
+pub fn place_by<F: Flash>(
     paged: &mut Paged<F>,
     map: &FoundMap,
     coreboot: Region,

@@ -6,7 +6,7 @@ ghost use Rattle.flash_device.specs.Regions.{LiesOn};
 ghost use Rattle.cbfs_anchor.specs.Algorithms.{digest_len};
 ghost use Rattle.cbfs_anchor.specs.Faults.{by_device};
 ghost use Rattle.cbfs_anchor.specs.Layout.{anchor_len};
-ghost use Rattle.cbfs_anchor.specs.Seals.{IsInspection, IsOutdated, IsReported, IsSeal, inspection_reads, report_digests, survey_at, writing_fault};
+ghost use Rattle.cbfs_anchor.specs.Seals.{IsInspection, IsOutdated, IsReported, IsSeal, inspection_reads, place_inspection_reads, report_digests, survey_at, survey_from, writing_fault};
 
 use crate::anchor::{Anchor, DIGESTS_PLACE, find_anchor, has_header};
 use crate::demand::Demand;
@@ -53,7 +53,7 @@ fn writing_fault<F: Flash>(
 }
 
 /// Computes the digests of an anchor, and compares them with its own.
-fn inspect_anchor<F: Flash>(
+pub fn inspect_anchor<F: Flash>(
     paged: &mut Paged<F>,
     demand: Demand,
     place: &Place,
@@ -78,6 +78,27 @@ fn inspect_anchor<F: Flash>(
     Ok(report_of(paged, anchor, metadata, map)?)
 }
 
+/// Returns the state of the anchor in a found range, or the first error.
+pub fn inspect_place<F: Flash>(
+    paged: &mut Paged<F>,
+    demand: Demand,
+    place: &Place,
+) -> Result<Report, SealFault>
+    requires map { LiesOn place.now.map paged.old.device }
+    requires coreboot { LiesOn place.now.coreboot paged.old.device }
+    requires range { LiesOn place.now.anchor paged.old.device }
+
+    ensures after { HasReadBy by_device (place_inspection_reads paged.old.device)
+        paged.old paged.new result }
+    ensures inside { IfOk result (λ report. report.anchor.at + anchor_len report.anchor.algorithm
+        ≤ length paged.old.device.content) }
+    ensures report { OnHonest paged.old.device (λ image.
+        IsReported (survey_from demand image place.now) result image) }
+{
+    let anchor = find_anchor(paged, place.anchor)?;
+    inspect_anchor(paged, demand, place, anchor)
+}
+
 /// Returns the state of an image's anchor, or the first error.
 pub fn inspect<F: Flash>(paged: &mut Paged<F>, demand: Demand) -> Result<Report, SealFault>
     ensures after { HasReadBy by_device (inspection_reads paged.old.device)
@@ -87,8 +108,7 @@ pub fn inspect<F: Flash>(paged: &mut Paged<F>, demand: Demand) -> Result<Report,
     ensures report { OnHonest paged.old.device (IsInspection demand result) }
 {
     let place = find_place(paged)?;
-    let anchor = find_anchor(paged, place.anchor)?;
-    inspect_anchor(paged, demand, &place, anchor)
+    inspect_place(paged, demand, &place)
 }
 
 /// Returns whether an image has an anchor with an outdated digest, or the first error.

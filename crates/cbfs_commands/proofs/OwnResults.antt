@@ -16,21 +16,20 @@ use Rattle.cbfs_walk.specs.Shapes.{has_bad_size, shape_fault}
 use Rattle.cbfs_walk.specs.declared.walk.WalkFault.{WalkFault}
 use Rattle.cbfs_walk.specs.declared.walk.WalkFault.TheVariants as walk
 use Rattle.cbfs_edit.specs.Additions.{NewComponent, addition_in}
-use Rattle.cbfs_edit.specs.Removals.{group_from, removal_in, unless_unsound}
-use Rattle.cbfs_edit.proofs.Sound.{unless_damaged}
+use Rattle.cbfs_edit.specs.Removals.{group_from, removal_in, unless_damaged, unless_unsound}
 use Rattle.cbfs_edit.specs.Places.{placing_in}
 use Rattle.cbfs_edit.specs.declared.fault.EditFault.{EditFault}
 use Rattle.cbfs_edit.specs.declared.fault.EditFault.TheVariants as edit
 use Rattle.cbfs_edit.specs.declared.place.Spot.{Spot}
 use Rattle.cbfs_requests.specs.declared.refusal.Refusal.{Refusal}
 use Rattle.cbfs_requests.specs.declared.refusal.Refusal.TheVariants as refusals
-use Rattle.cbfs_commands.specs.Creations.{plan_for, region_places}
-use Rattle.cbfs_commands.specs.Effects.{effect, edits}
+use Rattle.flash_format.specs.declared.flashmap.FmapHead.{FmapHead}
+use Rattle.cbfs_commands.specs.Creations.{head_for, map_place, plan_for, region_places}
+use Rattle.cbfs_commands.specs.Effects.{RegionEdit, changes, edited_image, effect}
 use Rattle.cbfs_requests.specs.Requests.{IsFault, Request, edit_refusal, fault_or, store_refusal}
 use Rattle.cbfs_commands.specs.Outcomes.{layout}
 use Rattle.cbfs_commands.specs.Outcomes.{print_region, printed_component, printed_in}
-use Rattle.cbfs_commands.proofs.OutputParts.{walk_refusal}
-use Rattle.cbfs_commands.specs.Outcomes.{Printout, refuses}
+use Rattle.cbfs_commands.specs.Outcomes.{Printout, refuses, walk_refusal}
 
 -- an error that is no such fault
 abbrev BlamesNone : Refusal → Type 0
@@ -118,9 +117,15 @@ no_area : {T E : Type 0} (r : Result T E) → Blameless (λ (fault : E). refusal
 no_area (Ok value) = tt
 no_area (Err fault) = tt
 
+head_for-blameless : (n : ℕ) (source : List ℕ) → Blameless itself (head_for n source)
+head_for-blameless n source = grind (arith, common_steps, given, next-blameless, when)
+
+map_place-blameless : (n : ℕ) (head : FmapHead) (areas : List Area) → Blameless itself (map_place n head areas)
+map_place-blameless n head areas = grind (arith, common_steps, next-blameless, no_area, when)
+
 plan_for-blameless : (n : ℕ) (names : List (List ℕ)) (source : List ℕ) → Blameless itself (plan_for n names source)
 unfolding plan_for
-plan_for-blameless n names source = grind (arith, common_steps, given, next-blameless, no_area, region_places-blameless, when)
+plan_for-blameless n names source = grind (arith, common_steps, head_for-blameless, map_place-blameless, next-blameless, region_places-blameless, when)
 
 -- ---- commands
 
@@ -131,8 +136,8 @@ told_found-blameless c = grind (arith, common_steps)
 by_region : (image name : List ℕ) (tell : List ℕ → Printout) → ((x : List ℕ) → Blameless itself (tell x).answer) → Blameless itself (printed_in image name tell).answer
 by_region image name tell each = printout-blameless store_refusal _ _ (region_of-blameless image name) (λ region. each (bytes_in region image))
 
-edited : (image name source : List ℕ) (make : Range → List ℕ → List ℕ → Result (List ℕ) Refusal) → ((region : Range) (x : List ℕ) → Blameless itself (make region x source)) → Blameless itself ((edits name false make (λ _ _ _ _ _. ⊤)).outcome image source).printout.answer
-edited image name source make each = grind (arith, common_steps, next-blameless, region_of-blameless)
+edited : (image name source : List ℕ) (edit : RegionEdit) → ((region : Range) (x : List ℕ) → Blameless itself (edit.make region x source)) → Blameless itself (changes image (edited_image name edit image source)).printout.answer
+edited image name source edit each = grind (arith, common_steps, next-blameless, region_of-blameless)
 
 pub own_answer : (r : Request) (image source : List ℕ) → Blameless itself ((effect r).outcome image source).printout.answer
 unfolding print_region layout

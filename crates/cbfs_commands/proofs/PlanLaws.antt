@@ -1,6 +1,6 @@
 -- A plan fits its image, and its ranges lie apart.
 use Rattle.std.proofs.lemmas.Grind.{common_steps}
-use Rattle.std.proofs.Common.{◌≡◌, ℕ, ◌+◌, ◌≤◌, ◌==◌, Bool, false, not, cond, All, List, [], ◌∷◌, length, map, drop, Option, Some, None, Result, Ok, Err, subst, arith}
+use Rattle.std.proofs.Common.{◌≡◌, ℕ, ◌+◌, ◌≤◌, ◌==◌, Bool, false, not, cond, All, List, [], ◌∷◌, length, map, drop, Option, Some, None, Result, Ok, Err, subst, arith, true}
 use Rattle.std.specs.Prelude.{nat_lt}
 use lib.Chars.{codes}
 use Rattle.cbfs_walk.specs.Shapes.{has_bad_size}
@@ -21,7 +21,7 @@ use Rattle.flash_map.proofs.FmapLemmas.{head_some, valid_fits}
 use Rattle.cbfs_commands.specs.declared.create.plan.Plan.{Plan}
 use Rattle.cbfs_requests.specs.declared.refusal.Refusal.{Refusal}
 use Rattle.cbfs_requests.specs.declared.refusal.Refusal.TheVariants as refusals
-use Rattle.cbfs_commands.specs.Creations.{IsPlace, first_area, share_bytes, plan_for, region_places, some_overlap}
+use Rattle.cbfs_commands.specs.Creations.{IsPlace, first_area, head_for, map_place, share_bytes, plan_for, region_places, some_overlap}
 use Rattle.cbfs_requests.specs.Requests.{fault_or, store_refusal}
 use Rattle.cbfs_commands.proofs.RegionPlaces.{inside_lies}
 
@@ -86,18 +86,30 @@ known : (o : Option FmapHead) (head : FmapHead) → (let r : Result FmapHead Ref
 known None head is = absurd cc
 known (Some own) head is = cc
 
+kept : {T : Type 0} (good : Bool) (made value : T) (refusal : Refusal) → (let r : Result T Refusal = cond good (Ok made) (Err refusal) in r) ≡ Ok value → made ≡ value
+kept true made value refusal is = cc
+kept false made value refusal is = absurd cc
+
+same_range : (made range : Range) → (let r : Result Range Refusal = Ok made in r) ≡ Ok range → made ≡ range
+same_range made range is = cc
+
 same_plan : (made plan : Plan) → (let r : Result Plan Refusal = Ok made in r) ≡ Ok plan → made ≡ plan
 same_plan made plan is = cc
 
 pub planned : (n : ℕ) (names : List (List ℕ)) (source : List ℕ) (plan : Plan) → plan_for n names source ≡ Ok plan → IsPlanned n (length source) plan
 unfolding plan_for
 planned n names source plan is =
-    let head = done (λ refusal. refusal) (ok_or (map_head source) refusals.TableBad) _ plan is in
-    let sized = passed (not (head.0.size == n)) _ _ plan head.2 in
+    let head = done (λ refusal. refusal) (head_for n source) _ plan is in
+    let read = done (λ refusal. refusal) (ok_or (map_head source) refusals.TableBad) _ head.0 head.1 in
+    let is_head = kept (read.0.size == n) read.0 head.0 refusals.TableBad read.2 in
+    let found = subst (λ (h : FmapHead). (let r : Result FmapHead Refusal = ok_or (map_head source) refusals.TableBad in r) ≡ Ok h) is_head read.1 in
     let areas = areas_from head.0.nareas (drop fmap_head_len source) in
-    let own = done (λ fault. refusals.FmapArea) (region_by_area n (first_area areas (codes "FMAP"))) _ plan sized.1 in
-    let roomy = passed (nat_lt own.0.size (map_len head.0)) _ _ plan own.2 in
-    let places = done (λ refusal. refusal) (region_places n (map (first_area areas) names)) _ plan roomy.1 in
-    let apart = passed (some_overlap (own.0 ∷ places.0)) _ _ plan places.2 in
+    let place = done (λ refusal. refusal) (map_place n head.0 areas) _ plan head.2 in
+    let own = done (λ fault. refusals.FmapArea) (region_by_area n (first_area areas (codes "FMAP"))) _ place.0 place.1 in
+    let roomy = passed (nat_lt own.0.size (map_len head.0)) _ _ place.0 own.2 in
+    let is_place = same_range own.0 place.0 roomy.1 in
+    let places = done (λ refusal. refusal) (region_places n (map (first_area areas) names)) _ plan place.2 in
+    let apart = passed (some_overlap (place.0 ∷ places.0)) _ _ plan places.2 in
     subst (λ (q : Plan). IsPlanned n (length source) q) (same_plan _ plan apart.1)
-    (ranges_planned n (length source) (map_len head.0) _ _ own.0 places.0 (table_fits source head.0 (known (map_head source) head.0 head.1)) own.1 roomy.0 places.1 apart.0)
+    (ranges_planned n (length source) (map_len head.0) _ _ place.0 places.0 (table_fits source head.0 (known (map_head source) head.0 found))
+    (subst (λ (p : Range). region_by_area n (first_area areas (codes "FMAP")) ≡ Ok p) is_place own.1) (subst (λ (p : Range). nat_lt p.size (map_len head.0) ≡ false) is_place roomy.0) places.1 apart.0)

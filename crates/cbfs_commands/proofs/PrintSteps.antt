@@ -4,7 +4,6 @@ use Rattle.std.proofs.Common.{◌≡◌, ℕ, ◌+◌, ◌/◌, ◌%◌, ◌-◌
 use Rattle.std.specs.Prelude.{IsErrOf, if◌then◌else◌}
 use Rattle.std.specs.Result.{IsErrAnd, result_map_both}
 use Rattle.flash_format.specs.Cut.{Cut}
-use Rattle.cbfs_walk.specs.Search.{not_found}
 use Rattle.flash_device.specs.declared.sink.Sink.{Ghosts as SinkOf}
 use Rattle.flash_device.specs.Device.{fault_count}
 use Rattle.flash_device.specs.Pages.{Pages, HasRead, OnHonest, OnHonestIn}
@@ -21,16 +20,12 @@ use Rattle.cbfs_walk.specs.declared.walk.WalkFault.TheVariants as faults
 use Rattle.cbfs_walk.proofs.Shapes.{shaped_step}
 use Rattle.cbfs_requests.specs.declared.refusal.Refusal.{Refusal}
 use Rattle.cbfs_requests.specs.declared.refusal.Refusal.TheVariants as refusals
-use Rattle.cbfs_commands.specs.Outcomes.{print_region}
+use Rattle.cbfs_commands.specs.Outcomes.{print_cut, print_region, walk_refusal}
 use Rattle.cbfs_requests.specs.Requests.{by_device}
 use Rattle.cbfs_commands.specs.Rows.{rows_from, shown_cell}
 use Rattle.cbfs_commands.specs.Outcomes.{CommandResult, HasOutput, Printout, shows, refuses}
-use Rattle.cbfs_commands.proofs.OutputParts.{walk_refusal, ToldSoFar, so_far-ends, so_far-more, text_then, printout-after, printout-none, printout-refusal, printout-stopped}
+use Rattle.cbfs_commands.proofs.OutputParts.{ToldSoFar, so_far-ends, so_far-more, text_then, printout-after, printout-none, printout-refusal, printout-stopped}
 use Rattle.flash_device.proofs.DeviceLemmas.{length-bytes_in}
-
--- a row per cell, then the damage after the cells, or success
-abbrev print_cut : Bool → ℕ → Cut → Printout
-print_cut verbose at c = record { written = rows_from verbose at c.cells; answer = result_map_both (λ none. tt) walk_refusal (not_found (place_after at c.cells) c.end) }
 
 abbrev pub print_from : Bool → List ℕ → ℕ → Printout
 print_from verbose x at = reading_of (λ fault. refuses (walk_refusal fault)) (print_cut verbose) x at

@@ -1,11 +1,12 @@
 -- The effect of `create`. This project defines the conditions and the order of the checks.
-use Rattle.std.specs.Prelude.{◌≡◌, ℕ, ◌+◌, ◌≤◌, Bool, false, not, ◌&&◌, ◌||◌, List, [], ◌∷◌}
+use Rattle.std.specs.Prelude.{◌≡◌, ℕ, ◌+◌, ◌≤◌, Bool, false, ◌&&◌, ◌||◌, List, [], ◌∷◌}
 use Rattle.std.specs.Prelude.{take, map, drop, fold, replicate, nat_lt, Option, Result, Ok, Err, ◌==◌}
 use Rattle.std.specs.Prelude.{IsErrOf, ◌⊎◌, if◌then◌else◌}
 use Rattle.std.specs.List.{find, list_any}
 use Rattle.std.specs.Option.{ok_or}
 use lib.Chars.{codes}
 use Rattle.flash_format.specs.declared.flashmap.Area.{Area}
+use Rattle.flash_format.specs.declared.flashmap.FmapHead.{FmapHead}
 use Rattle.flash_format.specs.Flashmap.{fmap_head_len, map_len, areas_from, is_area}
 use Rattle.flash_device.specs.Device.{Device, Reads, fault_count, overwritten}
 use Rattle.flash_device.specs.Pages.{OnHonest}
@@ -52,17 +53,28 @@ some_overlap (place ∷ places) = list_any (share_bytes place) places || some_ov
 
 -- ---- the plan: first the header, then the map's area, then each region, then overlaps
 
+-- the head of a map for an image of n bytes, at the source's start
+abbrev pub head_for : ℕ → List ℕ → Result FmapHead Refusal
+head_for n source = fault_or Err (ok_or (map_head source) refusals.TableBad)
+    (λ head. if head.size == n then Ok head else Err refusals.TableBad)
+
+-- the area FMAP, with room for the map
+abbrev pub map_place : ℕ → FmapHead → List Area → Result Range Refusal
+map_place n head areas = fault_or (λ fault. Err refusals.FmapArea)
+    (region_by_area n (first_area areas (codes "FMAP")))
+    (λ place. if nat_lt place.size (map_len head) then Err refusals.FmapArea else Ok place)
+
+-- the plan of places without a shared byte
+abbrev pub plan_of : FmapHead → Range → List Range → Result Plan Refusal
+plan_of head place regions = if some_overlap (place ∷ regions) then Err refusals.FmapArea
+    else Ok (record { map = place; map_len = map_len head; regions = record { items = regions } })
+
 -- by the image's size, the names of the regions and the source
 unfoldable pub plan_for : ℕ → List (List ℕ) → List ℕ → Result Plan Refusal
-plan_for n names source = fault_or Err (ok_or (map_head source) refusals.TableBad) (λ head.
-    if not (head.size == n) then Err refusals.TableBad else
+plan_for n names source = fault_or Err (head_for n source) (λ head.
     let areas = areas_from head.nareas (drop fmap_head_len source) in
-    let own = region_by_area n (first_area areas (codes "FMAP")) in
-    fault_or (λ fault. Err refusals.FmapArea) own (λ place.
-    if nat_lt place.size (map_len head) then Err refusals.FmapArea else
-    fault_or Err (region_places n (map (first_area areas) names)) (λ places.
-    if some_overlap (place ∷ places) then Err refusals.FmapArea
-    else Ok (record { map = place; map_len = map_len head; regions = record { items = places } }))))
+    fault_or Err (map_place n head areas) (λ place.
+    fault_or Err (region_places n (map (first_area areas) names)) (plan_of head place)))
 
 -- in an image of n bytes, with a valid size for a CBFS
 pub record IsPlace (n : ℕ) (place : Range) : Type 0 where

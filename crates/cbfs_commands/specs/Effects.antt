@@ -9,10 +9,10 @@ use Rattle.flash_device.specs.Device.{Device, Calls, call_limit, fault_count}
 use Rattle.flash_device.specs.Pages.{OnHonest}
 use Rattle.flash_device.specs.Regions.{Range, bytes_in}
 use Rattle.flash_map.specs.Regions.{region_of}
-use Rattle.flash_format.specs.Components.{components}
-use Rattle.cbfs_edit.specs.Additions.{added, addition_in, new_component}
+use Rattle.cbfs_edit.specs.Additions.{NewComponent, added, addition_in, new_component}
 use Rattle.cbfs_edit.specs.Removals.{removal_in, removed}
-use Rattle.cbfs_edit.specs.Changes.{AddLeavesWhole, LeavesWhole}
+use Rattle.cbfs_edit.specs.Changes.{AddLeavesBefore, AddLeavesWhole, LeavesWhole}
+use Rattle.cbfs_edit.specs.declared.place.Spot.{Spot}
 use Rattle.cbfs_requests.specs.declared.refusal.Refusal.{Refusal}
 use Rattle.cbfs_requests.specs.declared.refusal.Refusal.TheVariants as refusals
 use Rattle.cbfs_requests.specs.Requests.{IsFault, Request, add, by_device, by_source, create}
@@ -23,15 +23,24 @@ use Rattle.cbfs_commands.specs.Outcomes as outcomes
 use Rattle.cbfs_commands.specs.Outcomes.{Outcome, print_region, extract_region, printed_in}
 use Rattle.cbfs_commands.specs.Outcomes.{CommandResult, Printout, shows}
 
--- The effect of a command: its outcome by image and source, the region with allowed changes, the
--- maximum number of source calls (0 if it reads no source), whether it writes output, and the
--- effect of an interruption by image, source, answer and resulting image.
+-- How a command ended: the image and the source's content before it, its answer, and the image now.
+pub record Ending : Type 0 where
+  pub image : List ℕ
+  pub source : List ℕ
+  pub answer : CommandResult
+  pub now : List ℕ
+
 pub record Effect : Type 1 where
+  -- the output, answer and image by the image and the source's content
   pub outcome : List ℕ → List ℕ → Outcome
+  -- the region of the image that may change, if any
   pub target : List ℕ → Option Range
+  -- the maximum number of source calls, 0 if the command reads no source
   pub source_calls : Device → ℕ
+  -- whether the command writes output
   pub prints : Bool
-  pub Stopped : List ℕ → List ℕ → CommandResult → List ℕ → Type 0
+  -- what an interruption leaves
+  pub Stopped : Ending → Type 0
 
 -- a report on the image changes nothing
 abbrev pub report_effect : (List ℕ → Printout) → Effect
@@ -40,7 +49,7 @@ report_effect tell = record {
   target = λ image. None;
   source_calls = λ source. 0;
   prints = true;
-  Stopped = λ image source answer now. now ≡ image;
+  Stopped = λ e. e.now ≡ e.image;
 }
 
 -- the new image, or an error without a change
@@ -48,19 +57,82 @@ abbrev pub changes : List ℕ → Result (List ℕ) Refusal → Outcome
 changes old made = let told : CommandResult = fault_or Err made (λ now. Ok tt) in
     record { printout = record { written = []; answer = told }; image = result_unwrap_or made old }
 
--- The change of a named region: whether the command reads the source (once), the new bytes by
--- region, bytes and source, and the effect of an interruption.
-abbrev pub edits : List ℕ → Bool → (Range → List ℕ → List ℕ → Result (List ℕ) Refusal)
-    → (List ℕ → List ℕ → CommandResult → List ℕ → Range → Type 0) → Effect
-edits name reads make Stops = record {
-  outcome = λ image source. changes image (fault_or (λ fault. Err (store_refusal fault))
-      (region_of image name) (λ region. fault_or Err (make region (bytes_in region image) source)
-      (λ bytes. Ok (overwritten image region.start bytes))));
+-- ---- changes of a named region
+
+pub record RegionEdit : Type 1 where
+  -- whether the command reads the source, once
+  pub reads : Bool
+  -- the new bytes by the region, its bytes and the source
+  pub make : Range → List ℕ → List ℕ → Result (List ℕ) Refusal
+  -- what an interruption leaves of the region
+  pub Stopped : Ending → Range → Type 0
+
+-- the image with new bytes in the region, or an error of the region or of the edit
+abbrev pub edited_image : List ℕ → RegionEdit → List ℕ → List ℕ → Result (List ℕ) Refusal
+edited_image name edit image source =
+    fault_or (λ fault. Err (store_refusal fault)) (region_of image name)
+    (λ region. fault_or Err (edit.make region (bytes_in region image) source)
+    (λ bytes. Ok (overwritten image region.start bytes)))
+
+abbrev pub region_effect : List ℕ → RegionEdit → Effect
+region_effect name edit = record {
+  outcome = λ image source. changes image (edited_image name edit image source);
   target = λ image. result_ok (region_of image name);
-  source_calls = λ source. if reads then length source.content / 4096 + 1 else 0;
+  source_calls = λ source. if edit.reads then length source.content / 4096 + 1 else 0;
   prints = false;
-  Stopped = λ image source answer now. ForOk (region_of image name) (Stops image source answer now);
+  Stopped = λ e. ForOk (region_of e.image name) (edit.Stopped e);
 }
+
+-- A source of the region's size replaces the region's bytes; another source changes nothing.
+-- After a source fault the source's first bytes stand before the old ones, after a device fault an
+-- arbitrary piece stands between.
+abbrev pub writing : RegionEdit
+writing = record {
+  reads = true;
+  make = λ region x source.
+      if length source == region.size then Ok source else Err refusals.SourceSize;
+  Stopped = λ e region. (length e.source ≢ region.size → e.now ≡ e.image)
+      × (IsErrOf e.answer refusals.Source → FirstWritten region.start e.source e.image e.now)
+      × (IsErrOf e.answer refusals.Device → PartWritten region.start e.source e.image e.now);
+}
+
+-- A component at the least allowed place in the first free space with room. `with_content` gives
+-- it by its content, the source's. A source fault leaves the components of before, a device fault
+-- these or also the complete addition.
+abbrev pub adding : (List ℕ → NewComponent) → Spot → RegionEdit
+adding with_content spot = record {
+  reads = true;
+  make = λ region x source. let new = with_content source in
+      result_map_both (added x new) edit_refusal (addition_in x new spot);
+  Stopped = λ e region. let new = with_content e.source in
+      let before = bytes_in region e.image in let now = bytes_in region e.now in
+      (IsErrOf e.answer refusals.Device → AddLeavesWhole before new spot now)
+      × (IsErrOf e.answer refusals.Source → AddLeavesBefore before new spot now);
+}
+
+-- an empty entry in place of a component and its adjacent free space
+abbrev pub removing : List ℕ → RegionEdit
+removing name = record {
+  reads = false;
+  make = λ region x source. result_map_both (removed x) edit_refusal (removal_in x name);
+  Stopped = λ e region. IsErrOf e.answer refusals.Device
+      → LeavesWhole (bytes_in region e.image) name (bytes_in region e.now);
+}
+
+-- ---- a new image
+
+-- an interruption only preserves the size
+abbrev pub creation_effect : List (List ℕ) → Effect
+creation_effect names = record {
+  outcome = λ image source. changes image (fault_or Err (plan_for (length image) names source)
+      (λ plan. Ok (created_image (length image) plan source)));
+  target = λ image. Some (record { start = 0; size = length image });
+  source_calls = λ source. let size = length source.content in size / area_len + size / 4096 + 3;
+  prints = false;
+  Stopped = λ e. length e.now ≡ length e.image;
+}
+
+-- ---- the commands
 
 abbrev pub effect : Request → Effect
 effect layout = report_effect outcomes.layout
@@ -69,38 +141,11 @@ effect (on_region region (print verbose)) =
 effect (on_region region (extract name)) =
     report_effect (λ image. printed_in image region (λ x. extract_region x name))
 effect (on_region region read) = report_effect (λ image. printed_in image region shows)
--- A source of the region's size; another source changes nothing. An interruption leaves a prefix of
--- the source, after a device fault an arbitrary piece, then the old bytes.
-effect (on_region name write) = edits name true
-    (λ region x source. if length source == region.size then Ok source else Err refusals.SourceSize)
-    (λ image source answer now region. (length source ≢ region.size → now ≡ image)
-    × (IsErrOf answer refusals.Source → FirstWritten region.start source image now)
-    × (IsErrOf answer refusals.Device → PartWritten region.start source image now))
--- At the least allowed place in the first free space with room. A source fault leaves the same
--- components, a device fault these or also the complete addition.
+effect (on_region region write) = region_effect region writing
 effect (on_region region (add name kind hash spot)) =
-    let new = new_component name kind hash in
-    edits region true
-    (λ found x source. result_map_both (added x (new source)) edit_refusal
-    (addition_in x (new source) spot))
-    (λ image source answer now found. let x = bytes_in found image in let y = bytes_in found now in
-    (IsErrOf answer refusals.Device → AddLeavesWhole x (new source) spot y)
-    × (IsErrOf answer refusals.Source → AddLeavesWhole x (new source) spot y
-    × (components y ≡ components x)))
--- an empty entry replaces a component and its adjacent free space
-effect (on_region region (remove name)) = edits region false
-    (λ found x source. result_map_both (removed x) edit_refusal (removal_in x name))
-    (λ image source answer now found. IsErrOf answer refusals.Device
-    → LeavesWhole (bytes_in found image) name (bytes_in found now))
--- an interruption only preserves the size
-effect (create names) = record {
-  outcome = λ image source. changes image (fault_or Err (plan_for (length image) names source)
-      (λ plan. Ok (created_image (length image) plan source)));
-  target = λ image. Some (record { start = 0; size = length image });
-  source_calls = λ source. let size = length source.content in size / area_len + size / 4096 + 3;
-  prints = false;
-  Stopped = λ image source answer now. length now ≡ length image;
-}
+    region_effect region (adding (new_component name kind hash) spot)
+effect (on_region region (remove name)) = region_effect region (removing name)
+effect (create names) = creation_effect names
 
 -- ---- the meaning
 
@@ -125,5 +170,9 @@ pub record HasEffect (d : Effect) (old new source source_now : Device)
   -- the answer and the image of the outcome, or a fault
   pub left : OnAllHonest d old source (λ image content. let o = d.outcome image content in
       ((answer ≡ o.printout.answer) × (new.content ≡ o.image)) ⊎ IsFault answer)
-  pub stopped : OnAllHonest d old source
-      (λ image content. d.Stopped image content answer new.content)
+  pub stopped : OnAllHonest d old source (λ image content. d.Stopped (record {
+    image = image;
+    source = content;
+    answer = answer;
+    now = new.content;
+  }))

@@ -13,11 +13,12 @@ use Rattle.cbfs_walk.specs.declared.cell.Cell.{Cell}
 use Rattle.cbfs_requests.specs.declared.refusal.Refusal.{Refusal}
 use Rattle.cbfs_requests.specs.declared.refusal.Refusal.TheVariants as refusals
 use Rattle.std.specs.Option.{option_map_or}
-use Rattle.std.specs.Result.{result_map_both}
 use Rattle.flash_format.specs.Components.{Component, packing}
-use Rattle.flash_format.specs.Cut.{cut}
+use Rattle.flash_format.specs.Cut.{Cut, End, cut, damage}
 use Rattle.flash_map.specs.Regions.{region_of}
-use Rattle.cbfs_walk.specs.Search.{component_in, not_found}
+use Rattle.cbfs_walk.specs.Search.{component_in}
+use Rattle.cbfs_walk.specs.declared.walk.WalkFault.{WalkFault}
+use Rattle.cbfs_walk.specs.declared.walk.WalkFault.TheVariants as faults
 use Rattle.cbfs_walk.specs.CellReadings.{place_after}
 use Rattle.cbfs_walk.specs.Shapes.{shape_fault}
 use Rattle.cbfs_edit.specs.Removals.{edit_fault_of}
@@ -65,6 +66,10 @@ pub record HasOutput {F W : Type 0} (sink : SinkOf W) (n : ℕ) (old new : Pages
   pub printout : OnHonest old.device (λ image.
       PrintsOut (sink.contents out_old) (sink.contents out_new) answer (t image))
 
+-- the error of a walk that a command reports
+abbrev pub walk_refusal : WalkFault → Refusal
+walk_refusal fault = edit_refusal (edit_fault_of fault)
+
 -- ---- outcomes
 
 pub record Outcome : Type 0 where
@@ -83,13 +88,23 @@ layout image = option_map_or (λ m. shows (map_line m ++ flat_map area_line (are
 
 -- ---- print
 
--- a row per cell, if verbose also the lines of the components; then the damage after the cells, or
--- success
+-- success, or the damage at the end of the cells
+abbrev pub end_answer : ℕ → End → CommandResult
+end_answer at (damage kind) = Err (walk_refusal (faults.Damaged at kind))
+end_answer at end = Ok tt
+
+-- a row per cell from an offset on, if verbose also the lines of the components; then the end
+abbrev pub print_cut : Bool → ℕ → Cut → Printout
+print_cut verbose at c = record {
+  written = rows_from verbose at c.cells;
+  answer = end_answer (place_after at c.cells) c.end;
+}
+
+-- the whole region, or an error of its shape without output
 unfoldable pub print_region : List ℕ → Bool → Printout
-print_region x verbose = let c = cut x in let found = not_found (place_after 0 c.cells) c.end in
-    let answer = result_map_both (λ none. tt) (λ fault. edit_refusal (edit_fault_of fault)) found in
-    option_map_or (λ fault. refuses (edit_refusal (edit_fault_of fault))) (shape_fault x)
-    (record { written = rows_from verbose 0 c.cells; answer = answer })
+print_region x verbose =
+    option_map_or (λ fault. refuses (walk_refusal fault)) (shape_fault x)
+    (print_cut verbose 0 (cut x))
 
 -- ---- extract
 
@@ -99,5 +114,5 @@ printed_component c =
     if packing c.attributes == 0 then shows c.content else refuses refusals.Compressed
 
 abbrev pub extract_region : List ℕ → List ℕ → Printout
-extract_region x name = fault_or (λ fault. refuses (edit_refusal (edit_fault_of fault)))
-    (component_in x name) (λ c. option_map_or printed_component c (refuses refusals.NotFound))
+extract_region x name = fault_or (λ fault. refuses (walk_refusal fault)) (component_in x name)
+    (λ c. option_map_or printed_component c (refuses refusals.NotFound))

@@ -1,8 +1,11 @@
 //! Runs a command.
 
-ghost use Rattle.std.specs.Prelude.{◌≡◌, ◌<◌, ◌≤◌, false, IsErrOf};
+ghost use Rattle.std.specs.Prelude.{◌≡◌, ◌<◌, ◌≤◌, Ok, true, false, IsErrOf};
+ghost use Rattle.flash_device.specs.Pages.{OnHonest};
+ghost use Rattle.flash_map.specs.Fmap.{found_in};
 ghost use Rattle.cbfs_commands.specs.Effects.{HasEffect, OnAllHonest, effect};
 ghost use Rattle.cbfs_requests.specs.Requests.{request_of};
+ghost use Rattle.cbfs_commands.specs.Notes.{may_outdate};
 ghost use Rattle.cbfs_commands.specs.Outcomes.{PrintsOut};
 
 use crate::add::add;
@@ -15,6 +18,54 @@ use crate::remove::remove;
 use crate::write::write;
 use cbfs_requests::{Command, Refusal};
 use flash_device::{Flash, Paged, Sink, Source};
+use flash_map::FoundMap;
+
+/// Runs a command on an image, without allocating memory. A successful `add`, `remove` or `write`
+/// stores in `used` the flash map that the image had before. Other commands don't change `used`.
+pub fn run_with_map<F: Flash, S: Source, W: Sink>(
+    paged: &mut Paged<F>,
+    command: &Command,
+    source: &mut S,
+    out: &mut W,
+    used: &mut Option<FoundMap>,
+) -> Result<(), Refusal>
+    ensures effect { HasEffect (effect (request_of command.now)) paged.old.device paged.new.device
+        (S.facts source.old) (S.facts source.new) result }
+    ensures unread { (effect (request_of command.now)).source_calls (S.facts source.old) ≡ 0
+        → source.new ≡ source.old }
+
+    // For any sink.
+    ensures faults { W.faults out.old ≤ W.faults out.new }
+    ensures output { IsErrOf result Refusal.Output → W.faults out.old < W.faults out.new }
+    ensures unwritten { (effect (request_of command.now)).prints ≡ false → out.new ≡ out.old }
+
+    // The answer and output of the outcome, or a part after a fault.
+    ensures outcome { OnAllHonest (effect (request_of command.now)) paged.old.device
+        (S.facts source.old) (λ image content. PrintsOut (W.contents out.old) (W.contents out.new)
+        result ((effect (request_of command.now)).outcome image content).printout) }
+
+    // The flash map of an honest device before a change.
+    ensures used { OnHonest paged.old.device (λ image.
+        may_outdate (request_of command.now) result ≡ true → used.new ≡ found_in image) }
+    ensures unused { may_outdate (request_of command.now) (Ok tt) ≡ false → used.new ≡ used.old }
+{
+    match command {
+        Command::Print { region, verbose } => print(paged, region, *verbose, out),
+        Command::Layout => layout(paged, out),
+        Command::Extract { region, name } => extract(paged, region, name, out),
+        Command::Add {
+            region,
+            name,
+            kind,
+            hash,
+            spot,
+        } => add(paged, region, name, *kind, *hash, *spot, source, used),
+        Command::Remove { region, name } => remove(paged, region, name, used),
+        Command::Read { region } => read(paged, region, out),
+        Command::Write { region } => write(paged, region, source, used),
+        Command::Create { regions } => create(paged, regions.as_slice(), source),
+    }
+}
 
 /// Runs a command on an image, without allocating memory.
 pub fn run<F: Flash, S: Source, W: Sink>(
@@ -38,20 +89,5 @@ pub fn run<F: Flash, S: Source, W: Sink>(
         (S.facts source.old) (λ image content. PrintsOut (W.contents out.old) (W.contents out.new)
         result ((effect (request_of command.now)).outcome image content).printout) }
 {
-    match command {
-        Command::Print { region, verbose } => print(paged, region, *verbose, out),
-        Command::Layout => layout(paged, out),
-        Command::Extract { region, name } => extract(paged, region, name, out),
-        Command::Add {
-            region,
-            name,
-            kind,
-            hash,
-            spot,
-        } => add(paged, region, name, *kind, *hash, *spot, source),
-        Command::Remove { region, name } => remove(paged, region, name),
-        Command::Read { region } => read(paged, region, out),
-        Command::Write { region } => write(paged, region, source),
-        Command::Create { regions } => create(paged, regions.as_slice(), source),
-    }
+    run_with_map(paged, command, source, out, &mut None)
 }

@@ -7,6 +7,9 @@ mod execution;
 mod extract;
 mod laws;
 mod layout;
+mod mapped;
+mod note;
+mod numbers;
 mod print;
 mod read;
 mod remove;
@@ -15,7 +18,12 @@ mod write;
 
 pub use cbfs_requests::{Command, MOST_REGIONS, Refusal};
 pub use create::create_size;
-pub use execution::run;
+pub use execution::{run, run_with_map};
 pub use laws::{
     additions_are_extracted, lines_are_read_back, outcomes_are_of_the_image, plans_are_laid,
+};
+pub use note::is_note_due;
+pub use numbers::{
+    a_planned_region_is_free, a_read_region_is_written_back, an_added_content_is_extracted,
+    lines_of_two_numbers_differ,
 };

@@ -1,18 +1,30 @@
 //! The command `remove`.
 
+ghost use Rattle.std.specs.Prelude.{◌≡◌, OnOk};
 ghost use Rattle.flash_device.specs.Device.{Device};
+ghost use Rattle.flash_device.specs.Pages.{OnHonest};
+ghost use Rattle.flash_map.specs.Fmap.{found_in};
 ghost use Rattle.cbfs_commands.specs.Effects.{HasEffect, effect};
 ghost use Rattle.cbfs_requests.specs.Requests.{on_region, remove};
 
+use crate::mapped::mapped_region;
 use cbfs_requests::Refusal;
 use flash_device::{Flash, Paged};
+use flash_map::FoundMap;
 
-/// Replaces the first component with the name by free space.
-pub fn remove<F: Flash>(paged: &mut Paged<F>, region: &[u8], name: &[u8]) -> Result<(), Refusal>
-    ensures { (source : Device) → HasEffect (effect (on_region region.now (remove name.now)))
+/// Replaces the first component with the name by free space. A success stores the image's flash
+/// map in `used`.
+pub fn remove<F: Flash>(
+    paged: &mut Paged<F>,
+    region: &[u8],
+    name: &[u8],
+    used: &mut Option<FoundMap>,
+) -> Result<(), Refusal>
+    ensures effect { (source : Device) → HasEffect (effect (on_region region.now (remove name.now)))
         paged.old.device paged.new.device source source result }
+    ensures used { OnHonest paged.old.device (λ image. OnOk result (used.new ≡ found_in image)) }
 {
-    let region = flash_map::region(paged, region)?;
+    let region = mapped_region(paged, region, used)?;
     cbfs_edit::remove(paged, region, name)?;
     Ok(())
 }

@@ -17,7 +17,7 @@ use Rattle.cbfs_edit.specs.Removals.{IsCellRange, kept_at, removed, space_end}
 use Rattle.cbfs_edit.specs.Places.{runs}
 use Rattle.cbfs_edit.specs.Places.{is_bad_align, IsFirstPlace, placing_in}
 use Rattle.cbfs_edit.specs.Places.{Fits}
-use Rattle.cbfs_edit.specs.Changes.{IsAddition, AddLeavesWhole, IsEmptied}
+use Rattle.cbfs_edit.specs.Changes.{IsAddition, AddLeavesBefore, AddLeavesWhole, IsEmptied, copy_edit_fault}
 use Rattle.cbfs_edit.specs.Additions.{NewComponent, added, added_component, addition_in, empty_between, cell_end, metadata_len_of, made_at, argument_fault, wanted_for, algorithm_of, digest_of}
 use Rattle.cbfs_edit.specs.Laws.{IsAdded}
 use Rattle.cbfs_edit.specs.declared.fault.EditFault.{EditFault}
@@ -29,7 +29,7 @@ use Rattle.cbfs_edit.proofs.Places.{IsPlaceAmong, IsAnsweredPlace, answered_plac
 use Rattle.cbfs_edit.proofs.Lists.{content_at}
 use Rattle.cbfs_edit.proofs.Runs.{IsRun, run_of, emptied_runs}
 use Rattle.cbfs_edit.proofs.EmptyEntries.{IsOldOrEmptied, emptied-wider, old_or-wider, same_region_length, space_end-below, space_end-near, as_splice, emptied-stopped}
-use Rattle.cbfs_edit.proofs.Changes.{copy_edit_fault, keeps}
+use Rattle.cbfs_edit.proofs.Changes.{keeps}
 use Rattle.cbfs_edit.proofs.Insertions.{added-last, with_content, written_long}
 use Rattle.std.specs.Option.{option_map_or}
 use Rattle.flash_format.specs.declared.digest.Digest.{Digest}
@@ -49,10 +49,6 @@ use Rattle.flash_device.specs.declared.paged.CopyInFault.TheVariants as copies
 pub own-is : (x : List ℕ) (new : NewComponent) (spot : Spot) (own : Option EditFault) → own ≡ argument_fault new.name new.kind spot → option_map_or (λ fault. Err fault) own (placing_in x new.name (wanted_for new spot)) ≡ addition_in x new spot
 unfolding addition_in
 own-is x new spot own is = ap (λ (o : Option EditFault). option_map_or (λ fault. Err fault) o (placing_in x new.name (wanted_for new spot))) is
-
--- after a source fault: the components of before
-abbrev pub AddLeavesBefore : List ℕ → NewComponent → Spot → List ℕ → Type 0
-AddLeavesBefore x new spot y = AddLeavesWhole x new spot y × (components y ≡ components x)
 
 -- ---- an accepted addition
 

@@ -18,7 +18,7 @@ use Rattle.flash_device.specs.declared.paged.CopyInFault.{CopyInFault}
 use Rattle.flash_device.specs.declared.paged.CopyFault.{CopyFault}
 use Rattle.flash_device.specs.declared.paged.CopyInFault.TheVariants as causes
 use Rattle.flash_device.proofs.RegionLemmas.{outside_of, changed_at, written_ok}
-use Rattle.cbfs_edit.specs.Changes.{by_device, by_fault, by_source}
+use Rattle.cbfs_edit.specs.Changes.{by_device, by_source, copy_edit_fault}
 use Rattle.cbfs_edit.specs.declared.fault.EditFault.{EditFault}
 use Rattle.cbfs_edit.specs.declared.fault.EditFault.TheVariants as faults
 
@@ -58,15 +58,6 @@ pub again : (x y z : List ℕ) (at n : ℕ) → SameOutside at n x y → SameOut
 again x y z at n first second = record { before = second.before ∙ first.before; after = second.after ∙ first.after }
 
 -- ---- a copy to an offset in a region
-
-abbrev pub copy_edit_fault : CopyInFault → EditFault
-copy_edit_fault causes.Device = faults.Device
-copy_edit_fault causes.Source = faults.Source
-
-pub copied-fault : (copied : CopyInFault) (fault : EditFault) → by_fault fault (copied ≡ causes.Device) (copied ≡ causes.Source) ⊥ → fault ≡ copy_edit_fault copied
-copied-fault copied faults.Device is = ap copy_edit_fault (sym is)
-copied-fault copied faults.Source is = ap copy_edit_fault (sym is)
-copied-fault copied fault is = absurd is
 
 copied_ok : {T : Type 0} (P : Type 0) (r : Result T CopyInFault) → OnOk (as_copy r) P → OnOk r P
 copied_ok P (Ok value) done = done

@@ -13,7 +13,7 @@ use Rattle.std.proofs.lemmas.Bool.{both_ways, cases_Bool}
 use Rattle.std.proofs.lemmas.List.Elements.{All-nil, All-cons, All-push, All-append, All-weaker, All-head, All-tail, All-contains, All-drop, All-take, Contains-append_right}
 use Rattle.flash_format.specs.Head.{head_of, is_free}
 use Rattle.flash_format.specs.Components.{cell_name}
-use Rattle.cbfs_edit.specs.Removals.{by_rows, group_from, row_end, IsComponent, IsNot, IsRangeAmong, IsGroupOf}
+use Rattle.cbfs_edit.specs.Removals.{group_from, row_end, IsComponent, IsNot, IsRangeAmong, IsGroupOf}
 
 abbrev pub IsFree : List ℕ → Type 0
 IsFree c = is_free (head_of c) ≡ true
@@ -67,19 +67,26 @@ not_alone c [] free ends none = both_ways (is_free (head_of c)) ends free
 not_alone c (d ∷ cells) free ends none = absurd cc
 
 -- free cells change only the offset
-pub over_row : {A : Type 0} (last : ℕ → ℕ → A) (each : ℕ → ℕ → List ℕ → List (List ℕ) → A → A) (start at : ℕ) (row cells : List (List ℕ)) → All IsFree row
-    → by_rows last each start at (row ++ cells) ≡ by_rows last each start (at + length (concat row)) cells
-unfolding by_rows
-over_row last each start at [] cells free = ap (λ n. by_rows last each start n cells) (let e : at ≡ at + 0 = omega arith in e)
-over_row last each start at (c ∷ row) cells free =
-    let place : at + length c + length (concat row) ≡ at + length (concat (c ∷ row)) = omega (arith, length-append c (concat row)) in
-    rw (All-head IsFree c row free) (over_row last each start (at + length c) row cells (All-tail IsFree c row free) ∙ ap (λ n. by_rows last each start n cells) place)
+pub row_place : (at : ℕ) (c : List ℕ) (row : List (List ℕ)) → at + length c + length (concat row) ≡ at + length (concat (c ∷ row))
+row_place at c row = omega (arith, length-append c (concat row))
+
+over_end : (at : ℕ) (row cells : List (List ℕ)) → All IsFree row → row_end at (row ++ cells) ≡ row_end (at + length (concat row)) cells
+unfolding row_end
+over_end at [] cells free = ap (λ n. row_end n cells) (let e : at ≡ at + 0 = omega arith in e)
+over_end at (c ∷ row) cells free = rw (All-head IsFree c row free)
+    (over_end (at + length c) row cells (All-tail IsFree c row free) ∙ ap (λ n. row_end n cells) (row_place at c row))
+
+over_free : (name : List ℕ) (start at : ℕ) (row cells : List (List ℕ)) → All IsFree row → group_from name start at (row ++ cells) ≡ group_from name start (at + length (concat row)) cells
+unfolding group_from
+over_free name start at [] cells free = ap (λ n. group_from name start n cells) (let e : at ≡ at + 0 = omega arith in e)
+over_free name start at (c ∷ row) cells free = rw (All-head IsFree c row free)
+    (over_free name start (at + length c) row cells (All-tail IsFree c row free) ∙ ap (λ n. group_from name start n cells) (row_place at c row))
 
 -- free cells before a component or the end
 row_ends : (at : ℕ) (row after : List (List ℕ)) → All IsFree row → BeginsWithComponent after → row_end at (row ++ after) ≡ at + length (concat row)
-unfolding by_rows
-row_ends at row [] free begins = over_row (λ s e. e) (λ s e c cells later. e) 0 at row [] free
-row_ends at row (c ∷ after) free begins = over_row (λ s e. e) (λ s e c cells later. e) 0 at row (c ∷ after) free ∙ rw begins refl
+unfolding row_end
+row_ends at row [] free begins = over_end at row [] free
+row_ends at row (c ∷ after) free begins = over_end at row (c ∷ after) free ∙ rw begins refl
 
 -- the leading free cells, then a component
 record FreeRow (cells : List (List ℕ)) : Type 0 where
@@ -113,7 +120,7 @@ some-inj a b is = cc
 -- the remaining cells, after others and free cells
 exact : (name : List ℕ) (start at : ℕ) (done row cells : List (List ℕ)) (group : CellRange) → All (IsNot name) done → EndsWithComponent done → All IsFree row
     → length (concat done) ≡ start → start + length (concat row) ≡ at → group_from name start at cells ≡ Some group → IsGroupOf name (done ++ (row ++ cells)) group
-unfolding by_rows
+unfolding group_from
 exact name start at done row [] group none ends free begun is found = absurd cc
 exact name start at done row (c ∷ cells) group none ends free begun is found =
     let next = at + length c in
@@ -154,7 +161,7 @@ group_exact x name group found = exact name 0 0 [] [] (cut x).cells group (All-n
 
 -- without a group, no component has the name
 none_left : (name : List ℕ) (start at : ℕ) (cells : List (List ℕ)) → group_from name start at cells ≡ None → All (IsNot name) cells
-unfolding by_rows
+unfolding group_from
 none_left name start at [] none = All-nil (IsNot name)
 none_left name start at (c ∷ cells) none =
     let next = at + length c in
@@ -193,7 +200,7 @@ group_some x name group g = omega (arith, end_of name (cut x).cells group g, com
 -- cells without the name, the last a component
 over_others : (name : List ℕ) (start at : ℕ) (before cells : List (List ℕ)) → (before ≡ [] → start ≡ at) → EndsWithComponent before → All (IsNot name) before
     → group_from name start at (before ++ cells) ≡ group_from name (at + length (concat before)) (at + length (concat before)) cells
-unfolding by_rows
+unfolding group_from
 over_others name start at [] cells fresh ends others =
     ap (λ n. group_from name n at cells) (fresh refl) ∙ ap (λ n. group_from name n n cells) (let e : at ≡ at + 0 = omega arith in e)
 over_others name start at (c ∷ before) cells fresh ends others =
@@ -207,7 +214,7 @@ over_others name start at (c ∷ before) cells fresh ends others =
     ]
 
 one_group : (x name : List ℕ) (group : CellRange) → IsGroupOf name (cut x).cells group → group_from name 0 0 (cut x).cells ≡ Some group
-unfolding by_rows
+unfolding group_from
 one_group x name group is =
     let behind : List (List ℕ) = is.row_after ++ is.range.after in
     let first : 0 + length (concat is.range.before) ≡ group.start = omega (arith, is.range.start_is) in
@@ -217,7 +224,7 @@ one_group x name group is =
     ap (λ (cells : List (List ℕ)). group_from name 0 0 cells) (whole_of name (cut x).cells group is)
     ∙ over_others name 0 0 is.range.before (is.row_before ++ (is.component ∷ behind)) (λ none. refl) is.range.no_more_before is.first
     ∙ ap (λ n. group_from name n n (is.row_before ++ (is.component ∷ behind))) first
-    ∙ over_row (λ s a. None) (λ s a c cells rest. cond (bytes_eq (cell_name c) name) (Some (let r : CellRange = record { start = s; end = row_end (a + length c) cells } in r)) rest) group.start group.start is.row_before (is.component ∷ behind) (free_parts is.row_before is.row_after is.free).0
+    ∙ over_free name group.start group.start is.row_before (is.component ∷ behind) (free_parts is.row_before is.row_after is.free).0
     ∙ step
 
 -- no component has the name

@@ -7,11 +7,11 @@ use Rattle.std.proofs.lemmas.Bool.{cases_Bool, lt-ltb, ltb-true, cond_both}
 use Rattle.std.proofs.lemmas.List.Elements.{All-nil, All-head, All-tail, All-push, All-cons}
 use Rattle.flash_format.specs.Head.{head_of, is_free}
 use Rattle.flash_format.specs.Cut.{cut, IsCell}
-use Rattle.cbfs_edit.specs.Removals.{IsCellRange, by_rows}
+use Rattle.cbfs_edit.specs.Removals.{IsCellRange}
 use Rattle.cbfs_edit.specs.Places.{add_run, runs, runs_from, IsRunOf}
 use Rattle.cbfs_edit.specs.Changes.{IsEmptied, SameCells}
 use Rattle.cbfs_edit.specs.declared.group.CellRange.{CellRange}
-use Rattle.cbfs_edit.proofs.Groups.{IsFree, EndsWithComponent, BeginsWithComponent, length-concat-push, length-placed, over_row, ends_after, ends_push, not_alone, between}
+use Rattle.cbfs_edit.proofs.Groups.{IsFree, EndsWithComponent, BeginsWithComponent, length-concat-push, length-placed, row_place, ends_after, ends_push, not_alone, between}
 use Rattle.flash_format.proofs.Splices.{AllFree, components-free, group-components}
 use Rattle.std.proofs.lemmas.List.Kept.{AllPairs-cons}
 use Rattle.flash_format.proofs.CutSteps.{cell_span}
@@ -45,7 +45,7 @@ run-cases start end others run has = elim (cases_Bool (nat_lt start end)) [
 
 maximal : (start at : ℕ) (done row cells : List (List ℕ)) (run : CellRange) → EndsWithComponent done → All IsFree row → length (concat done) ≡ start → start + length (concat row) ≡ at
     → Contains (runs_from start at cells) run → IsRunOf (done ++ (row ++ cells)) run
-unfolding by_rows
+unfolding runs_from
 maximal start at done row [] run ends free begun is has = elim (run-cases start at [] run has) [
   | inl here ↦ closed start at done row [] run ends free tt begun is here.0 here.1
   | inr there ↦ absurd (omega (arith, there.1))
@@ -71,12 +71,19 @@ later_is run others start end has = cond_both (nat_lt start end) _ others (λ (l
 here_is : (start end : ℕ) (others : List CellRange) → start < end → Contains (add_run start end others) (record { start = start; end = end })
 here_is start end others some = rw (lt-ltb start end some) (0, omega arith, refl)
 
+-- free cells change only the offset
+over_free : (start at : ℕ) (row cells : List (List ℕ)) → All IsFree row → runs_from start at (row ++ cells) ≡ runs_from start (at + length (concat row)) cells
+unfolding runs_from
+over_free start at [] cells free = ap (λ n. runs_from start n cells) (let e : at ≡ at + 0 = omega arith in e)
+over_free start at (c ∷ row) cells free = rw (All-head IsFree c row free)
+    (over_free start (at + length c) row cells (All-tail IsFree c row free) ∙ ap (λ n. runs_from start n cells) (row_place at c row))
+
 -- a run from here on
 from_here : (start : ℕ) (row after : List (List ℕ)) (end : ℕ) → All IsFree row → BeginsWithComponent after → start + length (concat row) ≡ end → start < end
     → Contains (runs_from start start (row ++ after)) (record { start = start; end = end })
-unfolding by_rows
+unfolding runs_from
 from_here start row after end free begins is some =
-    subst (λ (l : List CellRange). Contains l (record { start = start; end = end })) (sym (over_row (λ s a. add_run s a []) (λ s a c cells later. add_run s a later) start start row after free ∙ ap (λ n. runs_from start n after) is)) (by_after after begins)
+    subst (λ (l : List CellRange). Contains l (record { start = start; end = end })) (sym (over_free start start row after free ∙ ap (λ n. runs_from start n after) is)) (by_after after begins)
   where
     by_after : (others : List (List ℕ)) → BeginsWithComponent others → Contains (runs_from start end others) (record { start = start; end = end })
     by_after [] b = here_is start end [] some
@@ -85,7 +92,7 @@ from_here start row after end free begins is some =
 -- after earlier cells
 there : (start at : ℕ) (before row after : List (List ℕ)) (run : CellRange) → (before ≡ [] → start ≡ at) → EndsWithComponent before → All IsFree row → BeginsWithComponent after
     → at + length (concat before) ≡ run.start → run.start + length (concat row) ≡ run.end → run.start < run.end → Contains (runs_from start at (before ++ (row ++ after))) run
-unfolding by_rows
+unfolding runs_from
 there start at [] row after run fresh ends free begins begun is some =
     let here : at ≡ run.start = omega (arith, begun) in
     rw (fresh refl, here) (from_here run.start row after run.end free begins is some)
@@ -125,7 +132,7 @@ add_apart : (start end : ℕ) (others : List CellRange) → BeginsAfter end othe
 add_apart start end others later rest = cond_both (nat_lt start end) _ others (AllPairs Apart) (λ e. AllPairs-cons Apart _ others later rest) (λ e. rest)
 
 begin_after : (low start at : ℕ) (cells : List (List ℕ)) → low < start → start ≤ at → BeginsAfter low (runs_from start at cells)
-unfolding by_rows
+unfolding runs_from
 begin_after low start at [] before order = add_after low start at [] before (All-nil (λ (r : CellRange). low < r.start))
 begin_after low start at (c ∷ cells) before order =
     let next = at + length c in
@@ -134,7 +141,7 @@ begin_after low start at (c ∷ cells) before order =
     (λ e. add_after low start at (runs_from next next cells) before (begin_after low next next cells (omega (arith, before, order)) (omega arith)))
 
 apart : (start at : ℕ) (cells : List (List ℕ)) → start ≤ at → All IsCell cells → AllPairs Apart (runs_from start at cells)
-unfolding by_rows
+unfolding runs_from
 apart start at [] order each = add_apart start at [] (All-nil (λ (r : CellRange). at < r.start)) none_apart
 apart start at (c ∷ cells) order each =
     let next = at + length c in

@@ -29,7 +29,7 @@ use Rattle.cbfs_walk.specs.declared.walk.WalkFault.{WalkFault}
 use Rattle.cbfs_edit.specs.Changes.{SameCells}
 use Rattle.flash_format.specs.Splices.{CellsBetween}
 use Rattle.cbfs_edit.specs.Removals.{group_from, removed, removal_in, edit_fault_of}
-use Rattle.cbfs_edit.proofs.Sound.{unless_damaged}
+use Rattle.cbfs_edit.specs.Removals.{unless_damaged}
 use Rattle.cbfs_edit.specs.declared.fault.EditFault.TheVariants as faults
 use Rattle.cbfs_edit.specs.declared.group.CellRange.{CellRange}
 use Rattle.cbfs_edit.proofs.Groups.{group_none}

@@ -18,9 +18,8 @@ use Rattle.cbfs_walk.specs.declared.walk.Step.{Step}
 use Rattle.cbfs_walk.specs.declared.walk.WalkFault.{WalkFault}
 use Rattle.cbfs_walk.proofs.Shapes.{shaped_step}
 use Rattle.cbfs_walk.proofs.StepResults.{IsLast, last_reads}
-use Rattle.cbfs_edit.specs.Changes.{by_device, by_fault}
-use Rattle.cbfs_edit.specs.Removals.{edit_fault_of, unless_unsound, removal_in, by_rows}
-use Rattle.cbfs_edit.proofs.Sound.{unless_damaged}
+use Rattle.cbfs_edit.specs.Changes.{IsOwn, by_device}
+use Rattle.cbfs_edit.specs.Removals.{edit_fault_of, unless_damaged, unless_unsound, removal_in}
 use Rattle.cbfs_edit.specs.declared.fault.EditFault.{EditFault}
 use Rattle.std.specs.Str.{bytes_eq}
 use Rattle.flash_format.specs.Head.{head_of, is_free}
@@ -108,7 +107,7 @@ told_step s b (inl e) = absurd cc
 told_step s b (inr e) = e
 
 -- an error of neither the device nor the source
-faultless : {A : Type 0} (r : Result A EditFault) → IfErr r (λ fault. by_fault fault ⊥ ⊥ ⊤) → (fault_count by_device r ≡ 0) × (IsErrOf r faults.Source → ⊥)
+faultless : {A : Type 0} (r : Result A EditFault) → IfErr r IsOwn → (fault_count by_device r ≡ 0) × (IsErrOf r faults.Source → ⊥)
 faultless (Ok a) own = (refl, λ e. absurd cc)
 faultless (Err faults.Device) own = absurd own
 faultless (Err faults.Source) own = absurd own
@@ -162,7 +161,7 @@ module _ {F S A : Type 0} (r : Range) (sense : S → ℕ → Reading A) (by : Li
     last_found : found_by x (sense s w.at) (Ok step) ≡ sense s w.at []
     last_found = ⊎_elim (λ tail. ap (λ (t : Step). found_by x (sense s w.at) (Ok t)) tail.1) (λ end. ap (λ (t : Step). found_by x (sense s w.at) (Ok t)) end) last
 
-    pub searched : (Is : A → Type 0) (mid : Pages F) (result : Result A EditFault) → IfErr result (λ fault. by_fault fault ⊥ ⊥ ⊤) → IfOk result Is → result ≡ sense s w.at [] → HasRead (reads_at w.region.size w.at (Ok step)) 0 now mid
+    pub searched : (Is : A → Type 0) (mid : Pages F) (result : Result A EditFault) → IfErr result IsOwn → IfOk result Is → result ≡ sense s w.at [] → HasRead (reads_at w.region.size w.at (Ok step)) 0 now mid
         → (IsTrue now.device.honest → w.ended ≡ None → (let a : StepResult = Ok step in IsErrOf a walk.Device ⊎ (a ≡ answer_at (bytes_in w.region now.device.content) w.at))) → HasSearched by r Is old mid result
     searched Is mid result own found is reading answer = record {
       after = rw (faultless result own).0 (HasRead-within (w.at / 16 + reads_over (w.region.size - w.at)) (r.size / 16 + 1) 0 old mid (omega (arith, i.inside, i.aligned, ap (λ (k : Range). k.size) i.region))
@@ -216,14 +215,14 @@ closed wanted size s = option_or s.place (cond (nat_lt s.row.start s.row.end) (p
 -- over a free cell
 pub free_step : (name : List ℕ) (wanted : Wanted) (size : ℕ) (s : Survey) (c : List ℕ) (cells : List (List ℕ)) (span : ℕ) → is_free (head_of c) ≡ true → length c ≡ span
     → place_by name wanted size s (c ∷ cells) ≡ place_by name wanted size (record { row = record { start = s.row.start; end = s.row.end + span }; exists = s.exists; place = s.place }) cells
-unfolding components_from by_rows
+unfolding components_from runs_from
 free_step name wanted size s c cells span free long = rw (free, long) refl
 
 -- over a component
 pub place_step : (name : List ℕ) (wanted : Wanted) (size : ℕ) (s : Survey) (c : List ℕ) (cells : List (List ℕ)) (span : ℕ) (named : Bool) (place : Option Place)
     → is_free (head_of c) ≡ false → length c ≡ span → named ≡ bytes_eq (cell_name c) name → place ≡ closed wanted size s
     → place_by name wanted size s (c ∷ cells) ≡ place_by name wanted size (record { row = record { start = s.row.end + span; end = s.row.end + span }; exists = s.exists || named; place = place }) cells
-unfolding components_from by_rows
+unfolding components_from runs_from
 place_step name wanted size s c cells span named place used long is_named is_place =
     let next = s.row.end + span in
     rw (used, long, is_named, is_place) (
@@ -235,7 +234,7 @@ place_step name wanted size s c cells span named place used long is_named is_pla
 
 -- at the end of the cells
 pub no_place_left : (name : List ℕ) (wanted : Wanted) (size : ℕ) (s : Survey) (place : Option Place) → s.exists ≡ false → place ≡ closed wanted size s → ok_or place faults.NoSpace ≡ place_by name wanted size s []
-unfolding components_from by_rows
+unfolding components_from runs_from
 no_place_left name wanted size s place none is =
     rw none (ap (λ (p : Option Place). ok_or p faults.NoSpace) (is ∙ sym (or_run wanted size s.place (nat_lt s.row.start s.row.end) s.row [] ∙ or_nothing (closed wanted size s))))
 

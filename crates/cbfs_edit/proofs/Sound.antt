@@ -9,15 +9,10 @@ use Rattle.std.specs.Prelude.{not}
 use Rattle.cbfs_walk.specs.Shapes.{has_bad_size}
 use Rattle.cbfs_walk.specs.CellReadings.{place_after}
 use Rattle.cbfs_walk.proofs.StepResults.{good_size}
-use Rattle.cbfs_edit.specs.Removals.{edit_fault_of, unless_unsound}
-use Rattle.std.specs.Result.{result_and, result_map_both}
-use Rattle.cbfs_walk.specs.Search.{not_found}
+use Rattle.cbfs_edit.specs.Removals.{edit_fault_of, unless_damaged, unless_unsound}
 use Rattle.cbfs_edit.specs.declared.fault.EditFault.{EditFault}
 use Rattle.cbfs_edit.specs.declared.group.CellRange.{CellRange}
 use Rattle.cbfs_walk.specs.declared.walk.WalkFault.TheVariants as walk
-
-abbrev pub unless_damaged : {A : Type 0} → ℕ → End → Result A EditFault → Result A EditFault
-unless_damaged at end otherwise = result_and (result_map_both (λ none. none) edit_fault_of (not_found at end)) otherwise
 
 -- valid size, and no damage
 pub record IsSound (x : List ℕ) : Type 0 where

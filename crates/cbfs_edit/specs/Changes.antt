@@ -1,9 +1,11 @@
 -- The effect of edits and of formatting on a region, also after a fault, and lists of edits.
 use Rattle.std.specs.Prelude.{◌≡◌, ℕ, ◌+◌, List, length, Result, IsTrue, OnOk, ◌⊎◌, ◌-◌, max, min}
-use Rattle.std.specs.Prelude.{Ok, Err, ◌==◌, MatchResult, true, [], ◌∷◌, Some, ◌/◌}
+use Rattle.std.specs.Prelude.{Ok, Err, ◌==◌, true, [], ◌∷◌, Some, ◌/◌, ⊤}
 use Rattle.flash_device.specs.Device.{overwritten, SameOutside, Device, refusals, Calls, Reads}
 use Rattle.flash_device.specs.Pages.{Pages, HasChanged, OnHonestIn, OnHonest}
 use Rattle.flash_device.specs.Regions.{Range, bytes_in}
+use Rattle.flash_device.specs.declared.paged.CopyInFault.{CopyInFault}
+use Rattle.flash_device.specs.declared.paged.CopyInFault.TheVariants as copies
 use Rattle.flash_format.specs.Made.{header_length, empty_header, empty_entry}
 use Rattle.flash_format.specs.Cut.{cut, complete}
 use Rattle.flash_format.specs.Components.{components}
@@ -21,18 +23,26 @@ use Rattle.cbfs_edit.specs.declared.edit.Edit.TheVariants.{Add, Remove}
 use Rattle.cbfs_edit.specs.declared.edit.Reply.{Reply}
 use Rattle.cbfs_edit.specs.declared.edit.Reply.TheVariants as replies
 
--- selects by the failed device, if any
-abbrev pub by_fault {ℓ} : {X : Type ℓ} → EditFault → X → X → X → X
-by_fault faults.Device device source refused = device
-by_fault faults.Source device source refused = source
-by_fault _ device source refused = refused
-
--- the number of failed calls
+-- the number of failed device calls that an error reports
 abbrev pub by_device : EditFault → ℕ
-by_device fault = by_fault fault 1 0 0
+by_device faults.Device = 1
+by_device fault = 0
 
+-- the number of failed source calls that an error reports
 abbrev pub by_source : EditFault → ℕ
-by_source fault = by_fault fault 0 1 0
+by_source faults.Source = 1
+by_source fault = 0
+
+-- an error of the edit itself: no call failed
+abbrev pub IsOwn : EditFault → Type 0
+IsOwn faults.Device = ⊥
+IsOwn faults.Source = ⊥
+IsOwn fault = ⊤
+
+-- the error of a failed copy of the content
+abbrev pub copy_edit_fault : CopyInFault → EditFault
+copy_edit_fault copies.Device = faults.Device
+copy_edit_fault copies.Source = faults.Source
 
 -- A write into a region by at most n calls. On an honest device, success applies `done`, and `Left`
 -- holds in any case.
@@ -66,12 +76,16 @@ abbrev pub LeavesWhole : List ℕ → List ℕ → List ℕ → Type 0
 LeavesWhole x name y = (y ≡ x) ⊎ ((group : CellRange) × (removal_in x name ≡ Ok group)
     × IsStopped group (length x - 4) x (removed x group) y)
 
--- The effect of a removal on a region of an honest device's image, by the result.
+-- The effect of a removal on a region of an honest device's image, by the result. A removal has no
+-- source.
 abbrev pub IsRemoval : Range → List ℕ → Result CellRange EditFault → List ℕ → List ℕ → Type 0
-IsRemoval r name result old now = let x = bytes_in r old in MatchResult result
-    (λ group. (removal_in x name ≡ Ok group) × (now ≡ overwritten old r.start (removed x group)))
-    (λ fault. by_fault fault (LeavesWhole x name (bytes_in r now)) ⊥
-    ((removal_in x name ≡ Err fault) × (now ≡ old)))
+IsRemoval region name (Ok group) old now = (removal_in (bytes_in region old) name ≡ Ok group)
+    × (now ≡ overwritten old region.start (removed (bytes_in region old) group))
+IsRemoval region name (Err faults.Device) old now =
+    LeavesWhole (bytes_in region old) name (bytes_in region now)
+IsRemoval region name (Err faults.Source) old now = ⊥
+IsRemoval region name (Err fault) old now =
+    (removal_in (bytes_in region old) name ≡ Err fault) × (now ≡ old)
 
 -- after a device fault of an addition; of the last four bytes, only bytes after the content remain
 abbrev pub AddLeavesWhole : List ℕ → NewComponent → Spot → List ℕ → Type 0
@@ -79,19 +93,26 @@ AddLeavesWhole x new spot y = (y ≡ x) ⊎ ((place : Place) × (addition_in x n
     × IsStopped place.run (max (place.content + length new.content) (length x - 4)) x
     (added x new place) y)
 
+-- after a source fault of an addition: the components of before
+abbrev pub AddLeavesBefore : List ℕ → NewComponent → Spot → List ℕ → Type 0
+AddLeavesBefore x new spot y = AddLeavesWhole x new spot y × (components y ≡ components x)
+
 -- The effect of an addition on a region of an honest device's image, by the result. `with_content`
--- is the component by its content, the source's.
+-- gives the component by its content, which is the source's.
 abbrev pub IsAddition : Range → (List ℕ → NewComponent) → Spot → Device → Result Placed EditFault
     → List ℕ → List ℕ → Type 0
-IsAddition region with_content spot source result old now =
-    let x = bytes_in region old in let y = bytes_in region now in
-    let new = with_content source.content in MatchResult result
-    (λ placed. (place : Place) × (addition_in x new spot ≡ Ok place)
+IsAddition region with_content spot source (Ok placed) old now =
+    let x = bytes_in region old in let new = with_content source.content in
+    (place : Place) × (addition_in x new spot ≡ Ok place)
     × (placed ≡ record { header = place.header; content = place.content })
-    × (IsTrue source.honest → now ≡ overwritten old region.start (added x new place)))
-    (λ fault. by_fault fault (IsTrue source.honest → AddLeavesWhole x new spot y)
-    (AddLeavesWhole x new spot y × (components y ≡ components x))
-    ((addition_in x new spot ≡ Err fault) × (now ≡ old)))
+    × (IsTrue source.honest → now ≡ overwritten old region.start (added x new place))
+IsAddition region with_content spot source (Err faults.Device) old now = IsTrue source.honest
+    → AddLeavesWhole (bytes_in region old) (with_content source.content) spot (bytes_in region now)
+IsAddition region with_content spot source (Err faults.Source) old now =
+    AddLeavesBefore (bytes_in region old) (with_content source.content) spot (bytes_in region now)
+IsAddition region with_content spot source (Err fault) old now =
+    (addition_in (bytes_in region old) (with_content source.content) spot ≡ Err fault)
+    × (now ≡ old)
 
 -- a single empty entry, with the same last four bytes
 abbrev pub formatted : List ℕ → List ℕ

@@ -6,7 +6,8 @@ use Rattle.std.specs.Prelude.{nat_le, if◌then◌else◌, is_some, List, ◌∷
 use Rattle.std.specs.Prelude.{Some, None, Result, Err, ok_or, [], nat_lt}
 use Rattle.flash_format.specs.Components.{components}
 use Rattle.cbfs_walk.specs.Search.{first_named}
-use Rattle.cbfs_edit.specs.Removals.{IsCellRange, space_end, unless_unsound, IsRangeAmong, by_rows}
+use Rattle.cbfs_edit.specs.Removals.{IsCellRange, space_end, unless_unsound, IsRangeAmong}
+use Rattle.flash_format.specs.Head.{head_of, is_free}
 use Rattle.cbfs_edit.specs.declared.fault.EditFault.{EditFault}
 use Rattle.cbfs_edit.specs.declared.fault.EditFault.TheVariants.{Exists, NoSpace}
 use Rattle.cbfs_edit.specs.declared.group.CellRange.{CellRange}
@@ -22,10 +23,12 @@ abbrev pub add_run : ℕ → ℕ → List CellRange → List CellRange
 add_run start end others =
     if nat_lt start end then record { start = start; end = end } ∷ others else others
 
--- the maximal sequences of adjacent free cells
-abbrev pub runs_from : ℕ → ℕ → List (List ℕ) → List CellRange
-runs_from =
-    by_rows (λ start at. add_run start at []) (λ start at x cells later. add_run start at later)
+-- The maximal sequences of adjacent free cells. Those directly before `at` begin at `start`.
+unfoldable pub runs_from : ℕ → ℕ → List (List ℕ) → List CellRange
+runs_from start at [] = add_run start at []
+runs_from start at (cell ∷ cells) = let next = at + length cell in
+    if is_free (head_of cell) then runs_from start next cells
+    else add_run start at (runs_from next next cells)
 
 abbrev pub runs : List ℕ → List CellRange
 runs x = runs_from 0 0 (cut x).cells

@@ -5,14 +5,12 @@ use Rattle.std.specs.Prelude.{length, Option, Some, None, if◌then◌else◌, �
 use Rattle.std.specs.Prelude.{ok_or, ◌==◌}
 use Rattle.std.specs.Str.{bytes_eq}
 use Rattle.flash_format.specs.Head.{head_of, is_free}
-use Rattle.flash_format.specs.Cut.{cut}
+use Rattle.flash_format.specs.Cut.{End, cut, damage}
 use Rattle.flash_format.specs.Components.{cell_name}
 use Rattle.flash_format.specs.Splices.{AllFree}
 use Rattle.cbfs_edit.specs.declared.group.CellRange.{CellRange}
-use Rattle.std.specs.Result.{result_and, result_map_both}
 use Rattle.flash_format.specs.Made.{empty_entry}
 use Rattle.flash_device.specs.Device.{overwritten}
-use Rattle.cbfs_walk.specs.Search.{not_found}
 use Rattle.std.specs.Option.{option_map_or}
 use Rattle.cbfs_walk.specs.Shapes.{shape_fault}
 use Rattle.cbfs_walk.specs.CellReadings.{place_after}
@@ -22,25 +20,21 @@ use Rattle.cbfs_edit.specs.declared.fault.EditFault.{EditFault}
 use Rattle.cbfs_edit.specs.declared.fault.EditFault.TheVariants.{RegionShape, NotCbfs, Damaged}
 use Rattle.cbfs_edit.specs.declared.fault.EditFault.TheVariants.{Device, NotFound}
 
--- A fold over cells. `start` is the start of the free cells directly before `at`. `each` receives
--- `start`, `at`, the component, the remaining cells and their result; `last` is the result at the
--- end.
-unfoldable pub by_rows : {A : Type 0} → (ℕ → ℕ → A) → (ℕ → ℕ → List ℕ → List (List ℕ) → A → A) → ℕ
-    → ℕ → List (List ℕ) → A
-by_rows last each start at [] = last start at
-by_rows last each start at (x ∷ cells) =
-    let next = at + length x in if is_free (head_of x) then by_rows last each start next cells
-    else each start at x cells (by_rows last each next next cells)
+-- the end of the free cells that follow `at` without a component between
+unfoldable pub row_end : ℕ → List (List ℕ) → ℕ
+row_end at [] = at
+row_end at (cell ∷ cells) =
+    if is_free (head_of cell) then row_end (at + length cell) cells else at
 
--- the end of the leading free cells
-abbrev pub row_end : ℕ → List (List ℕ) → ℕ
-row_end at = by_rows (λ start end. end) (λ start end x cells later. end) 0 at
-
--- the first component with the name, and the adjacent free cells
-abbrev pub group_from : List ℕ → ℕ → ℕ → List (List ℕ) → Option CellRange
-group_from name =
-    by_rows (λ start at. None) (λ start at x cells later. if bytes_eq (cell_name x) name
-    then Some (record { start = start; end = row_end (at + length x) cells }) else later)
+-- The first component with the name, and the adjacent free cells. The free cells directly before
+-- `at` begin at `start`.
+unfoldable pub group_from : List ℕ → ℕ → ℕ → List (List ℕ) → Option CellRange
+group_from name start at [] = None
+group_from name start at (cell ∷ cells) = let next = at + length cell in
+    if is_free (head_of cell) then group_from name start next cells
+    else (if bytes_eq (cell_name cell) name
+    then Some (record { start = start; end = row_end next cells })
+    else group_from name next next cells)
 
 -- multiples of 64 in a region of the given size
 pub record IsCellRange (group : CellRange) (size : ℕ) : Type 0 where
@@ -101,11 +95,15 @@ edit_fault_of faults.RegionShape = RegionShape
 edit_fault_of faults.NotCbfs = NotCbfs
 edit_fault_of (faults.Damaged at kind) = Damaged at kind
 
--- the region's shape, then damage take precedence
+-- the result, or the damage at the end of the cells
+abbrev pub unless_damaged : {A : Type 0} → ℕ → End → Result A EditFault → Result A EditFault
+unless_damaged at (damage kind) otherwise = Err (Damaged at kind)
+unless_damaged at end otherwise = otherwise
+
+-- the result, or an error of the region's shape, or the damage at the end of its cells
 abbrev pub unless_unsound : {A : Type 0} → List ℕ → Result A EditFault → Result A EditFault
 unless_unsound x otherwise = option_map_or (λ fault. Err (edit_fault_of fault)) (shape_fault x)
-    (result_and (result_map_both (λ none. none) edit_fault_of
-    (not_found (place_after 0 (cut x).cells) (cut x).end)) otherwise)
+    (unless_damaged (place_after 0 (cut x).cells) (cut x).end otherwise)
 
 -- the group, or the first error
 unfoldable pub removal_in : List ℕ → List ℕ → Result CellRange EditFault

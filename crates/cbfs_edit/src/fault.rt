@@ -1,7 +1,6 @@
 //! The errors of edits.
 ghost use Rattle.std.specs.Prelude.{◌≡◌};
-ghost use Rattle.flash_device.specs.declared.paged.CopyInFault.TheVariants as causes;
-ghost use Rattle.cbfs_edit.specs.Changes.{by_fault};
+ghost use Rattle.cbfs_edit.specs.Changes.{copy_edit_fault};
 ghost use Rattle.cbfs_edit.specs.Removals.{edit_fault_of};
 ghost use Rattle.cbfs_edit.specs.declared.fault.EditFault.TheVariants.{Device};
 
@@ -46,7 +45,7 @@ impl From<FlashFault> for EditFault {
 }
 
 impl From<CopyInFault> for EditFault {
-    ghost from_gives = { λ was now. by_fault now (was ≡ causes.Device) (was ≡ causes.Source) ⊥ };
+    ghost from_gives = { λ was now. now ≡ copy_edit_fault was };
 
     fn from(fault: CopyInFault) -> EditFault {
         match fault {

@@ -47,15 +47,15 @@ pub fn find_group<F: Flash>(
     let mut search = Search::Looking { start: 0 };
     loop {
         match walk.next(paged)? {
-            Step::Cell(cell) => search = pass(paged, region, &cell, name, search)?,
+            Step::Cell(cell) => search = search_over(paged, region, &cell, name, search)?,
             Step::Tail(_) | Step::End => return group_in(search),
         }
     }
 }
 
 /// Advances the search over a cell.
-#[tactic(auto, unfolding(crate::specs::Removals::by_rows))]
-fn pass<F: Flash>(
+#[tactic(auto, unfolding(crate::specs::Removals::group_from, crate::specs::Removals::row_end))]
+fn search_over<F: Flash>(
     paged: &mut Paged<F>,
     region: Region,
     cell: &Cell,
@@ -96,7 +96,7 @@ fn pass<F: Flash>(
     }
 }
 
-#[tactic(auto, unfolding(crate::specs::Removals::by_rows))]
+#[tactic(auto, unfolding(crate::specs::Removals::group_from, crate::specs::Removals::row_end))]
 fn group_in(search: Search) -> Result<CellRange, EditFault>
     ensures is { (name : List ℕ) (at : ℕ) → result ≡ group_by name search at [] }
     ensures group { (at : ℕ) → IsBefore at search → IfOk result (λ group. IsCellRange group at) }

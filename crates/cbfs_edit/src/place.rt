@@ -1,13 +1,13 @@
 //! The search for a new component's place.
 ghost use Rattle.std.specs.Option.{option_or};
 ghost use Rattle.std.specs.Prelude.{◌≡◌, ℕ, ◌+◌, ◌/◌, ◌^◌, ◌<◌, ◌≤◌, List, [], ◌∷◌, None};
-ghost use Rattle.std.specs.Prelude.{false, nat_lt, if◌then◌else◌, IfOk, IfErr, IfSome, ⊤};
+ghost use Rattle.std.specs.Prelude.{false, nat_lt, if◌then◌else◌, IfOk, IfErr, IfSome};
 ghost use Rattle.flash_device.specs.Pages.{HasAnswered, OnHonestIn};
 ghost use Rattle.flash_device.specs.Regions.{LiesOn};
 ghost use Rattle.cbfs_walk.specs.Cells.{IsCellOn, IsCellIn, cell_in};
 ghost use Rattle.cbfs_walk.specs.Walks.{StandsIn};
 ghost use Rattle.cbfs_edit.specs.Removals.{IsCellRange};
-ghost use Rattle.cbfs_edit.specs.Changes.{by_fault};
+ghost use Rattle.cbfs_edit.specs.Changes.{IsOwn};
 ghost use Rattle.cbfs_edit.specs.Places.{Fits, is_bad_align, limit_of, least_from};
 ghost use Rattle.cbfs_edit.specs.Places.{place_in, placing_in};
 ghost use Rattle.cbfs_edit.specs.Searches.{HasSearched, IsSurvey, place_by};
@@ -80,15 +80,17 @@ pub fn find_place<F: Flash>(
     };
     loop {
         match walk.next(paged)? {
-            Step::Cell(cell) => survey = pass(paged, region, &cell, name, wanted, survey)?,
+            Step::Cell(cell) => {
+                survey = survey_over(paged, region, &cell, name, wanted, survey)?
+            }
             Step::Tail(_) | Step::End => return answer_of(wanted, region, survey),
         }
     }
 }
 
 /// Advances the search over a cell.
-#[tactic(auto, unfolding(crate::specs::Removals::by_rows))]
-fn pass<F: Flash>(
+#[tactic(auto, unfolding(crate::specs::Places::runs_from))]
+fn survey_over<F: Flash>(
     paged: &mut Paged<F>,
     region: Region,
     cell: &Cell,
@@ -118,7 +120,7 @@ fn pass<F: Flash>(
         });
     }
     let named = name_is(paged, region, cell, name)?;
-    let place = close(wanted, region, survey);
+    let place = place_so_far(wanted, region, survey);
     Ok(Survey {
         row: CellRange { start: end, end },
         exists: survey.exists | named,
@@ -131,19 +133,19 @@ fn answer_of(wanted: Wanted, region: Region, survey: Survey) -> Result<Place, Ed
 
     ensures is { (name : List ℕ) → result ≡ place_by name wanted region.size survey [] }
     ensures fits { IfOk result (Fits wanted region.size) }
-    ensures fault { IfErr result (λ fault. by_fault fault ⊥ ⊥ ⊤) }
+    ensures fault { IfErr result IsOwn }
 {
     if survey.exists {
         return Err(EditFault::Exists);
     }
-    match close(wanted, region, survey) {
+    match place_so_far(wanted, region, survey) {
         None => Err(EditFault::NoSpace),
         Some(place) => Ok(place),
     }
 }
 
 /// Returns the first place at the end of a row of free cells.
-fn close(wanted: Wanted, region: Region, survey: Survey) -> Option<Place>
+fn place_so_far(wanted: Wanted, region: Region, survey: Survey) -> Option<Place>
     requires { IsSurvey wanted region.size survey.row.end survey }
 
     ensures is { result ≡ option_or survey.place (if nat_lt survey.row.start survey.row.end

@@ -40,7 +40,7 @@ pub enum Refusal {
     #[error("not a CBFS region")]
     NotCbfs,
     /// 9: damaged entry; the offset is relative to the region's start.
-    #[error("damaged entry at {at:#x}: {}", damage(*.kind))]
+    #[error("damaged entry at {at:#x}: {}", .kind.name())]
     Damaged { at: u64, kind: DamageKind },
     /// 10: no component with the name in the region.
     #[error("no such component")]
@@ -82,16 +82,6 @@ pub enum Refusal {
     /// 22: file of 2^32 bytes or more.
     #[error("image too large")]
     TooLarge,
-}
-
-fn damage(kind: DamageKind) -> &'static str {
-    match kind {
-        DamageKind::Offset => "offset",
-        DamageKind::AttrOffset => "attributes",
-        DamageKind::Extent => "extent",
-        DamageKind::Name => "name",
-        DamageKind::AttrLength => "attribute length",
-    }
 }
 
 impl From<FlashFault> for Refusal {

@@ -7,7 +7,7 @@ usage: cbfscheck [OPTIONS] IMAGE
        cbfscheck --help | --version
 ";
 
-pub const VERSION: &str = "cbfscheck 2.1\n";
+pub const VERSION: &str = "cbfscheck 2.2\n";
 
 /// The text of `--help`.
 pub const HELP: &str = "\

@@ -6,7 +6,7 @@ usage: cbfsseal [-v] [--allow-unhashed] IMAGE
        cbfsseal --help | --version
 ";
 
-pub const VERSION: &str = "cbfsseal 2.1\n";
+pub const VERSION: &str = "cbfsseal 2.2\n";
 
 /// The text of `--help`.
 pub const HELP: &str = "\

@@ -1,3 +1,4 @@
+pub mod Anchors
 pub mod Images
 pub mod Areas
 pub mod Holders

@@ -1,6 +1,7 @@
 //! Compares two flash images: flash maps, areas, blocks, and components of CBFS regions.
 #![tactic(auto)]
 
+mod anchor;
 mod areas;
 mod components;
 mod fault;
@@ -8,6 +9,7 @@ mod images;
 mod laws;
 mod regions;
 
+pub use anchor::{AnchorChange, anchor_change};
 pub use areas::{
     AreaChange, AreaDifference, Areas, ImageChanges, MapChange, image_changes, map_changes,
 };

@@ -2,4 +2,5 @@ pub mod FirstAreas
 pub mod MapAreas
 pub mod MapLemmas
 pub mod RegionLemmas
+pub mod AnchorLemmas
 pub mod ImageLemmas

@@ -1,6 +1,6 @@
 -- Findings of an image. This project defines their order and the choice of regions.
 use Rattle.std.specs.Prelude.{ℕ, ◌+◌, ◌-◌, ◌*◌, ◌≤◌, Bool, false, not, ◌&&◌, ◌||◌, All, List}
-use Rattle.std.specs.Prelude.{[], ◌∷◌, ◌++◌, filter, length, map, is_none, is_some, nat_le, nat_lt}
+use Rattle.std.specs.Prelude.{Option, None, [], ◌∷◌, ◌++◌, filter, length, map, is_none, is_some, nat_le, nat_lt}
 use Rattle.std.specs.Prelude.{◌==◌, if◌then◌else◌}
 use Rattle.std.specs.List.{enumerate_from, find, flat_map, list_any, scan, sum_by}
 use Rattle.std.specs.Option.{option_map_or}
@@ -13,12 +13,14 @@ use Rattle.check_findings.specs.Lists.{only_if}
 use Rattle.flash_format.specs.Entry.{front}
 use Rattle.flash_format.specs.Flashmap.{is_area, text_of}
 use Rattle.flash_device.specs.Regions.{Range, bytes_in}
+use Rattle.cbfs_anchor.specs.declared.anchor.Anchor.{Anchor}
+use Rattle.check_findings.specs.Anchors.{anchor_findings, image_anchor}
 use Rattle.check_findings.specs.declared.areas.NumberedArea.{NumberedArea}
 use Rattle.check_findings.specs.MapFindings.{map_findings}
 use Rattle.check_findings.specs.Areas.{area_end, has_name, image_areas}
 use Rattle.check_findings.specs.RegionFindings.{region_findings}
 use Rattle.check_findings.specs.declared.image.finding.ImageFinding.{ImageFinding}
-use Rattle.check_findings.specs.declared.image.finding.ImageFinding.TheVariants.{Map, Region}
+use Rattle.check_findings.specs.declared.image.finding.ImageFinding.TheVariants.{Map, Anchor as OfAnchor, Region}
 use Rattle.check_findings.specs.declared.image.finding.ImageFinding.TheVariants.{NotChecked, NoArea}
 use Rattle.check_findings.specs.declared.image.names.NameSet.{NameSet}
 use Rattle.check_findings.specs.declared.image.starts.Starts.{Starts}
@@ -54,35 +56,43 @@ wanted_areas image expects areas = filter (is_wanted image expects (has_smaller 
 abbrev pub cbfs_areas : List ℕ → List NumberedArea → List NumberedArea
 cbfs_areas image areas = wanted_areas image (has_one_of []) areas
 
+-- the anchor, if it has a digest of the area's metadata: the area is COREBOOT
+abbrev pub covering : Option Anchor → NumberedArea → Option Anchor
+covering anchor a = if has_name (codes "COREBOOT") a then anchor else None
+
 -- of an area, with `left` bytes for checks
-abbrev pub area_finding : List ℕ → (NumberedArea → Bool) → ℕ → NumberedArea → ImageFinding
-area_finding image expects left a = if nat_le a.area.size left
-    then Region a (region_findings (bytes_of image a)) else NotChecked a (expects a)
+abbrev pub area_finding : List ℕ → Option Anchor → (NumberedArea → Bool) → ℕ → NumberedArea
+    → ImageFinding
+area_finding image anchor expects left a = if nat_le a.area.size left
+    then Region a (covering anchor a) (region_findings (bytes_of image a))
+    else NotChecked a (expects a)
 
 -- the remaining bytes for checks
 abbrev pub left_after : ℕ → NumberedArea → ℕ
 left_after left a = if nat_le a.area.size left then left - a.area.size else left
 
 -- of the areas to check, with `left` bytes for checks
-abbrev pub areas_findings : List ℕ → (NumberedArea → Bool) → ℕ → List NumberedArea
-    → List ImageFinding
-areas_findings image expects left areas = scan left_after (area_finding image expects) left areas
+abbrev pub areas_findings : List ℕ → Option Anchor → (NumberedArea → Bool) → ℕ
+    → List NumberedArea → List ImageFinding
+areas_findings image anchor expects left areas =
+    scan left_after (area_finding image anchor expects) left areas
 
 -- of a name without an area, by its index
 abbrev pub missing_name : List NumberedArea → ℕ × List ℕ → List ImageFinding
 missing_name areas n = only_if (is_none (find (has_name n.1) areas)) (NoArea n.0)
 
--- of the map, regions, and names without an area; the default region is expected too
+-- of the map, anchor, regions, and names without an area; the default region is expected too
 unfoldable pub image_findings : List ℕ → List (List ℕ) → List (List ℕ) → List ImageFinding
 image_findings image names expected = let areas = image_areas image in
-    let all = has_one_of (names ++ codes "COREBOOT" ∷ expected) in map Map (map_findings image)
-    ++ areas_findings image all (2 * length image) (wanted_areas image all areas)
+    let all = has_one_of (names ++ codes "COREBOOT" ∷ expected) in
+    map Map (map_findings image) ++ map OfAnchor (anchor_findings image) ++ areas_findings image
+    (image_anchor image) all (2 * length image) (wanted_areas image all areas)
     ++ flat_map (missing_name areas) (enumerate_from 0 names)
 
 -- ---- the checked areas
 
 abbrev pub region_area : ImageFinding → List NumberedArea
-region_area (Region a findings) = a ∷ []
+region_area (Region a anchor findings) = a ∷ []
 region_area _ = []
 
 abbrev pub region_areas : List ImageFinding → List NumberedArea

@@ -1,6 +1,6 @@
 -- Laws about findings.
 use Rattle.std.specs.Prelude.{◌≡◌, ◌≢◌, Bool, true, false, ℕ, ◌+◌, ◌<◌, ◌≤◌, ◌⊎◌, All, Contains}
-use Rattle.std.specs.Prelude.{◌-◌, slice_range, IsSomeAnd, List, length, None, Ok, Some}
+use Rattle.std.specs.Prelude.{not, ◌-◌, slice_range, IsSomeAnd, List, length, Option, None, Ok, Some}
 use Rattle.std.specs.List.{find, list_any}
 use Rattle.std.specs.Str.{is_utf8}
 use lib.Chars.{codes}
@@ -21,9 +21,15 @@ use Rattle.cbfs_walk.specs.declared.hashes.HashState.TheVariants.{Invalid}
 use Rattle.cbfs_walk.specs.CellReadings.{place_after}
 use Rattle.check_findings.specs.MapFindings.{holds_map, namesake}
 use Rattle.check_findings.specs.RegionFindings.{is_filled, region_findings}
-use Rattle.check_findings.specs.ImageFindings.{bytes_of, image_findings, range_of}
+use Rattle.check_findings.specs.ImageFindings.{bytes_of, covering, image_findings, range_of}
 use Rattle.check_findings.specs.ImageFindings.{region_areas}
-use Rattle.check_findings.specs.Verdicts.{is_bad, is_bad_region}
+use Rattle.check_findings.specs.Verdicts.{changes_later, is_bad, is_bad_region, rules_of}
+use Rattle.check_findings.specs.Anchors.{image_anchor}
+use Rattle.check_findings.specs.declared.anchor.finding.AnchorFinding.{AnchorFinding}
+use Rattle.check_findings.specs.declared.anchor.finding.AnchorFinding.TheVariants.{FlashMap, Metadata}
+use Rattle.cbfs_anchor.specs.declared.anchor.Anchor.{Anchor}
+use Rattle.cbfs_anchor.specs.Metadata.{longest_metadata, metadata_len}
+use Rattle.cbfs_anchor.specs.Seals.{Survey, stored_map, stored_metadata}
 
 -- ---- flash maps without findings
 
@@ -47,26 +53,46 @@ IsBlankTail at x = All (λ b. is_filled b ≡ false) (slice_range x at (length x
 
 -- ---- regions and images without bad findings
 
--- P holds for each region without bad findings
-abbrev pub InFitRegions : (List ℕ → Type 0) → Type 0
-InFitRegions P = (needs : Bool) (x : List ℕ)
-    → list_any (is_bad_region needs) (region_findings x) ≡ false → P x
+-- P holds for each region without bad findings, by the anchor of its image
+abbrev pub InFitRegions : (Option Anchor → List ℕ → Type 0) → Type 0
+InFitRegions P = (needs : Bool) (anchor : Option Anchor) (x : List ℕ)
+    → list_any (is_bad_region (rules_of needs anchor)) (region_findings x) ≡ false → P anchor x
 
--- `intact`: each digest matches
-pub record IsWhole (x : List ℕ) : Type 0 where
+-- `intact`: each digest matches, but maybe not that of intel_fit under an anchor; `short`: the
+-- firmware finds each component
+pub record IsWhole (anchor : Option Anchor) (x : List ℕ) : Type 0 where
   pub shaped : shape_fault x ≡ None
   pub undamaged : (kind : DamageKind) → (cut x).end ≢ damage kind
   pub intact : (c : Component) (stored : Digest) → Contains (components x) c
-      → hash_state c.attributes c.content ≢ Invalid stored
+      → changes_later anchor c.name ≡ false → hash_state c.attributes c.content ≢ Invalid stored
+  pub short : (c : Component) → Contains (components x) c → metadata_len c ≤ longest_metadata
   pub blank : (cut x).end ≡ tail → IsBlankTail (place_after 0 (cut x).cells) x
   pub found : (c : Component) → Contains (components x) c → component_in x c.name ≡ Ok (Some c)
 
 -- its name finds the area, which is a whole region
 abbrev pub IsFit : List ℕ → NumberedArea → Type 0
-IsFit x a = (region_of x (text_of a.area.name) ≡ Ok (range_of a)) × IsWhole (bytes_of x a)
+IsFit x a = (region_of x (text_of a.area.name) ≡ Ok (range_of a))
+    × IsWhole (covering (image_anchor x) a) (bytes_of x a)
 
 -- P holds for each checked area of an image without bad findings
 abbrev pub InFitImages : (List ℕ → NumberedArea → Type 0) → Type 0
 InFitImages P = (needs : Bool) (image : List ℕ) (names expected : List (List ℕ))
     → let all = image_findings image names expected in
     list_any (is_bad needs) all ≡ false → All (P image) (region_areas all)
+
+-- ---- anchors
+
+-- a finding of the anchor reports another digest of the metadata than the stated one
+abbrev pub is_other_metadata : AnchorFinding → Bool
+is_other_metadata (Metadata spot algorithm valid) = not valid
+is_other_metadata _ = false
+
+-- of the flash map
+abbrev pub is_other_map : AnchorFinding → Bool
+is_other_map (FlashMap spot algorithm valid) = not valid
+is_other_map _ = false
+
+-- the anchor has the digests that it should have
+pub record HasDigests (image : List ℕ) (s : Survey) : Type 0 where
+  pub metadata : stored_metadata s.anchor image ≡ s.metadata
+  pub map : stored_map s.anchor image ≡ s.map

@@ -3,6 +3,7 @@ pub mod Faults
 pub mod Lists
 pub mod MapFindings
 pub mod RegionFindings
+pub mod Anchors
 pub mod ImageFindings
 pub mod Verdicts
 pub mod Needs

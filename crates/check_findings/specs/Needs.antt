@@ -27,7 +27,7 @@ is_met places.End content size = content.start + content.len == size
 -- the reason if the findings don't meet the need, by the first area of this name
 abbrev pub unmet : List ImageFinding → Need → Option NeedFinding
 unmet [] need = Some Missing
-unmet (Region a all ∷ findings) need = if is_area need.area.now a.area then option_map_or
+unmet (Region a anchor all ∷ findings) need = if is_area need.area.now a.area then option_map_or
     (λ c. then_some (not (is_met need.place c a.area.size)) (Elsewhere c.start))
     (first_content need.name.now all) (Some Missing) else unmet findings need
 unmet (_ ∷ findings) need = unmet findings need

@@ -12,6 +12,7 @@ use Rattle.flash_format.specs.Entry.{front}
 use Rattle.flash_format.specs.Cut.{End, complete, tail, damage, cut}
 use Rattle.flash_format.specs.Components.{Component, component_at}
 use Rattle.flash_format.specs.Components.{packing}
+use Rattle.cbfs_anchor.specs.Metadata.{stored_hash}
 use Rattle.cbfs_walk.specs.Hashes.{hash_state}
 use Rattle.cbfs_walk.specs.declared.hashes.HashState.{HashState}
 use Rattle.cbfs_walk.specs.declared.hashes.HashState.TheVariants as states
@@ -38,7 +39,14 @@ hash_finding states.Unsupported = hashes.Unsupported
 abbrev pub component_content : Component → Content
 component_content c = let h = head_of c.bytes in let code = packing c.attributes in
     let hash = hash_finding (hash_state c.attributes c.content) in
-    record { start = c.at + h.offset; kind = h.kind; len = h.len; compression = code; hash = hash }
+    record {
+      start = c.at + h.offset;
+      kind = h.kind;
+      len = h.len;
+      compression = code;
+      hash = hash;
+      stored = stored_hash c.attributes;
+    }
 
 -- of an entry; an empty entry of type 0 is a deleted component
 abbrev pub cell_findings : ℕ → List ℕ → List RegionFinding

@@ -1,6 +1,6 @@
 //! Laws about findings, as contracts of functions without effect.
-ghost use Rattle.std.specs.Prelude.{◌≡◌, ◌↔◌, ℕ, List, [], ◌∷◌, Contains, IsOkAnd, IsSomeAnd, None, Ok, Some, length, true};
-ghost use Rattle.std.specs.List.{filter, find, sum_by};
+ghost use Rattle.std.specs.Prelude.{◌≡◌, ◌≢◌, ◌↔◌, ℕ, Bool, List, [], ◌∷◌, Contains, IsOkAnd, IsSomeAnd, None, Ok, Some, length, true, false};
+ghost use Rattle.std.specs.List.{filter, find, list_any, sum_by};
 ghost use Rattle.flash_format.specs.Cut.{cut};
 ghost use Rattle.flash_format.specs.Head.{head_of, is_free};
 ghost use Rattle.flash_format.specs.Components.{Component, components};
@@ -20,6 +20,12 @@ ghost use Rattle.check_findings.specs.Needs.{is_met, unmet};
 ghost use Rattle.check_findings.specs.declared.image.needs.Need.{Need};
 ghost use Rattle.check_findings.specs.Laws.{InFitImages, IsBlankTail, IsSound};
 ghost use Rattle.check_findings.specs.Laws.{InFitRegions, IsFit, IsWhole};
+ghost use Rattle.check_findings.specs.Laws.{HasDigests, is_other_map, is_other_metadata};
+ghost use Rattle.check_findings.specs.Anchors.{anchor_findings, image_anchor};
+ghost use Rattle.check_findings.specs.Verdicts.{is_bad};
+ghost use Rattle.cbfs_anchor.specs.Seals.{Survey, stored_map, stored_metadata, survey_in};
+ghost use Rattle.cbfs_anchor.specs.declared.anchor.Anchor.{Anchor};
+ghost use Rattle.cbfs_anchor.specs.declared.demand.Demand.TheVariants.{Nothing};
 
 /// If a map has no finding but its position, it has the image's size, and no later map exists. Each
 /// area lies inside the image, has bytes and a text name that finds it, and nests with each area.
@@ -51,7 +57,8 @@ pub fn counts_are_of_the_entries()
 {}
 
 /// A region without bad findings has a good size, a first entry, no damaged entry, matching digests
-/// and a blank tail, and a search finds each component by name.
+/// and a blank tail, and a search finds each component by name. The digest of `intel_fit` may
+/// differ under an anchor. Each component has at most 256 bytes before its content.
 pub fn fit_regions_are_whole()
     ensures { InFitRegions IsWhole }
 {}
@@ -69,4 +76,23 @@ pub fn needs_are_there()
         → IsSomeAnd (find (has_name need.area.now) (region_areas all)) (λ a. IsOkAnd
         (component_in (bytes_of image a) need.name.now) (λ found. IsSomeAnd found
         (λ c. is_met need.place (component_content c) a.area.size ≡ true))) }
+{}
+
+/// In an image without bad findings, the anchor, if any, has both digests that it should have.
+pub fn fit_images_are_sealed()
+    ensures { (needs : Bool) (image : List ℕ) (names expected : List (List ℕ)) (a : Anchor) →
+        list_any (is_bad needs) (image_findings image names expected) ≡ false →
+        image_anchor image ≡ Some a →
+        (s : Survey) × (survey_in Nothing image ≡ Ok s) × HasDigests image s }
+{}
+
+/// The findings report another digest exactly if the anchor's digest isn't the one that it should
+/// have.
+pub fn other_digests_are_reported()
+    ensures metadata { (image : List ℕ) (s : Survey) → survey_in Nothing image ≡ Ok s →
+        (list_any is_other_metadata (anchor_findings image) ≡ true)
+        ↔ (stored_metadata s.anchor image ≢ s.metadata) }
+    ensures map { (image : List ℕ) (s : Survey) → survey_in Nothing image ≡ Ok s →
+        (list_any is_other_map (anchor_findings image) ≡ true)
+        ↔ (stored_map s.anchor image ≢ s.map) }
 {}

@@ -1,6 +1,7 @@
 //! Checks a flash image: its flash map and its CBFS regions.
 #![tactic(auto)]
 
+mod anchor;
 mod areas;
 mod fault;
 mod image;
@@ -10,15 +11,17 @@ mod map;
 mod names;
 mod region;
 
+pub use anchor::{AnchorFinding, AnchorSpot, Bootblock, CheckedAnchor, check_anchor};
 pub use areas::{ImageMap, NumberedArea, image_map};
 pub use fault::CheckFault;
 pub use image::{
-    CheckedImage, ImageFinding, NameSet, Need, NeedFinding, NeededPlace, RegionFindings,
-    cbfs_areas, check_image, is_bad_hash, unmet,
+    CheckedImage, HashRules, ImageFinding, NameSet, Need, NeedFinding, NeededPlace, RegionFindings,
+    cbfs_areas, check_image, is_too_long, unmet,
 };
 pub use laws::{
-    blank_tails_are_known, clean_maps_are_sound, counts_are_of_the_entries, fit_images_are_whole,
-    fit_regions_are_whole, needs_are_there, unshadowed_components_are_found,
+    blank_tails_are_known, clean_maps_are_sound, counts_are_of_the_entries, fit_images_are_sealed,
+    fit_images_are_whole, fit_regions_are_whole, needs_are_there, other_digests_are_reported,
+    unshadowed_components_are_found,
 };
 pub use lists::{Elements, push, push_if};
 pub use map::{CheckedMap, MapFinding, check_map, is_text};

@@ -1,5 +1,5 @@
 -- The output of commands on whole regions.
-use Rattle.std.proofs.Common.{◌≡◌, ◌≢◌, ℕ, Bool, List, None, Ok, refl}
+use Rattle.std.proofs.Common.{◌≡◌, ◌≢◌, ℕ, Bool, List, Option, Ok, refl}
 use Rattle.std.specs.Prelude.{Contains}
 use Rattle.flash_format.specs.Components.{Component, components}
 use Rattle.flash_format.specs.Flashmap.{text_of}
@@ -7,10 +7,10 @@ use Rattle.check_findings.specs.ImageFindings.{bytes_of}
 use Rattle.flash_format.specs.declared.head.DamageKind.{DamageKind}
 use Rattle.flash_format.specs.Cut.{End, complete, tail, damage, cut}
 use Rattle.check_findings.specs.declared.areas.NumberedArea.{NumberedArea}
-use Rattle.cbfs_walk.specs.Search.{not_found}
 use Rattle.cbfs_walk.specs.CellReadings.{place_after}
+use Rattle.cbfs_anchor.specs.declared.anchor.Anchor.{Anchor}
 use Rattle.check_findings.specs.Laws.{IsFit, IsWhole}
-use Rattle.cbfs_commands.specs.Outcomes.{extract_region, print_region, printed_component, printed_in}
+use Rattle.cbfs_commands.specs.Outcomes.{end_answer, extract_region, print_region, printed_component, printed_in}
 use Rattle.cbfs_commands.specs.Outcomes.{shows}
 use Rattle.cbfs_commands.specs.Rows.{rows_from}
 
@@ -22,17 +22,17 @@ abbrev pub IsExtracted : List ℕ → NumberedArea → Type 0
 IsExtracted image a = (c : Component) → Contains (components (bytes_of image a)) c
     → printed_in image (text_of a.area.name) (λ x. extract_region x c.name) ≡ printed_component c
 
-undamaged : (at : ℕ) (end : End) → ((kind : DamageKind) → end ≢ damage kind) → not_found at end ≡ Ok None
+undamaged : (at : ℕ) (end : End) → ((kind : DamageKind) → end ≢ damage kind) → end_answer at end ≡ Ok tt
 undamaged at complete whole = refl
 undamaged at tail whole = refl
 undamaged at (damage kind) whole = absurd (whole kind refl)
 
-pub whole_region : (x : List ℕ) (verbose : Bool) → IsWhole x → print_region x verbose ≡ shows (rows_from verbose 0 (cut x).cells)
+pub whole_region : (anchor : Option Anchor) (x : List ℕ) (verbose : Bool) → IsWhole anchor x → print_region x verbose ≡ shows (rows_from verbose 0 (cut x).cells)
 unfolding print_region
-whole_region x verbose whole = rw (whole.shaped, undamaged (place_after 0 (cut x).cells) (cut x).end whole.undamaged) refl
+whole_region anchor x verbose whole = rw (whole.shaped, undamaged (place_after 0 (cut x).cells) (cut x).end whole.undamaged) refl
 
 pub listed_area : (image : List ℕ) (a : NumberedArea) → IsFit image a → IsListed image a
-listed_area image a fit verbose = rw fit.0 (whole_region _ verbose fit.1)
+listed_area image a fit verbose = rw fit.0 (whole_region _ _ verbose fit.1)
 
 pub extracted_area : (image : List ℕ) (a : NumberedArea) → IsFit image a → IsExtracted image a
 extracted_area image a fit c there = rw (fit.0, fit.1.found c there) refl

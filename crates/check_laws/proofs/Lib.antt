@@ -1,2 +1,5 @@
 mod AreaOutputs
 mod Room
+mod SmallRegion
+mod SmallImage
+mod BadRows

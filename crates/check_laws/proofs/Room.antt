@@ -9,7 +9,6 @@ use Rattle.flash_format.specs.Cut.{cut}
 use Rattle.cbfs_walk.specs.Shapes.{shape_fault}
 use Rattle.cbfs_walk.specs.CellReadings.{place_after}
 use Rattle.cbfs_edit.specs.Places.{first_place, place_in}
-use Rattle.cbfs_edit.specs.Removals.{by_rows}
 use Rattle.cbfs_edit.specs.Places.{add_run, runs, runs_from}
 use Rattle.cbfs_edit.specs.declared.group.CellRange.{CellRange}
 use Rattle.cbfs_edit.specs.declared.place.Place.{Place}
@@ -70,7 +69,7 @@ module _ (size n : ℕ) where
 
   -- a run has a place if the content fits the most usable bytes of a run
   among : (c : Count) (cells : List (List ℕ)) → c.size ≡ size → (enough c.room || has_place (runs_from c.start c.at cells)) ≡ enough (usable_room (count_all c cells))
-  unfolding by_rows count_all
+  unfolding runs_from count_all
   among c [] same = let most = enough_max c.room (usable c.start c.at) in grind (arith, nat_tests, run_or c.start c.at [], most, same)
   among c (x ∷ cells) same =
       let end = c.at + length x in

@@ -20,7 +20,7 @@ use check_findings::{fit_images_are_whole, fit_regions_are_whole};
 
 /// `print` lists all entries of a region without bad findings, and succeeds.
 pub fn fit_regions_are_listed()
-    ensures { InFitRegions (λ x. (verbose : Bool) →
+    ensures { InFitRegions (λ anchor x. (verbose : Bool) →
         print_region x verbose ≡ shows (rows_from verbose 0 (cut x).cells)) }
 {
     fit_regions_are_whole();

@@ -155,6 +155,17 @@ pub record IsWrong (kind : ErrorKind) (words : Words) (word : Bor (List ℕ)) : 
   pub before : Spares kind (take n words)
   pub from : (m : ℕ) → n < m → m ≤ length words → IsRefusedFor kind (take m words)
 
+-- the wrong argument is sought among all, or among at least so many
+abbrev pub least_searched : ℕ
+least_searched = 64
+
+-- The line is refused for this reason, and so are the searched arguments: all, or the first ones.
+pub record AreSearched (kind : ErrorKind) (words searched : Words) : Type 0 where
+  pub whole : IsRefusedFor kind words
+  pub refused : IsRefusedFor kind searched
+  pub first : searched ≡ take (length searched) words
+  pub far : (searched ≡ words) ⊎ (least_searched ≤ length searched)
+
 -- an option is `-` and more
 abbrev pub word_fault : ErrorKind → List ℕ → WordFault
 word_fault reason.InvalidValue word = mistake.MissingValue
@@ -175,7 +186,8 @@ request_in words =
 abbrev pub IsRefusal : Words → Result Invocation LineFault → Type 0
 IsRefusal words (Ok Help) = IsRefusedFor reason.DisplayHelp words
 IsRefusal words (Err (Word fault word)) = (kind : ErrorKind) × (kind ≢ reason.DisplayHelp)
-    × IsWrong kind words word × (fault ≡ word_fault kind word.now)
+    × ((searched : Words) × AreSearched kind words searched × IsWrong kind searched word)
+    × (fault ≡ word_fault kind word.now)
 IsRefusal words (Err Memory) = ⊤
 IsRefusal words result = ⊥
 

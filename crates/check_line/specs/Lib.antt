@@ -1,1 +1,2 @@
 pub mod CheckWords
+pub mod Shown

@@ -1,51 +1,57 @@
 //! Errors of a command line.
 
-ghost use Rattle.std.specs.Prelude.{◌≡◌};
+ghost use Rattle.std.specs.Prelude.{◌≡◌, ◌++◌, OnOk};
+ghost use Rattle.check_line.specs.Shown.{fault_text, mistake_text, word_text};
 ghost use Rattle.check_line.specs.declared.fault.LineFault.TheVariants.{Memory};
 
+use crate::shown::push_shown;
 use std::alloc::AllocError;
-use thiserror::Error;
 
 /// The mistake of an argument or an option's value.
-#[derive(Clone, Copy, Debug, PartialEq, Eq, Error)]
+#[derive(Clone, Copy, Debug, PartialEq, Eq)]
 pub enum WordFault {
     /// An unknown option.
-    #[error("unknown option")]
     UnknownOption,
     /// A third path.
-    #[error("too many images:")]
     TooManyPaths,
     /// An option without its value.
-    #[error("no value for option")]
     MissingValue,
     /// A value for an option without values.
-    #[error("unexpected value in")]
     UnneededValue,
     /// An option given again; the argument completes the second.
-    #[error("an option is given twice at")]
     GivenTwice,
     /// An empty name in a list of areas.
-    #[error("bad list of areas")]
     BadAreas,
     /// A need other than `AREA:NAME` or `AREA:NAME@OFFSET`.
-    #[error("bad need")]
     BadNeed,
 }
 
-/// An error of the command line, with its text.
-#[derive(Clone, Copy, Debug, PartialEq, Eq, Error)]
+impl WordFault {
+    fn text(self) -> &'static str
+        ensures { result.now ≡ mistake_text self }
+    {
+        match self {
+            WordFault::UnknownOption => "unknown option",
+            WordFault::TooManyPaths => "too many images:",
+            WordFault::MissingValue => "no value for option",
+            WordFault::UnneededValue => "unexpected value in",
+            WordFault::GivenTwice => "an option is given twice at",
+            WordFault::BadAreas => "bad list of areas",
+            WordFault::BadNeed => "bad need",
+        }
+    }
+}
+
+/// An error of the command line.
+#[derive(Clone, Copy, Debug, PartialEq, Eq)]
 pub enum LineFault<'a> {
     /// A wrong argument or value.
-    #[error("{fault} '{word}'")]
     Word { fault: WordFault, word: &'a str },
     /// No path.
-    #[error("no image")]
     NoImage,
     /// One path for an option which compares two images.
-    #[error("--keep and --keep-preserved need two images")]
     NoNewImage,
     /// An allocation failure.
-    #[error("out of memory")]
     Memory,
 }
 
@@ -54,5 +60,31 @@ impl From<AllocError> for LineFault<'_> {
 
     fn from(_: AllocError) -> Self {
         LineFault::Memory
+    }
+}
+
+fn push_word(out: &mut Vec<u8>, fault: WordFault, word: &str) -> Result<(), AllocError>
+    ensures { OnOk result (out.new.items ≡ out.old.items
+        ++ word_text fault word.now) }
+{
+    out.extend_from_slice(fault.text().as_bytes())?;
+    out.extend_from_slice(b" '")?;
+    push_shown(out, word)?;
+    out.extend_from_slice(b"'")
+}
+
+impl LineFault<'_> {
+    /// Appends the text of an error.
+    pub fn push_text(&self, out: &mut Vec<u8>) -> Result<(), AllocError>
+        ensures { OnOk result (out.new.items ≡ out.old.items ++ fault_text self.now) }
+    {
+        match self {
+            LineFault::Word { fault, word } => push_word(out, *fault, word),
+            LineFault::NoImage => out.extend_from_slice(b"no image"),
+            LineFault::NoNewImage => {
+                out.extend_from_slice(b"--keep and --keep-preserved need two images")
+            }
+            LineFault::Memory => out.extend_from_slice(b"out of memory"),
+        }
     }
 }

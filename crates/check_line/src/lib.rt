@@ -2,11 +2,15 @@
 #![tactic(auto)]
 
 mod fault;
+mod laws;
 mod line;
 mod need;
 mod reading;
+mod shown;
 mod words;
 
 pub use fault::{LineFault, WordFault};
+pub use laws::needs_are_split;
 pub use line::{CheckLine, Invocation};
 pub use reading::read_check;
+pub use shown::push_shown;

@@ -4,7 +4,8 @@ ghost use Rattle.std.specs.Prelude.{◌≡◌, ◌⊎◌, IfOk, MatchBool, Match
 ghost use Rattle.clap.specs.Words.{found_of, matches_of, rows_of};
 ghost use Rattle.clap.specs.declared.error.kind.ErrorKind.TheVariants.{OutOfMemory};
 ghost use Rattle.check_line.specs.CheckWords.{Answers, IsAccepted, IsRefusedFor, IsWrong, Spares};
-ghost use Rattle.check_line.specs.CheckWords.{check_words, request_in, texts, word_fault};
+ghost use Rattle.check_line.specs.CheckWords.{AreSearched, check_words, request_in, texts};
+ghost use Rattle.check_line.specs.CheckWords.{word_fault};
 
 use crate::fault::{LineFault, WordFault};
 use crate::line::{Invocation, line_of};
@@ -51,6 +52,29 @@ fn refuses<'a>(alloc: Global, words: &'a [&'a str], kind: ErrorKind) -> Result<b
     }
 }
 
+/// The number of arguments among which the wrong one is sought. A line with more than 16 has a
+/// wrong one among its first 17, since each option is accepted once.
+const SEARCHED: usize = 64;
+
+/// Returns the first arguments if clap refuses these with the kind, or else all.
+fn searched<'a>(
+    alloc: Global,
+    words: &'a [&'a str],
+    kind: ErrorKind,
+) -> Result<&'a [&'a str], AllocError>
+    requires { IsRefusedFor kind words.now }
+    ensures { IfOk result (λ first. AreSearched kind words.entry.now first.now) }
+{
+    if words.len() <= SEARCHED {
+        return Ok(words);
+    }
+    let first = &words[..SEARCHED];
+    if refuses(alloc, first, kind)? {
+        return Ok(first);
+    }
+    Ok(words)
+}
+
 /// Returns the first argument from which on clap refuses with the kind.
 fn wrong_word<'a>(
     alloc: Global,
@@ -94,6 +118,7 @@ pub fn read_check<'a>(alloc: Global, words: &'a [&'a str]) -> Result<Invocation<
         Err(ErrorKind::OutOfMemory) => Err(LineFault::Memory),
         Err(ErrorKind::DisplayHelp) => Ok(Invocation::Help),
         Err(kind) => {
+            let words = searched(alloc, words, kind)?;
             let word = wrong_word(alloc, words, kind)?;
             let fault = word_fault(kind, word);
             Err(LineFault::Word { fault, word })

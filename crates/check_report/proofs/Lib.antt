@@ -2,5 +2,7 @@ mod HiddenRows
 mod Tokens
 mod RowCounts
 mod ReportParts
+mod Prefixes
 mod SoundRows
 mod PrinterEffects
+mod HeadingEffects

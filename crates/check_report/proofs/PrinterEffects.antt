@@ -1,17 +1,24 @@
 -- Consecutive lines of a printer.
-use Rattle.std.proofs.Common.{◌≡◌, ◌∙◌, ℕ, ◌<◌, ◌+◌, length, take, get_or, List, [], ◌∷◌, ◌++◌, Bool, true, Ok, refl, ap, sym, append-nil, arith}
+use Rattle.std.proofs.Common.{◌≡◌, ◌∙◌, ℕ, ◌<◌, ◌+◌, length, take, drop, get_or, add-one, append_assoc, List, [], ◌∷◌, ◌++◌, Bool, Ok, Err, map, refl, ap, sym, append-nil, arith}
+use Rattle.std.specs.Prelude.{IsErrAnd, OnErr, Option, Result}
 use Rattle.std.specs.List.{flat_map}
 use Rattle.std.proofs.KnownBytes.{Appends-nil, Appends-trans}
-use Rattle.std.proofs.lemmas.List.{take_more}
+use Rattle.std.proofs.lemmas.List.{map-append, take_more}
 use Rattle.std.proofs.lemmas.List.Concat.{flat_map-cons}
-use Rattle.std.proofs.lemmas.List.Sums.{fold-append}
 use Rattle.std.proofs.lemmas.Grind.{flat_map-append}
+use lib.Seq.{split_at}
 use Rattle.flash_device.specs.declared.sink.Sink.{Ghosts as SinkOf}
+use Rattle.check_report.specs.declared.fault.WriteFault.{WriteFault}
+use Rattle.check_report.specs.declared.fault.WriteFault.TheVariants as writes
+use Rattle.check_report.specs.declared.rows.kinds.Counts.{Counts}
+use Rattle.flash_device.specs.Device.{AppendsPart}
+use Rattle.check_report.specs.declared.rows.form.Form.{Form}
 use Rattle.check_report.specs.declared.rows.printer.Printer.{Printer}
 use Rattle.check_report.specs.Fields.{Line}
-use Rattle.check_report.specs.Reports.{follows_after, parts}
-use Rattle.check_report.specs.Effects.{HasPrinted, PrintsLines}
-use Rattle.check_report.proofs.ReportParts.{no_parts, parts_append}
+use Rattle.check_report.specs.Reports.{ending, follows_after, parts}
+use Rattle.check_report.specs.Effects.{AppendsPrefix, HasPrinted, Prints, PrintsLines}
+use Rattle.check_report.proofs.Prefixes.{prefix_after, prefix_none, prefix_of_more}
+use Rattle.check_report.proofs.ReportParts.{follows_after-append, no_parts, parts_append, some_ending}
 
 pub printed_both : {W : Type 0} (sink : SinkOf W) (old mid new : Printer W) (b : Bool) (xs ys : List Line)
     → HasPrinted sink old mid (parts old.form b xs) (follows_after b xs)
@@ -20,13 +27,14 @@ pub printed_both : {W : Type 0} (sink : SinkOf W) (old mid new : Printer W) (b :
 printed_both sink old mid new b xs ys x y = record {
   text = rw (parts_append old.form b xs ys) (Appends-trans (sink.contents old.out) (sink.contents mid.out) (sink.contents new.out) _ _ x.text (rw (x.form, x.follows) at y.text));
   form = y.form ∙ x.form;
-  follows = y.follows ∙ ap (λ f. follows_after f ys) x.follows ∙ sym (fold-append (λ _ _. true) b xs ys);
+  follows = y.follows ∙ ap (λ f. follows_after f ys) x.follows ∙ sym (follows_after-append b xs ys);
 }
 
 -- no output
 pub prints_none : {W : Type 0} (sink : SinkOf W) (p : Printer W) → PrintsLines sink (Ok tt) p p []
 prints_none sink p = record {
   printed = record { text = rw (no_parts p.form p.follows) (Appends-nil (sink.contents p.out)); form = refl; follows = refl };
+  stopped = tt;
   cause = omega arith;
 }
 
@@ -38,5 +46,105 @@ prints_then sink first old new f xs i d x lt is so_far more =
     rw (take_more xs i d lt, ← is, flat_map-append f (take i xs) (x ∷ []), flat_map-cons f x [], append-nil (f x))
     (record {
       printed = printed_both sink first old new first.follows (flat_map f (take i xs)) (f x) so_far.printed more.printed;
+      stopped = tt;
       cause = omega (arith, so_far.cause, more.cause);
     })
+
+-- ---- after a fault
+
+-- all of the first lines, and a prefix of the next ones
+pub printed_prefix : {W : Type 0} (sink : SinkOf W) (old mid : Printer W) (after : Option (List ℕ)) (b : Bool) (xs ys : List Line)
+    → HasPrinted sink old mid (parts old.form b xs) (follows_after b xs)
+    → AppendsPrefix (sink.contents mid.out) after (parts mid.form mid.follows ys)
+    → AppendsPrefix (sink.contents old.out) after (parts old.form b (xs ++ ys))
+printed_prefix sink old mid after b xs ys x y =
+    rw (parts_append old.form b xs ys) (prefix_after (sink.contents old.out) (sink.contents mid.out) after _ _ x.text (rw (x.form, x.follows) at y))
+
+-- a prefix of the first lines
+pub prefix_of_lines : (before after : Option (List ℕ)) (form : Form) (b : Bool) (xs ys : List Line)
+    → AppendsPrefix before after (parts form b xs) → AppendsPrefix before after (parts form b (xs ++ ys))
+prefix_of_lines before after form b xs ys p = rw (parts_append form b xs ys) (prefix_of_more before after _ _ p)
+
+-- the results of a list's elements, from one element on
+pub flat_map_at : {X Y : Type 0} (f : X → List Y) (xs : List X) (i : ℕ) (d x : X) → i < length xs → x ≡ get_or xs i d
+    → flat_map f xs ≡ (flat_map f (take i xs) ++ f x) ++ flat_map f (drop (i + 1) xs)
+flat_map_at f xs i d x lt is =
+    ap (flat_map f) (split_at xs i d lt) ∙ flat_map-append f (take i xs) _ ∙ rw (← is, add-one) (sym (append_assoc (flat_map f (take i xs)) (f x) _))
+
+pub map_at : {X Y : Type 0} (f : X → Y) (xs : List X) (i : ℕ) (d x : X) → i < length xs → x ≡ get_or xs i d
+    → map f xs ≡ (map f (take i xs) ++ f x ∷ []) ++ map f (drop (i + 1) xs)
+map_at f xs i d x lt is =
+    ap (map f) (split_at xs i d lt) ∙ map-append f (take i xs) _ ∙ rw (← is, add-one) (sym (append_assoc (map f (take i xs)) (f x ∷ []) _))
+
+-- no line after a fault
+pub prints_stopped : {W X : Type 0} (sink : SinkOf W) (first old new : Printer W) (e : WriteFault) (f : X → List Line) (xs : List X) (i : ℕ) (d x : X)
+    → i < length xs → x ≡ get_or xs i d → PrintsLines sink (Ok tt) first old (flat_map f (take i xs)) → PrintsLines sink (Err e) old new (f x)
+    → PrintsLines sink (Err e) first new (flat_map f xs)
+prints_stopped sink first old new e f xs i d x lt is so_far failed =
+    rw (flat_map_at f xs i d x lt is) (record {
+      printed = tt;
+      stopped = prefix_of_lines (sink.contents first.out) (sink.contents new.out) first.form first.follows (flat_map f (take i xs) ++ f x) (flat_map f (drop (i + 1) xs))
+          (printed_prefix sink first old (sink.contents new.out) first.follows (flat_map f (take i xs)) (f x) so_far.printed failed.stopped);
+      cause = omega (arith, so_far.cause, failed.cause);
+    })
+
+-- bytes that are printed after others
+pub prints_after : {W : Type 0} (sink : SinkOf W) (result : Result (Unit {0}) WriteFault) (old mid new : Printer W) (b c : Bool) (xs ys : List ℕ)
+    → Prints sink (Ok tt) old mid xs b → Prints sink result mid new ys c → Prints sink result old new (xs ++ ys) c
+prints_after sink (Ok u) old mid new b c xs ys so_far more = record {
+  printed = record {
+    text = Appends-trans (sink.contents old.out) (sink.contents mid.out) (sink.contents new.out) xs ys so_far.printed.text more.printed.text;
+    form = more.printed.form ∙ so_far.printed.form;
+    follows = more.printed.follows;
+  };
+  stopped = tt;
+  cause = omega (arith, so_far.cause, more.cause);
+}
+prints_after sink (Err e) old mid new b c xs ys so_far failed = record {
+  printed = tt;
+  stopped = prefix_after (sink.contents old.out) (sink.contents mid.out) (sink.contents new.out) xs ys so_far.printed.text failed.stopped;
+  cause = omega (arith, so_far.cause, failed.cause);
+}
+
+pub prints_before : {W : Type 0} (sink : SinkOf W) (old new : Printer W) (e : WriteFault) (b c : Bool) (xs ys : List ℕ)
+    → Prints sink (Err e) old new xs b → Prints sink (Err e) old new (xs ++ ys) c
+prints_before sink old new e b c xs ys failed = record {
+  printed = tt;
+  stopped = prefix_of_more (sink.contents old.out) (sink.contents new.out) xs ys failed.stopped;
+  cause = failed.cause;
+}
+
+-- bytes that are printed from a state with another flag
+pub prints_from : {W : Type 0} (sink : SinkOf W) (result : Result (Unit {0}) WriteFault) (old start new : Printer W) (c : Bool) (xs ys : List ℕ) → start.out ≡ old.out → start.form ≡ old.form → xs ≡ ys
+    → Prints sink result start new xs c → Prints sink result old new ys c
+prints_from sink (Ok u) old start new c xs ys out form same p = record {
+  printed = record { text = rw (out, same) at p.printed.text; form = p.printed.form ∙ form; follows = p.printed.follows };
+  stopped = tt;
+  cause = rw out at p.cause;
+}
+prints_from sink (Err e) old start new c xs ys out form same p = record {
+  printed = tt;
+  stopped = rw (out, same) at p.stopped;
+  cause = rw out at p.cause;
+}
+
+-- the fault of a call is the function's
+pub prints_failed : {W : Type 0} (sink : SinkOf W) (result : Result (Unit {0}) WriteFault) (old new : Printer W) (e : WriteFault) (b : Bool) (xs : List ℕ) → IsErrAnd result (λ fault. fault ≡ e)
+    → Prints sink (Err e) old new xs b → Prints sink result old new xs b
+prints_failed sink (Ok u) old new e b xs told p = absurd told
+prints_failed sink (Err fault) old new e b xs told p = rw told p
+
+-- a fault before the first byte
+pub prints_nothing : {W : Type 0} (sink : SinkOf W) (result : Result (Unit {0}) WriteFault) (old new : Printer W) (b : Bool) (xs : List ℕ) → IsErrAnd result (λ fault. fault ≡ writes.Memory)
+    → new.out ≡ old.out → Prints sink result old new xs b
+prints_nothing sink result old new b xs told same = prints_failed sink result old new writes.Memory b xs told (record {
+  printed = tt;
+  stopped = rw same (prefix_none (sink.contents old.out) xs);
+  cause = rw same (omega arith);
+})
+
+-- no byte of an ending
+pub ends_nothing : {W : Type 0} (sink : SinkOf W) (result : Result (Unit {0}) WriteFault) (old new : Printer W) (counts : Counts) → new.out ≡ old.out
+    → OnErr result (AppendsPart (sink.contents old.out) (sink.contents new.out) (ending old.form counts))
+ends_nothing sink (Ok u) old new counts same = tt
+ends_nothing sink (Err e) old new counts same = rw same (0, some_ending old.form counts, Appends-nil (sink.contents old.out))

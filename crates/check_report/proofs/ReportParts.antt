@@ -1,5 +1,5 @@
 -- The text of a report, part by part.
-use Rattle.std.proofs.Common.{None, ◌≡◌, ◌∙◌, ℕ, List, [], ◌∷◌, ◌++◌, map, Bool, true, false, refl, ap, ap₂, sym, append_assoc, append-nil}
+use Rattle.std.proofs.Common.{None, ◌<◌, length, length-append, arith, ◌≡◌, ◌∙◌, ℕ, List, [], ◌∷◌, ◌++◌, map, Bool, true, false, refl, ap, ap₂, sym, append_assoc, append-nil}
 use Rattle.std.specs.Prelude.{fold, Option, Some, if◌then◌else◌}
 use Rattle.std.specs.List.{flat_map}
 use Rattle.std.specs.Option.{option_map_or}
@@ -18,7 +18,7 @@ use Rattle.check_report.specs.declared.rows.kinds.Counts.{Counts}
 use Rattle.check_report.specs.declared.rows.form.Form.{Form}
 use Rattle.check_report.specs.declared.rows.form.Form.TheVariants as forms
 use Rattle.check_report.specs.Fields.{Line, SeenField, line_json, line_text, members}
-use Rattle.check_report.specs.Reports.{count_fields, document, ending, first_fields, follows_after, heading, lines_field, member_tokens, part, parts, start_tokens}
+use Rattle.check_report.specs.Reports.{count_fields, document, ending, first_fields, follows_after, heading, in_form, json_report, lines_field, member_tokens, part, parts, start_tokens, text_report}
 use Rattle.check_report.specs.Rows.{summary}
 use Rattle.check_report.proofs.Tokens.{fields_tokens, object_tokens}
 
@@ -33,11 +33,19 @@ ended_members b (member k j ms) = fold-append (λ _ t. ends t) false (json_token
 abbrev lines_tokens : List Line → List Token
 lines_tokens lines = flat_map json_tokens (map line_json lines)
 
+still_follows : (lines : List Line) → follows_after true lines ≡ true
+still_follows [] = refl
+still_follows (line ∷ lines) = refl
+
+pub follows_after-append : (b : Bool) (xs ys : List Line) → follows_after b (xs ++ ys) ≡ follows_after (follows_after b xs) ys
+follows_after-append b [] ys = refl
+follows_after-append b (x ∷ xs) ys = sym (still_follows ys)
+
 -- the flag after lines
 ended_lines : (b : Bool) (lines : List Line) → ended b (lines_tokens lines) ≡ follows_after b lines
 ended_lines b [] = refl
 ended_lines b (line ∷ lines) = fold-append (λ _ t. ends t) b (json_tokens (line_json line)) (lines_tokens lines)
-    ∙ ap (λ c. ended c (lines_tokens lines)) (ended_members false (members line.fields)) ∙ ended_lines true lines
+    ∙ ap (λ c. ended c (lines_tokens lines)) (ended_members false (members line.fields)) ∙ ended_lines true lines ∙ still_follows lines
 
 -- lines after lines
 pub parts_append : (form : Form) (b : Bool) (xs ys : List Line) → parts form b (xs ++ ys) ≡ parts form b xs ++ parts form (follows_after b xs) ys
@@ -93,7 +101,7 @@ regroup a b c d = simp append_assoc
 
 pub whole : (form : Form) (files : Files) (list : Option (List Line)) (rows : List Line) (counts : Counts)
     → heading form files list ++ (parts form false rows ++ ending form counts)
-    ≡ part form false (option_map_or (flat_map line_text) list [] ++ flat_map line_text rows ++ summary counts) (json_tokens (document files list rows counts)) ++ line_feed
+    ≡ in_form form (text_report list rows counts) (json_report files list rows counts) ++ line_feed
 whole forms.Text files list rows counts = regroup (option_map_or (flat_map line_text) list []) (flat_map line_text rows) (summary counts) line_feed
 whole forms.Json files list rows counts =
     let first : List SeenField = first_fields files list in
@@ -102,3 +110,7 @@ whole forms.Json files list rows counts =
     object_tokens (first ++ lines_field (codes "rows") rows ∷ count_fields counts) ∙ fields_tokens first (count_fields counts) (codes "rows") rows (end_object ∷ []) in
     regroup (print (start_tokens first (codes "rows"))) (parts forms.Json false rows) (print (end_array ∷ rest)) line_feed
     ∙ ap (λ l. l ++ line_feed) (sym (array_text first (codes "rows") rows rest) ∙ sym (ap print tokens))
+
+-- an ending has bytes
+pub some_ending : (form : Form) (counts : Counts) → 0 < length (ending form counts)
+some_ending form counts = omega (arith, length-append (part form false (summary counts) (end_array ∷ flat_map member_tokens (count_fields counts) ++ end_object ∷ [])) line_feed)

@@ -128,6 +128,13 @@ push_by fits before [] row = rw (append-nil before) (append-nil _)
 push_by fits before (x ∷ xs) row = let first : List SeenRow = only_if (fits (count_by (is_like x) before)) x in
     ap (λ l. first ++ l) (rw (append_assoc before (x ∷ []) xs) at (push_by fits (before ++ x ∷ []) xs row)) ∙ sym (append_assoc first _ _)
 
+-- further rows
+pub rows_by-append : (fits : ℕ → Bool) (before rows more : List SeenRow)
+    → rows_by fits before (rows ++ more) ≡ rows_by fits before rows ++ rows_by fits (before ++ rows) more
+rows_by-append fits before [] more = rw (append-nil before) refl
+rows_by-append fits before (x ∷ xs) more = let first : List SeenRow = only_if (fits (count_by (is_like x) before)) x in
+    ap (λ l. first ++ l) (rw (append_assoc before (x ∷ []) xs) at (rows_by-append fits (before ++ x ∷ []) xs more)) ∙ sym (append_assoc first _ _)
+
 pub some_bad : (p : SeenRow → Bool) (rows : List SeenRow) → nat_lt 0 (count_by p rows) ≡ list_any p rows
 some_bad p [] = grind arith
 some_bad p (x ∷ xs) = rw (sum_by-cons (λ t. if p t then 1 else 0) x xs) (go (p x) (some_bad p xs))

@@ -1,11 +1,11 @@
 -- The effects of printers and writers of rows.
-use Rattle.std.specs.Prelude.{◌≡◌, ℕ, ◌+◌, ◌≤◌, Bool, false, List, ◌++◌}
-use Rattle.std.specs.Prelude.{Result, IfOk, OnOk, map}
+use Rattle.std.specs.Prelude.{◌≡◌, ℕ, ◌+◌, ◌≤◌, Bool, false, List, ◌++◌, Option, take}
+use Rattle.std.specs.Prelude.{Result, IfOk, OnErr, OnOk, map}
 use Rattle.std.specs.Io.KnownBytes.{Appends}
 use Rattle.std.specs.declared.alloc.AllocError.{AllocError}
 use Rattle.json.specs.Token.{Token}
 use Rattle.json.specs.Written.{Written}
-use Rattle.flash_device.specs.Device.{fault_count}
+use Rattle.flash_device.specs.Device.{AppendsPart, fault_count}
 use Rattle.flash_device.specs.declared.sink.Sink.{Ghosts as SinkOf}
 use Rattle.check_report.specs.declared.fault.WriteFault.{WriteFault}
 use Rattle.check_report.specs.declared.fault.WriteFault.TheVariants as writes
@@ -28,6 +28,10 @@ pub record AddsTokens (result : Result (Unit {0}) AllocError) (old new : Written
   pub tokens : OnOk result (new.tokens ≡ old.tokens ++ more)
   pub before : new.before ≡ old.before
 
+-- a prefix is appended, perhaps all of the bytes
+abbrev pub AppendsPrefix : Option (List ℕ) → Option (List ℕ) → List ℕ → Type 0
+AppendsPrefix old new bytes = (n : ℕ) × Appends old new (take n bytes)
+
 module _ {W : Type 0} (sink : SinkOf W) where
   pub record HasPrinted (old new : Printer W) (bytes : List ℕ) (is_next : Bool) : Type 0 where
     pub text : Appends (sink.contents old.out) (sink.contents new.out) bytes
@@ -43,28 +47,45 @@ module _ {W : Type 0} (sink : SinkOf W) where
     pub printed : let lines = map row_line (shown_rows verbose rows) in HasPrinted start
         writer.printer (parts start.form false lines) (follows_after false lines)
 
-  -- A successful call prints the ending, and tells whether a row is bad.
+  -- Since the start, a prefix of the shown rows has been printed, perhaps all of them.
+  abbrev pub HasPartOf : Printer W → Bool → List SeenRow → RowWriter W → Type 0
+  HasPartOf start verbose rows writer =
+      AppendsPrefix (sink.contents start.out) (sink.contents writer.printer.out)
+      (parts start.form false (map row_line (shown_rows verbose rows)))
+
+  -- A successful call prints the ending, and tells whether a row is bad. After a fault, the rows
+  -- and the ending are incomplete.
   pub record Ends (result : Result Bool WriteFault) (old new : RowWriter W) : Type 0 where
     pub ended : IfOk result (λ bad. (start : Printer W) (verbose : Bool) (rows : List SeenRow)
         → HasWritten start verbose rows old → (bad ≡ has_bad rows)
         × Appends (sink.contents start.out) (sink.contents new.printer.out)
         (parts start.form false (report_lines verbose rows) ++ ending start.form (counts_of rows)))
+    pub stopped : OnErr result ((start : Printer W) (verbose : Bool) (rows : List SeenRow)
+        → HasWritten start verbose rows old
+        → AppendsPart (sink.contents start.out) (sink.contents new.printer.out)
+        (parts start.form false (report_lines verbose rows) ++ ending start.form (counts_of rows)))
     pub cause : sink.faults old.printer.out + fault_count by_sink result
         ≤ sink.faults new.printer.out
 
   module _ (result : Result (Unit {0}) WriteFault) where
-    -- a successful call prints the bytes; a reported fault of the sink occurred
+    -- a successful call prints the bytes, any other call a prefix; a reported fault of the sink
+    -- occurred
     pub record Prints (old new : Printer W) (bytes : List ℕ) (is_next : Bool) : Type 0 where
       pub printed : OnOk result (HasPrinted old new bytes is_next)
+      pub stopped :
+          OnErr result (AppendsPrefix (sink.contents old.out) (sink.contents new.out) bytes)
       pub cause : sink.faults old.out + fault_count by_sink result ≤ sink.faults new.out
 
     abbrev pub PrintsLines : Printer W → Printer W → List Line → Type 0
     PrintsLines old new lines =
         Prints old new (parts old.form old.follows lines) (follows_after old.follows lines)
 
-    -- A successful call adds the rows to any rows; a reported fault of the sink occurred.
+    -- A successful call adds the rows to any rows, and any other call prints a prefix of them; a
+    -- reported fault of the sink occurred.
     pub record Adds (old new : RowWriter W) (more : List SeenRow) : Type 0 where
       pub added : OnOk result ((start : Printer W) (verbose : Bool) (rows : List SeenRow)
           → HasWritten start verbose rows old → HasWritten start verbose (rows ++ more) new)
+      pub stopped : OnErr result ((start : Printer W) (verbose : Bool) (rows : List SeenRow)
+          → HasWritten start verbose rows old → HasPartOf start verbose (rows ++ more) new)
       pub cause : sink.faults old.printer.out + fault_count by_sink result
           ≤ sink.faults new.printer.out

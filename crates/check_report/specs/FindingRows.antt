@@ -28,7 +28,7 @@ use Rattle.check_findings.specs.declared.region.finding.RegionFinding.TheVariant
 use Rattle.check_findings.specs.declared.map.finding.MapFinding.{MapFinding}
 use Rattle.check_findings.specs.declared.map.finding.MapFinding.TheVariants as of_map
 use Rattle.check_findings.specs.declared.image.finding.ImageFinding.{ImageFinding}
-use Rattle.check_findings.specs.declared.image.finding.ImageFinding.TheVariants.{Map, Region}
+use Rattle.check_findings.specs.declared.image.finding.ImageFinding.TheVariants.{Anchor as OfAnchor, Map, Region}
 use Rattle.check_findings.specs.declared.image.finding.ImageFinding.TheVariants.{NotChecked}
 use Rattle.check_findings.specs.declared.image.finding.ImageFinding.TheVariants.{NoArea}
 use Rattle.check_findings.specs.Needs.{unmet}
@@ -36,7 +36,11 @@ use Rattle.check_findings.specs.declared.image.needs.Need.{Need}
 use Rattle.check_findings.specs.declared.image.needs.NeedFinding.{NeedFinding}
 use Rattle.check_findings.specs.declared.image.needs.NeedFinding.TheVariants.{Missing, Elsewhere}
 use Rattle.check_findings.specs.Lists.{only_if}
-use Rattle.check_findings.specs.Verdicts.{is_bad_hash}
+use Rattle.check_findings.specs.Verdicts.{has_other_hash, is_bad_hash, is_too_long, needs_hash}
+use Rattle.check_findings.specs.Verdicts.{rules_of}
+use Rattle.check_findings.specs.declared.image.verdict.HashRules.{HashRules}
+use Rattle.check_findings.specs.declared.region.finding.Content.{Content}
+use Rattle.check_report.specs.AnchorRows.{anchor_row}
 use Rattle.check_report.specs.declared.request.Asked.{Asked}
 use Rattle.check_report.specs.declared.rows.field.Value.TheVariants.{Dash}
 use Rattle.check_report.specs.Fields.{SeenValue, name_value, seen_value}
@@ -71,26 +75,38 @@ hash_words (hashes.Valid a) = (codes "hash-valid", (algorithm_row a).name ++ cod
 hash_words (hashes.Invalid a) = (codes "hash-invalid", (algorithm_row a).name ++ codes " invalid")
 hash_words hashes.Unsupported = (codes "hash-unsupported", codes "hash unsupported")
 
--- a digest has a row; a missing digest only on request
-abbrev pub has_hash_row : Asked → HashFinding → Bool
-has_hash_row asked hashes.Missing = asked.is_verbose || asked.needs_hashes
-has_hash_row asked _ = true
+-- a digest has a row; a missing digest only if it is needed, or on request
+abbrev pub has_state_row : Asked → HashRules → Content → HashFinding → Bool
+has_state_row asked rules content hashes.Missing = asked.is_verbose || needs_hash rules content
+has_state_row asked rules content _ = true
 
-abbrev pub hash_row : Asked → HashFinding → SeenRow
-hash_row asked hash = row_of (if is_bad_hash asked.needs_hashes hash then Bad else Remark)
-    (hash_words hash).0 (hash_words hash).1
+abbrev pub has_hash_row : Asked → HashRules → Content → Bool
+has_hash_row asked rules content = has_state_row asked rules content content.hash
 
--- rows of a component: an earlier namesake, a name that isn't UTF-8, a type without a name, and the
--- digest
-abbrev pub component_rows : Asked → List ℕ → RegionFinding → List SeenRow
-component_rows asked region (Component at name shadowed content) =
+abbrev pub hash_row : HashRules → List ℕ → Content → SeenRow
+hash_row rules name content = row_of (if is_bad_hash rules name content then Bad else Remark)
+    (hash_words content.hash).0 (hash_words content.hash).1
+
+-- rows of a digest: its state, and another algorithm than the anchor's
+abbrev pub hash_rows : Asked → HashRules → List ℕ → ℕ → List ℕ → Content → List SeenRow
+hash_rows asked rules region at name content = let here = at_component region at name in
+    only_if (has_hash_row asked rules content) (here (hash_row rules name content))
+    ++ only_if (has_other_hash rules content)
+    (here (row Remark "hash-other-algorithm" "hash isn't of the anchor's algorithm"))
+
+-- rows of a component: an earlier namesake, too long metadata, a name that isn't UTF-8, a type
+-- without a name, and the digest
+abbrev pub component_rows : Asked → HashRules → List ℕ → RegionFinding → List SeenRow
+component_rows asked rules region (Component at name shadowed content) =
     let here = at_component region at name in
     only_if shadowed (here (row Bad "component-shadowed" "has the name of an earlier component"))
+    ++ (only_if (is_too_long at content) (here (row Bad "metadata-too-long"
+    "metadata longer than 256 bytes: firmware can't find it"))
     ++ (only_if (not (is_utf8 name)) (here (row Remark "component-name" "name isn't UTF-8"))
     ++ (only_if (is_none (name_of_type content.kind))
     (here (with_number content.kind (row Remark "component-type" "type without a name")))
-    ++ only_if (has_hash_row asked content.hash) (here (hash_row asked content.hash))))
-component_rows asked region _ = []
+    ++ hash_rows asked rules region at name content)))
+component_rows asked rules region _ = []
 
 -- the failed check
 abbrev pub damage_text : DamageKind → List ℕ
@@ -119,9 +135,9 @@ plain_row (LargestContent (Some n)) =
     Some (with_count n (row Remark "largest-content" "largest content that add takes"))
 plain_row (LargestContent None) = Some (row Remark "no-room" "no room for a component")
 
-abbrev pub region_rows : Asked → List ℕ → List RegionFinding → List SeenRow
-region_rows asked area findings = flat_map (λ finding. option_map_or
-    (λ row. in_area area row ∷ []) (plain_row finding) (component_rows asked area finding)) findings
+abbrev pub region_rows : Asked → HashRules → List ℕ → List RegionFinding → List SeenRow
+region_rows asked rules area findings = flat_map (λ finding. option_map_or (λ row.
+    in_area area row ∷ []) (plain_row finding) (component_rows asked rules area finding)) findings
 
 -- ---- the image
 
@@ -132,7 +148,9 @@ missing_row name = with_field "area" name (row Bad "no-area" "no such area")
 -- by the given area names; an area that isn't checked is bad if its name is expected
 abbrev pub rows_of : Asked → List (Bor (List ℕ)) → ImageFinding → List SeenRow
 rows_of asked names (Map finding) = map_row finding ∷ []
-rows_of asked names (Region a findings) = region_rows asked (area_name a) findings
+rows_of asked names (OfAnchor finding) = anchor_row finding ∷ []
+rows_of asked names (Region a anchor findings) =
+    region_rows asked (rules_of asked.needs_hashes anchor) (area_name a) findings
 rows_of asked names (NotChecked a named) = of_area a (row (if named then Bad else Remark)
     "area-not-checked" "isn't checked: checked areas would exceed twice the image") ∷ []
 rows_of asked names (NoArea n) = missing_row

@@ -1,5 +1,6 @@
 pub mod Fields
 pub mod Rows
+pub mod AnchorRows
 pub mod FindingRows
 pub mod ChangeRows
 pub mod Reports

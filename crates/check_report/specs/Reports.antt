@@ -1,11 +1,11 @@
 -- A report: a list of components on request, rows, and counts. JSON is one document (RFC 8259).
 -- This project defines the choice and order of components and rows.
 use Rattle.std.specs.Prelude.{ℕ, List, [], ◌∷◌, ◌++◌, map, is_none, if◌then◌else◌, Option, false}
-use Rattle.std.specs.Prelude.{◌&&◌, ◌%◌, filter, nat_le, not, Bool, true, fold, ◌≡◌, None}
+use Rattle.std.specs.Prelude.{◌&&◌, ◌%◌, filter, nat_le, not, Bool, true, ◌≡◌, None}
 use Rattle.std.specs.Prelude.{IsSomeAnd}
 use Rattle.std.specs.Prelude.{MatchOption, length}
 use Rattle.std.specs.List.{flat_map, list_any}
-use Rattle.std.specs.Option.{option_map_or, option_copied}
+use Rattle.std.specs.Option.{option_map, option_map_or, option_copied, option_to_list}
 use lib.Chars.{codes}
 use Rattle.flash_format.specs.Texts.{printed_compression, printed_type, line_feed}
 use Rattle.check_findings.specs.declared.areas.NumberedArea.{NumberedArea}
@@ -22,7 +22,7 @@ use Rattle.check_report.specs.Rows.{names_in}
 use Rattle.check_report.specs.FindingRows.{finding_rows, hash_words, missing_row, need_rows}
 use Rattle.check_findings.specs.Areas.{has_name}
 use Rattle.check_findings.specs.Lists.{only_if}
-use Rattle.check_report.specs.ChangeRows.{area_change_rows, image_rows, map_change_row}
+use Rattle.check_report.specs.ChangeRows.{anchor_change_row, area_change_rows, image_rows, map_change_row}
 use Rattle.check_report.specs.ChangeRows.{region_change_rows}
 use Rattle.check_report.specs.declared.request.Request.{Request}
 use Rattle.check_report.specs.declared.inspection.Changes.{Changes}
@@ -32,7 +32,7 @@ use Rattle.std.specs.Bool.{then_some}
 use Rattle.json.specs.Tree.{json_tokens}
 use Rattle.json.specs.Json.{Json, array, object}
 use Rattle.json.specs.Token.{Token, begin_array, begin_object, end_array, end_object, key}
-use Rattle.json.specs.Print.{print_from}
+use Rattle.json.specs.Print.{print, print_from}
 use Rattle.check_report.specs.declared.request.Files.{Files}
 use Rattle.check_report.specs.declared.rows.kinds.Counts.{Counts}
 use Rattle.check_report.specs.declared.rows.form.Form.{Form}
@@ -40,6 +40,8 @@ use Rattle.check_report.specs.declared.rows.form.Form.TheVariants as forms
 use Rattle.flash_map.specs.Fmap.{found_in}
 use Rattle.check_findings.specs.Areas.{image_areas}
 use Rattle.check_findings.specs.ImageFindings.{cbfs_areas, image_findings}
+use Rattle.check_changes.specs.Anchors.{anchor_change}
+use Rattle.check_findings.specs.Anchors.{image_anchor}
 use Rattle.check_changes.specs.Areas.{area_changes, map_changes}
 use Rattle.check_changes.specs.Areas.{different_blocks}
 use Rattle.check_changes.specs.Regions.{region_changes}
@@ -63,10 +65,23 @@ abbrev pub document : Files → Option (List Line) → List Line → Counts → 
 document files list rows counts = object (members
     (first_fields files list ++ lines_field (codes "rows") rows ∷ count_fields counts))
 
+-- the report as text: the list on request, the rows and the counts
+abbrev pub text_report : Option (List Line) → List Line → Counts → List ℕ
+text_report list rows counts =
+    option_map_or (flat_map line_text) list [] ++ flat_map line_text rows ++ summary counts
+
+-- the report as JSON: one document
+abbrev pub json_report : Files → Option (List Line) → List Line → Counts → List ℕ
+json_report files list rows counts = print (json_tokens (document files list rows counts))
+
+-- the bytes of a form
+abbrev pub in_form : Form → List ℕ → List ℕ → List ℕ
+in_form forms.Text text json = text
+in_form forms.Json text json = json
+
 -- a part of a report in either form: text, or tokens after another value or not
 abbrev pub part : Form → Bool → List ℕ → List Token → List ℕ
-part forms.Text follows text tokens = text
-part forms.Json follows text tokens = print_from follows tokens
+part form follows text tokens = in_form form text (print_from follows tokens)
 
 -- ---- its parts
 
@@ -89,7 +104,8 @@ parts form follows lines =
 
 -- after a line, the next line follows another line
 abbrev pub follows_after : Bool → List Line → Bool
-follows_after follows lines = fold (λ _ _. true) follows lines
+follows_after follows [] = follows
+follows_after follows (line ∷ lines) = true
 
 abbrev pub ending : Form → Counts → List ℕ
 ending form counts = part form false (summary counts)
@@ -111,7 +127,7 @@ component_lines area (Component at name shadowed content) =
 component_lines area _ = []
 
 abbrev pub components_in : ImageFinding → List Line
-components_in (Region a findings) = flat_map (component_lines (area_name a)) findings
+components_in (Region a anchor findings) = flat_map (component_lines (area_name a)) findings
 components_in _ = []
 
 -- the components of the checked areas in order, on request
@@ -138,11 +154,12 @@ module _ (request : Request) (c : Changes) where
   missing_rows = flat_map (λ name. only_if (not (list_any (has_name name) both_areas))
       (missing_row (name_value name))) (names_in request.kept.now)
 
-  -- rows of the images, their maps, areas and components, and of missing areas
+  -- rows of the images, their maps, anchors, areas and components, and of missing areas
   abbrev pub change_rows : List SeenRow
   change_rows = let new = c.comparison in
       let vital = kept_names ++ map area_name c.old.regions.items in
-      (((image_rows new.old_len new.new_len new.blocks ++ map map_change_row new.map.items)
+      ((((image_rows new.old_len new.new_len new.blocks ++ map map_change_row new.map.items)
+      ++ option_to_list (option_map anchor_change_row new.anchor))
       ++ flat_map (area_change_rows kept_names vital) new.areas.items)
       ++ flat_map (region_change_rows kept_names) new.regions.items) ++ missing_rows
 
@@ -152,13 +169,12 @@ inspection_rows request i = (finding_rows request.asked request.areas.now i.find
     ++ need_rows i.findings.items request.needs.now)
     ++ option_map_or (change_rows request) i.changes []
 
--- in text the list, the rows and the counts, in JSON the document; then a line feed
+-- the report in the form of the request, and a line feed
 unfoldable pub report : Request → Inspection → List ℕ
 report request i = let list = listed request i in let rows = inspection_rows request i in
-    let lines = report_lines request.asked.is_verbose rows in
-    part request.form false (option_map_or (flat_map line_text) list [] ++ flat_map line_text lines
-    ++ summary (counts_of rows)) (json_tokens (document request.files list lines (counts_of rows)))
-    ++ line_feed
+    let lines = report_lines request.asked.is_verbose rows in let counts = counts_of rows in
+    in_form request.form (text_report list lines counts)
+    (json_report request.files list lines counts) ++ line_feed
 
 -- ---- the result of a check, on honest devices
 
@@ -172,6 +188,7 @@ pub record AreChanges (x y : List ℕ) (findings : List ImageFinding) (c : Chang
   pub new_len : c.comparison.new_len ≡ length y
   pub blocks : c.comparison.blocks ≡ different_blocks x y
   pub map : c.comparison.map.items ≡ map_changes (found_in x) (found_in y)
+  pub anchor : c.comparison.anchor ≡ anchor_change (image_anchor x) (image_anchor y)
   pub areas : c.comparison.areas.items
       ≡ area_changes x (areas_or c.old (image_areas y)) y (image_areas y)
   pub regions : c.comparison.regions.items

@@ -1,7 +1,8 @@
 //! Rows of changed maps and areas.
 ghost use Rattle.std.specs.Prelude.{◌≡◌, option_map, option_to_list};
 ghost use Rattle.check_report.specs.Rows.{names_in, of_area, seen_row};
-ghost use Rattle.check_report.specs.ChangeRows as of;
+ghost use Rattle.check_report.specs.ChangeRows.{area_change_rows, area_rows, change_row};
+ghost use Rattle.check_report.specs.ChangeRows.{map_change_row};
 
 use crate::kept::change_verdict;
 use crate::names::KnownNames;
@@ -11,7 +12,7 @@ use check_findings::NumberedArea;
 
 /// Returns the row of a change of the flash map itself.
 pub fn map_change_row<'a>(change: &MapChange) -> Row<'a>
-    ensures { seen_row result ≡ of.map_change_row change.now }
+    ensures { seen_row result ≡ map_change_row change.now }
 {
     let v = Verdict::Change;
     match change {
@@ -27,7 +28,7 @@ pub fn map_change_row<'a>(change: &MapChange) -> Row<'a>
 /// Returns the row of a difference, without its area. A kept area counts all different blocks,
 /// other areas count those outside smaller areas, if any.
 fn area_row<'a>(is_kept: bool, is_vital: bool, what: AreaDifference) -> Option<Row<'a>>
-    ensures { option_to_list (option_map seen_row result) ≡ of.area_rows is_kept is_vital what }
+    ensures { option_to_list (option_map seen_row result) ≡ area_rows is_kept is_vital what }
 {
     let v = change_verdict(is_kept);
     let row = match what {
@@ -64,7 +65,7 @@ pub fn area_change_row<'a>(
     vital: &KnownNames<'_>,
     change: &'a AreaChange,
 ) -> Option<Row<'a>>
-    ensures { option_to_list (option_map seen_row result) ≡ of.area_change_rows
+    ensures { option_to_list (option_map seen_row result) ≡ area_change_rows
         (names_in kept.now.names.items) (names_in vital.now.names.items) change.now }
 {
     let area = &change.area;
@@ -75,7 +76,7 @@ pub fn area_change_row<'a>(
 /// Returns the row of an area without a comparison of components.
 pub fn not_compared_row<'a>(is_kept: bool, area: &'a NumberedArea) -> Row<'a>
     ensures { seen_row result ≡ of_area area.now
-        (of.change is_kept "components-not-compared" "components not compared") }
+        (change_row is_kept "components-not-compared" "components not compared") }
 {
     let v = change_verdict(is_kept);
     v.row("components-not-compared", "components not compared")

@@ -6,8 +6,10 @@ ghost use Rattle.check_report.specs.Reports.{Checks};
 use crate::inspection::{Changes, Comparison, Inspection, OldImage};
 use crate::names::{need_areas, with_areas};
 use crate::request::Request;
-use check_changes::{Areas, ChangeFault, Images, image_changes, map_changes, region_changes};
-use check_findings::{cbfs_areas, check_image, image_map};
+use check_changes::{
+    Areas, ChangeFault, Images, anchor_change, image_changes, map_changes, region_changes,
+};
+use check_findings::{cbfs_areas, check_anchor, check_image, image_map};
 use flash_device::Flash;
 use std::alloc::Global;
 use std::hash::RandomState;
@@ -29,6 +31,8 @@ pub fn inspect_change<F: Flash, G: Flash>(
 {
     let old_image = &mut images.old_image;
     let map = image_map(alloc, old_image).map_err(ChangeFault::of_old)?;
+    let anchor = check_anchor(alloc, old_image, map.found).map_err(ChangeFault::of_old)?;
+    let old_anchor = anchor.anchor;
     let regions = cbfs_areas(alloc, old_image, &map.areas).map_err(ChangeFault::of_old)?;
     let old = OldImage { map, regions };
 
@@ -51,6 +55,7 @@ pub fn inspect_change<F: Flash, G: Flash>(
         new_len: images.new_image.len(),
         blocks: changes.blocks,
         map,
+        anchor: anchor_change(old_anchor, checked.anchor),
         areas: changes.areas,
         regions,
     };

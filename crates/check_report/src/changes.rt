@@ -1,16 +1,24 @@
 //! The rows of changes.
-ghost use Rattle.std.specs.Prelude.{◌≡◌, map};
+ghost use Rattle.std.specs.Prelude.{◌≡◌, ◌++◌, map};
+ghost use Rattle.std.specs.Option.{option_map, option_to_list};
+ghost use lib.Chars.{codes};
+ghost use Rattle.cbfs_anchor.specs.AlgorithmNames.{name_of};
 ghost use Rattle.std.specs.List.{flat_map};
 ghost use Rattle.check_report.specs.Rows.{names_in, at_component, seen_row};
 ghost use Rattle.check_report.specs.Effects.{Adds};
-ghost use Rattle.check_report.specs.ChangeRows as of;
+ghost use Rattle.check_report.specs.ChangeRows.{anchor_change_row, area_change_rows};
+ghost use Rattle.check_report.specs.ChangeRows.{component_change_row, component_row, image_rows};
+ghost use Rattle.check_report.specs.ChangeRows.{map_change_row, region_change_rows};
 
 use crate::areas::{area_change_row, map_change_row, not_compared_row};
 use crate::fault::WriteFault;
 use crate::kept::change_verdict;
 use crate::names::KnownNames;
 use crate::rows::{Row, RowWriter, Verdict};
-use check_changes::{AreaChange, ComponentChange, ComponentDifference, MapChange, RegionChange};
+use cbfs_anchor::Algorithm;
+use check_changes::{
+    AnchorChange, AreaChange, ComponentChange, ComponentDifference, MapChange, RegionChange,
+};
 use flash_device::Sink;
 
 /// Adds rows for the image lengths, and for the number of different blocks of 4096 bytes.
@@ -20,7 +28,7 @@ pub fn add_image_changes<W: Sink + Drop>(
     new_len: u64,
     blocks: u32,
 ) -> Result<(), WriteFault>
-    ensures { Adds W.Sink result rows.old rows.new (of.image_rows old_len new_len blocks) }
+    ensures { Adds W.Sink result rows.old rows.new (image_rows old_len new_len blocks) }
 {
     let resized = Verdict::Change.row("image-size", "image size changed from");
     rows.add_if(old_len != new_len, resized.number(old_len))?;
@@ -33,12 +41,53 @@ pub fn add_map_changes<W: Sink + Drop>(
     rows: &mut RowWriter<W>,
     changes: &[MapChange],
 ) -> Result<(), WriteFault>
-    ensures { Adds W.Sink result rows.old rows.new (map of.map_change_row changes.now) }
+    ensures { Adds W.Sink result rows.old rows.new (map map_change_row changes.now) }
 {
     for change in changes {
         rows.add(map_change_row(change))?;
     }
     Ok(())
+}
+
+/// Returns the row of a change of the anchor. Without an anchor, the firmware doesn't check
+/// COREBOOT.
+fn anchor_change_row<'a>(change: AnchorChange) -> Row<'a>
+    ensures { seen_row result ≡ anchor_change_row change }
+{
+    let v = Verdict::Change;
+    match change {
+        AnchorChange::Added => v.row("anchor-added", "anchor added"),
+        AnchorChange::Gone => Verdict::Bad.row("anchor-gone", "anchor gone"),
+        AnchorChange::AlgorithmFrom(old) => {
+            v.row("anchor-algorithm-changed", algorithm_changed_text(old))
+        }
+    }
+}
+
+fn algorithm_changed_text(old: Algorithm) -> &'static str
+    ensures { result.now ≡ codes "anchor's algorithm changed from " ++ name_of old }
+{
+    match old {
+        Algorithm::Sha1 => "anchor's algorithm changed from sha1",
+        Algorithm::Sha256 => "anchor's algorithm changed from sha256",
+        Algorithm::Sha512 => "anchor's algorithm changed from sha512",
+        Algorithm::Sha224 => "anchor's algorithm changed from sha224",
+        Algorithm::Sha384 => "anchor's algorithm changed from sha384",
+    }
+}
+
+/// Adds a row for the change of the anchor, if any.
+pub fn add_anchor_change<W: Sink + Drop>(
+    rows: &mut RowWriter<W>,
+    change: Option<AnchorChange>,
+) -> Result<(), WriteFault>
+    ensures { Adds W.Sink result rows.old rows.new
+        (option_to_list (option_map anchor_change_row change)) }
+{
+    match change {
+        Some(change) => rows.add(anchor_change_row(change)),
+        None => Ok(()),
+    }
 }
 
 pub fn add_area_changes<W: Sink + Drop>(
@@ -48,7 +97,8 @@ pub fn add_area_changes<W: Sink + Drop>(
     changes: &[AreaChange],
 ) -> Result<(), WriteFault>
     ensures { Adds W.Sink result rows.old rows.new
-        (flat_map (of.area_change_rows (names_in kept.now.names.items) (names_in vital.now.names.items)) changes.now) }
+        (flat_map (area_change_rows (names_in kept.now.names.items)
+        (names_in vital.now.names.items)) changes.now) }
 {
     for change in changes {
         if let Some(row) = area_change_row(kept, vital, change) {
@@ -59,7 +109,7 @@ pub fn add_area_changes<W: Sink + Drop>(
 }
 
 fn component_row<'a>(is_kept: bool, what: ComponentDifference) -> Row<'a>
-    ensures { seen_row result ≡ of.component_row is_kept what }
+    ensures { seen_row result ≡ component_row is_kept what }
 {
     let v = change_verdict(is_kept);
     match what {
@@ -85,7 +135,7 @@ fn add_component_changes<W: Sink + Drop>(
     changes: &[ComponentChange],
 ) -> Result<(), WriteFault>
     ensures { Adds W.Sink result rows.old rows.new
-        (map (of.component_change_row is_kept area.now) changes.now) }
+        (map (component_change_row is_kept area.now) changes.now) }
 {
     for change in changes {
         let row = component_row(is_kept, change.what);
@@ -100,7 +150,7 @@ pub fn add_region_changes<W: Sink + Drop>(
     changes: &[RegionChange],
 ) -> Result<(), WriteFault>
     ensures { Adds W.Sink result rows.old rows.new
-        (flat_map (of.region_change_rows (names_in kept.now.names.items)) changes.now) }
+        (flat_map (region_change_rows (names_in kept.now.names.items)) changes.now) }
 {
     for change in changes {
         match change {

@@ -6,18 +6,20 @@ ghost use Rattle.check_report.specs.Fields.{name_value, seen_value};
 ghost use Rattle.check_report.specs.Rows.{seen_row};
 ghost use Rattle.check_report.specs.Effects.{Adds};
 ghost use Rattle.check_findings.specs.declared.map.finding.MapFinding.TheVariants.{MapAreaMisses};
-ghost use Rattle.check_report.specs.FindingRows as of;
+ghost use Rattle.check_report.specs.FindingRows.{finding_rows, map_row, missing_row, need_row};
+ghost use Rattle.check_report.specs.FindingRows.{need_rows};
 
+use crate::anchor::anchor_row;
 use crate::fault::WriteFault;
 use crate::region::add_region;
 use crate::request::Asked;
 use crate::rows::{Row, RowWriter, Value, Verdict};
-use check_findings::{ImageFinding, MapFinding, Need, NeedFinding, NumberedArea, unmet};
+use check_findings::{HashRules, ImageFinding, MapFinding, Need, NeedFinding, NumberedArea, unmet};
 use flash_device::Sink;
 
 /// Returns the row of a name without an area.
 pub fn missing_row(area: Value<'_>) -> Row<'_>
-    ensures { seen_row result ≡ of.missing_row (seen_value area.entry) }
+    ensures { seen_row result ≡ missing_row (seen_value area.entry) }
 {
     let mut row = Verdict::Bad.row("no-area", "no such area");
     row.area = area;
@@ -34,7 +36,7 @@ fn name_at<'a>(names: &[&'a [u8]], n: usize) -> Value<'a>
 
 /// Returns the row of a finding of the flash map.
 fn map_row(finding: &MapFinding) -> Row<'_>
-    ensures { seen_row result ≡ of.map_row finding.now }
+    ensures { seen_row result ≡ map_row finding.now }
 {
     let (bad, remark) = (Verdict::Bad, Verdict::Remark);
     match finding {
@@ -63,7 +65,7 @@ fn map_row(finding: &MapFinding) -> Row<'_>
 }
 
 fn map_area_row(area: &Option<NumberedArea>) -> Row<'_>
-    ensures { seen_row result ≡ of.map_row (MapAreaMisses area.now) }
+    ensures { seen_row result ≡ map_row (MapAreaMisses area.now) }
 {
     match area {
         None => Verdict::Bad.row("no-map-area", "no area FMAP"),
@@ -81,13 +83,22 @@ pub fn add_findings<W: Sink + Drop>(
     findings: &[ImageFinding],
     names: &[&[u8]],
 ) -> Result<(), WriteFault>
-    ensures { Adds W.Sink result rows.old rows.new (of.finding_rows asked names.now findings.now) }
+    ensures { Adds W.Sink result rows.old rows.new (finding_rows asked names.now findings.now) }
 {
     for finding in findings {
         match finding {
             ImageFinding::Map(of_map) => rows.add(map_row(of_map))?,
-            ImageFinding::Region { area, findings } => {
-                add_region(rows, asked, area.area.text(), findings.as_slice())?;
+            ImageFinding::Anchor(of_anchor) => rows.add(anchor_row(of_anchor))?,
+            ImageFinding::Region {
+                area,
+                anchor,
+                findings,
+            } => {
+                let rules = HashRules {
+                    needs_all: asked.needs_hashes,
+                    anchor: *anchor,
+                };
+                add_region(rows, asked, rules, area.area.text(), findings.as_slice())?;
             }
             ImageFinding::NotChecked { area, is_named } => {
                 let what = "isn't checked: checked areas would exceed twice the image";
@@ -101,7 +112,7 @@ pub fn add_findings<W: Sink + Drop>(
 }
 
 fn need_row<'a>(finding: NeedFinding) -> Row<'a>
-    ensures { seen_row result ≡ of.need_row finding }
+    ensures { seen_row result ≡ need_row finding }
 {
     let bad = Verdict::Bad;
     match finding {
@@ -119,7 +130,7 @@ pub fn add_needs<W: Sink + Drop>(
     findings: &[ImageFinding],
     needs: &[Need<'_>],
 ) -> Result<(), WriteFault>
-    ensures { Adds W.Sink result rows.old rows.new (of.need_rows findings.now needs.now) }
+    ensures { Adds W.Sink result rows.old rows.new (need_rows findings.now needs.now) }
 {
     for need in needs {
         if let Some(finding) = unmet(findings, *need) {

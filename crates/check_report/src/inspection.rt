@@ -1,7 +1,7 @@
 //! The result of a check, and its report.
-ghost use Rattle.std.specs.Prelude.{◌≡◌, ◌+◌, ◌≤◌, false, OnOk};
+ghost use Rattle.std.specs.Prelude.{◌≡◌, ◌+◌, ◌≤◌, false, OnErr, OnOk};
 ghost use Rattle.std.specs.Io.KnownBytes.{Appends};
-ghost use Rattle.flash_device.specs.Device.{fault_count};
+ghost use Rattle.flash_device.specs.Device.{AppendsPart, fault_count};
 ghost use Rattle.check_report.specs.Reports.{areas_or, change_rows, inspection_rows, listed};
 ghost use Rattle.check_report.specs.Reports.{report};
 ghost use Rattle.flash_device.specs.Pages.{Returns};
@@ -9,7 +9,9 @@ ghost use Rattle.check_report.specs.Reports.{heading};
 ghost use Rattle.check_report.specs.Rows.{has_bad};
 ghost use Rattle.check_report.specs.Effects.{Adds, Prints, by_sink};
 
-use crate::changes::{add_area_changes, add_image_changes, add_map_changes, add_region_changes};
+use crate::changes::{
+    add_anchor_change, add_area_changes, add_image_changes, add_map_changes, add_region_changes,
+};
 use crate::fault::WriteFault;
 use crate::findings::{add_findings, add_needs};
 use crate::kept::add_missing;
@@ -17,7 +19,7 @@ use crate::list::list_components;
 use crate::names::{KnownNames, kept_names, with_areas};
 use crate::request::Request;
 use crate::rows::{Printer, RowWriter};
-use check_changes::{AreaChange, MapChange, RegionChange};
+use check_changes::{AnchorChange, AreaChange, MapChange, RegionChange};
 use check_findings::{ImageFinding, ImageMap, NumberedArea};
 use flash_device::Sink;
 use std::alloc::Global;
@@ -30,6 +32,7 @@ pub struct Comparison {
     /// The number of different blocks of 4096 bytes.
     pub blocks: u32,
     pub map: Vec<MapChange>,
+    pub anchor: Option<AnchorChange>,
     pub areas: Vec<AreaChange>,
     pub regions: Vec<RegionChange>,
 }
@@ -83,6 +86,7 @@ fn add_changes<W: Sink + Drop>(
     let found = &changes.comparison;
     add_image_changes(rows, found.old_len, found.new_len, found.blocks)?;
     add_map_changes(rows, &found.map)?;
+    add_anchor_change(rows, found.anchor)?;
     add_area_changes(rows, &kept, &vital, &found.areas)?;
     add_region_changes(rows, &kept, &found.regions)?;
     add_missing(rows, request, changes)
@@ -92,7 +96,7 @@ fn add_changes<W: Sink + Drop>(
 #[derive(Drop)]
 pub struct Written<W> {
     pub out: W,
-    /// Whether a row is bad. After a fault the sink may have a partial report.
+    /// Whether a row is bad. After a fault the sink has a proper prefix of the report.
     pub is_bad: Result<bool, WriteFault>,
 }
 
@@ -132,10 +136,12 @@ impl Inspection {
 
     /// Writes the report row by row, after the list of components on request. Returns the sink, and
     /// whether a row is bad, or a fault: `Output` only if the sink failed, `Memory` if an
-    /// allocation failed.
+    /// allocation failed. After a fault, the sink received a proper prefix of the report.
     pub fn write<W: Sink + Drop>(&self, alloc: Global, request: Request<'_>, out: W) -> Written<W>
         ensures bad { Returns result.is_bad (has_bad (inspection_rows request.entry self.now)) }
         ensures text { OnOk result.is_bad (Appends (W.contents out) (W.contents result.out)
+            (report request.entry self.now)) }
+        ensures part { OnErr result.is_bad (AppendsPart (W.contents out) (W.contents result.out)
             (report request.entry self.now)) }
         ensures cause { W.faults out + fault_count by_sink result.is_bad ≤ W.faults result.out }
     {

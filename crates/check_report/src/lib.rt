@@ -4,6 +4,7 @@
 //! memory for a single row.
 #![tactic(auto)]
 
+mod anchor;
 mod areas;
 mod change;
 mod changes;

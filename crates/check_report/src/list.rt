@@ -66,7 +66,7 @@ pub fn list_components<W: Sink + Drop>(
         (flat_map components_in findings.now) }
 {
     for finding in findings {
-        if let ImageFinding::Region { area, findings } = finding {
+        if let ImageFinding::Region { area, findings, .. } = finding {
             list_area(printer, area.area.text(), findings.as_slice())?;
         }
     }

@@ -2,19 +2,19 @@
 ghost use Rattle.std.specs.Prelude.{◌≡◌, option_map};
 ghost use Rattle.check_report.specs.Rows.{seen_row};
 ghost use Rattle.check_report.specs.Effects.{Adds};
-ghost use Rattle.check_report.specs.FindingRows as of;
-ghost use Rattle.check_report.specs.FindingRows.{component_rows, region_rows};
+ghost use Rattle.check_report.specs.FindingRows.{component_rows, damage_text, has_hash_row};
+ghost use Rattle.check_report.specs.FindingRows.{hash_rows, hash_words, plain_row, region_rows};
 
 use crate::fault::WriteFault;
 use crate::request::Asked;
 use crate::rows::{Row, RowWriter, Verdict};
-use check_findings::{HashFinding, RegionFinding, is_bad_hash, is_text};
+use check_findings::{Content, HashFinding, HashRules, RegionFinding, is_text, is_too_long};
 use flash_device::Sink;
 use flash_format::{Algorithm, DamageKind, type_name};
 
 /// Returns the code and the text of a digest.
 pub fn hash_words(hash: HashFinding) -> (&'static str, &'static str)
-    ensures { (result.0.now, result.1.now) ≡ of.hash_words hash }
+    ensures { (result.0.now, result.1.now) ≡ hash_words hash }
 {
     match hash {
         HashFinding::Missing => ("hash-missing", "no hash"),
@@ -27,22 +27,51 @@ pub fn hash_words(hash: HashFinding) -> (&'static str, &'static str)
 }
 
 impl Asked {
-    /// Returns whether a digest has a row. A missing digest has a row only on request.
-    fn has_hash_row(self, hash: HashFinding) -> bool
-        ensures { result ≡ of.has_hash_row self hash }
+    /// Returns whether a digest has a row. A missing digest has a row only if it is needed, or on
+    /// request.
+    fn has_hash_row(self, rules: HashRules, content: Content) -> bool
+        ensures { result ≡ has_hash_row self rules content }
     {
-        !matches!(hash, HashFinding::Missing) || self.is_verbose || self.needs_hashes
+        !matches!(content.hash, HashFinding::Missing) || self.is_verbose || rules.need(content)
     }
 }
 
-/// Adds up to three rows of a component's name and type, and the state of its digest.
+/// Adds up to two rows of a component's digest: its state, and another algorithm than the
+/// anchor's.
+fn add_hash<W: Sink + Drop>(
+    rows: &mut RowWriter<W>,
+    asked: Asked,
+    rules: HashRules,
+    region: &[u8],
+    at: u64,
+    name: &[u8],
+    content: Content,
+) -> Result<(), WriteFault>
+    ensures { Adds W.Sink result rows.old rows.new
+        (hash_rows asked rules region.now at name.now content) }
+{
+    let (code, what) = hash_words(content.hash);
+    let verdict = Verdict::of_finding(rules.is_bad(name, content));
+    let row = verdict.row(code, what).at_component(region, at, name);
+    rows.add_if(asked.has_hash_row(rules, content), row)?;
+    let row = Verdict::Remark.row(
+        "hash-other-algorithm",
+        "hash isn't of the anchor's algorithm",
+    );
+    rows.add_if(rules.differ(content), row.at_component(region, at, name))
+}
+
+/// Adds the rows of a component: up to four of its name, metadata and type, and those of its
+/// digest.
 fn add_component<W: Sink + Drop>(
     rows: &mut RowWriter<W>,
     asked: Asked,
+    rules: HashRules,
     region: &[u8],
     finding: &RegionFinding,
 ) -> Result<(), WriteFault>
-    ensures { Adds W.Sink result rows.old rows.new (component_rows asked region.now finding.now) }
+    ensures { Adds W.Sink result rows.old rows.new
+        (component_rows asked rules region.now finding.now) }
 {
     let RegionFinding::Component {
         at,
@@ -56,20 +85,23 @@ fn add_component<W: Sink + Drop>(
     let (at, name) = (*at, name.as_slice());
     let row = Verdict::Bad.row("component-shadowed", "has the name of an earlier component");
     rows.add_if(*is_shadowed, row.at_component(region, at, name))?;
+    let what = "metadata longer than 256 bytes: firmware can't find it";
+    let row = Verdict::Bad.row("metadata-too-long", what);
+    rows.add_if(
+        is_too_long(at, *content),
+        row.at_component(region, at, name),
+    )?;
     let row = Verdict::Remark.row("component-name", "name isn't UTF-8");
     rows.add_if(!is_text(name), row.at_component(region, at, name))?;
     let row = Verdict::Remark.row("component-type", "type without a name");
     let row = row.number(u64::from(content.kind));
     let is_nameless = type_name(content.kind).is_none();
     rows.add_if(is_nameless, row.at_component(region, at, name))?;
-    let (code, what) = hash_words(content.hash);
-    let verdict = Verdict::of_finding(is_bad_hash(content.hash, asked.needs_hashes));
-    let row = verdict.row(code, what).at_component(region, at, name);
-    rows.add_if(asked.has_hash_row(content.hash), row)
+    add_hash(rows, asked, rules, region, at, name, *content)
 }
 
 fn damage_text(kind: DamageKind) -> &'static str
-    ensures { result.now ≡ of.damage_text kind }
+    ensures { result.now ≡ damage_text kind }
 {
     match kind {
         DamageKind::Offset => "damaged entry: offset",
@@ -82,7 +114,7 @@ fn damage_text(kind: DamageKind) -> &'static str
 
 /// Returns the row of a finding that isn't a component.
 fn plain_row<'a>(finding: &RegionFinding) -> Option<Row<'a>>
-    ensures { option_map seen_row result ≡ of.plain_row finding.now }
+    ensures { option_map seen_row result ≡ plain_row finding.now }
 {
     let (bad, remark) = (Verdict::Bad, Verdict::Remark);
     let row = match finding {
@@ -119,15 +151,17 @@ fn plain_row<'a>(finding: &RegionFinding) -> Option<Row<'a>>
 pub fn add_region<W: Sink + Drop>(
     rows: &mut RowWriter<W>,
     asked: Asked,
+    rules: HashRules,
     region: &[u8],
     findings: &[RegionFinding],
 ) -> Result<(), WriteFault>
-    ensures { Adds W.Sink result rows.old rows.new (region_rows asked region.now findings.now) }
+    ensures { Adds W.Sink result rows.old rows.new
+        (region_rows asked rules region.now findings.now) }
 {
     for finding in findings {
         match plain_row(finding) {
             Some(row) => rows.add(row.in_area(region))?,
-            None => add_component(rows, asked, region, finding)?,
+            None => add_component(rows, asked, rules, region, finding)?,
         }
     }
     Ok(())

@@ -10,3 +10,4 @@ pub mod Numbers
 pub mod TypeNames
 pub mod Laws
 pub mod Texts
+pub mod DamageNames

@@ -5,6 +5,7 @@
 
 mod attribute;
 mod buffer;
+mod damage_name;
 mod digest;
 mod empty_entry;
 mod flashmap;

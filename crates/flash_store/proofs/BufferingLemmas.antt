@@ -1,6 +1,6 @@
 -- Lemmas on buffered output.
-use Rattle.std.proofs.Common.{◌≡◌, ℕ, ◌+◌, ◌<◌, ◌≤◌, List, [], ◌∷◌, ◌++◌, Option, None, Some, Result, Ok, Err, IsErr, refl, sym, ap, ◌∙◌, append_assoc, append-nil, length, take, drop, subst, take-append-drop}
-use Rattle.std.proofs.KnownBytes.{Appends-trans, Appends-nil, Keeps-refl, Keeps-trans}
+use Rattle.std.proofs.Common.{◌≡◌, ℕ, List, [], ◌∷◌, ◌++◌, Option, None, Some, Result, Ok, Err, IsErr, refl, sym, ap, ◌∙◌, append_assoc, append-nil, take, subst}
+use Rattle.std.proofs.KnownBytes.{Appends-trans, Keeps-trans}
 use Rattle.std.specs.Global.{Vec}
 use Rattle.std.specs.Io.KnownBytes.{Keeps, Appends, WriteAppends, append_known}
 use Rattle.flash_store.specs.Buffering.{Sends, joined}

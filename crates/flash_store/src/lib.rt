@@ -1,6 +1,7 @@
 //! Devices and sources in files, and all names of flash_device and flash_map.
 #![tactic(auto)]
 
+mod arguments;
 mod erase_filter;
 mod file_identity;
 mod file_source;
@@ -17,6 +18,7 @@ mod stored_flash;
 mod stored_source;
 mod transfer;
 
+pub use arguments::program_words;
 pub use erase_filter::EraseFilter;
 pub use file_identity::{FileIdentity, FileKind};
 pub use file_source::FileSource;

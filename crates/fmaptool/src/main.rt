@@ -1,84 +1,33 @@
 //! Compiles a flashmap descriptor into its table, as coreboot's fmaptool does.
 #![tactic(auto)]
 
-ghost use Rattle.std.specs.Prelude.{◌≡◌, ◌≢◌};
-ghost use Rattle.std.specs.IoError.{error_kind};
+mod session;
 
-use flash_store::{FileIdentity, Output, RepeatingSink, create_output, open_beside_standard};
-use fmap_compiler::ReadText;
+use flash_store::program_words;
 pub use fmap_compiler::{Refusal, run};
-use fmd_lang::FmdFault;
-use std::env;
-use std::fs::OpenOptions;
-use std::io::{self, ErrorKind};
+use fmap_steps::{Failure, failure_of_words, read_words, status_of, steps_of};
+use session::Session;
 use std::process::ExitCode;
-use thiserror::Error;
 
-const USAGE: &str = "usage: fmaptool INPUT.fmd OUTPUT\n";
-
-/// The cause of a nonzero exit status, with its message.
-#[derive(Clone, Copy, Debug, PartialEq, Eq, Error)]
-enum Failure {
-    /// Invalid arguments.
-    #[error("bad command line")]
-    Usage,
-    /// Invalid descriptor, I/O error or allocation failure.
-    #[error("{0}")]
-    Refused(#[from] Refusal),
-}
-
-/// Returns the failure for an error of a system call: an allocation failure as such, and `other`
-/// for any other error.
-fn failure_of(fault: &io::Error, other: Failure) -> Failure
-    ensures memory { error_kind fault.now ≡ ErrorKind.OutOfMemory
-        → result ≡ Failure.Refused (Refusal.Descriptor FmdFault.Memory) }
-    ensures other { error_kind fault.now ≢ ErrorKind.OutOfMemory → result ≡ other }
-{
-    match fault.kind() {
-        ErrorKind::OutOfMemory => Failure::Refused(Refusal::Descriptor(FmdFault::Memory)),
-        _ => other,
-    }
-}
-
-/// Compiles the descriptor in a file, and writes the table to another file.
-fn compile_file(rt: &HostRuntime, input: &str, output: &str) -> Result<(), Failure> {
-    let input = open_beside_standard(rt, OpenOptions::new().read(true), input).map_err(
-        |fault| failure_of(&fault, Failure::Refused(Refusal::Read)),
-    )?;
-    let identity = input
-        .metadata()
-        .map(|metadata| FileIdentity::of(&metadata))
-        .map_err(|fault| failure_of(&fault, Failure::Refused(Refusal::Read)))?;
-    let output = create_output(rt, output, identity).map_err(|fault| failure_of(
-        &fault,
-        Failure::Refused(Refusal::Output),
-    ))?;
-    let mut reader = ReadText::new(input);
-    let mut writer = Output::new(rt.alloc(), RepeatingSink::new(output));
-    run(rt.alloc(), &mut reader, &mut writer)?;
-    writer
-        .flush()
-        .map_err(|_| Failure::Refused(Refusal::Output))
-}
-
-/// Runs the command line; prints the usage if the command line is empty.
+/// Takes the steps of the command line, up to the first failure.
 fn obey(rt: &HostRuntime) -> Result<(), Failure> {
-    let mut words = env::args(rt)
-        .map_err(|fault| failure_of(&fault, Failure::Usage))?
-        .skip(1);
-    match (words.next(), words.next(), words.next()) {
-        (None, _, _) => rt
-            .print(USAGE)
-            .map_err(|_| Failure::Refused(Refusal::Output)),
-        (Some(input), Some(output), None) => compile_file(rt, input.as_str(), output.as_str()),
-        _ => Err(Failure::Usage),
+    let words = program_words(rt).map_err(|fault| failure_of_words(&fault))?;
+    let mut texts: Vec<&str> = Vec::new(rt.alloc());
+    for word in &words {
+        texts.push(word.as_str())?;
     }
+    let invocation = read_words(texts.as_slice())?;
+    let mut session = Session::new(rt, invocation);
+    for step in steps_of(&invocation) {
+        session.take(*step)?;
+    }
+    Ok(())
 }
 
 fn main(rt: HostRuntime) -> ExitCode {
-    let Err(failure) = obey(&rt) else {
-        return ExitCode::SUCCESS;
-    };
-    let _told = eprintln!(&rt; "fmaptool: {failure}");
-    ExitCode::from(if failure == Failure::Usage { 2 } else { 1 })
+    let answer = obey(&rt);
+    if let Err(failure) = answer {
+        let _told = eprintln!(&rt; "fmaptool: {failure}");
+    }
+    ExitCode::from(status_of(answer))
 }

@@ -7,7 +7,7 @@ use Rattle.std.proofs.Math.Seq.{drop-cons}
 use Rattle.std.proofs.lemmas.List.{take_min, drop-replicate}
 use Rattle.fmd_lang.specs.Grammar.{Tree, section, Forest, none, some, names, names_of, size_of, view, views}
 use Rattle.fmd_lang.specs.declared.section.Section.TheFolds.{fold_out-Section}
-use Rattle.fmd_lang.specs.Table.{field_of, area_limit, section_area, areas_below, areas_of, IsTable, table_head, layout_fault, names_fault, table_fault}
+use Rattle.fmd_lang.specs.Table.{root_fault, field_of, area_limit, section_area, areas_below, areas_of, IsTable, table_head, layout_fault, names_fault, table_fault}
 use Rattle.fmd_lang.specs.Layout.{and_then, siblings, places_of}
 use Rattle.std.specs.List.{list_all}
 use Rattle.std.specs.Bool.{then_some}
@@ -166,7 +166,7 @@ table-is s table base size name areas = rw (view-is s) (base, size, name, rw (vi
 -- the faults before those of the areas
 pub root-sized : (s : Section) (size : Option ℕ) → names_fault (names (view s)) ≡ None → (out-Section s).size ≡ size →
     layout_fault (view s) ≡ (let areas = areas_below 0 (unwrap_or size 0) (view s) [] in
-    option_or (option_map_or (λ n. then_some (nat_eq n 0) (faults.EmptySection 0)) size (Some (faults.Ambiguous 0))) (option_or (result_err areas) (table_fault (result_unwrap_or areas []))))
+    option_or (root_fault size) (option_or (result_err areas) (table_fault (result_unwrap_or areas []))))
 unfolding layout_fault
 root-sized s size named sized =
     let given : size_of (view s) ≡ size = rw (view-is s) sized in

@@ -10,64 +10,72 @@ use Rattle.fmd_lang.specs.declared.row.Place.{Place}
 use Rattle.fmd_lang.specs.declared.fault.FmdFault.{FmdFault}
 use Rattle.fmd_lang.specs.declared.fault.FmdFault.TheVariants as faults
 
--- The end of a sibling with an omitted size before `ps`: the next explicit offset or the parent's
--- size, minus the explicit sizes before.
+-- The end of a sibling with an omitted size, by the siblings after it and the parent's size: the
+-- next explicit offset, or the parent's size, minus the explicit sizes up to there.
 abbrev pub omitted_end : ℕ → List Sibling → ℕ
 omitted_end parent [] = parent
-omitted_end parent (p ∷ ps) = unwrap_or p.offset (omitted_end parent ps - unwrap_or p.size 0)
+omitted_end parent (next ∷ later) =
+    unwrap_or next.offset (omitted_end parent later - unwrap_or next.size 0)
 
--- the place of a sibling after `from` and before `ps`
-pub record IsPlaced (parent from : ℕ) (p : Sibling) (ps : List Sibling) (q : Place) : Type 0 where
-  pub offset : q.start ≡ unwrap_or p.offset from
-  pub size : MatchOption p.size (q.start + q.size ≡ omitted_end parent ps) (λ n. q.size ≡ n)
-  pub not_empty : 0 < q.size
-  pub after : from ≤ q.start
-  pub inside : q.start + q.size ≤ parent
+-- the place of a sibling, in a parent of this size, if the sibling before it ends at `from`
+pub record IsPlaced (parent from : ℕ) (next : Sibling) (later : List Sibling) (place : Place)
+    : Type 0 where
+  pub offset : place.start ≡ unwrap_or next.offset from
+  pub size : MatchOption next.size (place.start + place.size ≡ omitted_end parent later)
+      (λ given. place.size ≡ given)
+  pub not_empty : 0 < place.size
+  pub after : from ≤ place.start
+  pub inside : place.start + place.size ≤ parent
 
 -- the places of a row, if the previous sibling ends at `from`
 abbrev pub ArePlaced : ℕ → ℕ → List Sibling → List Place → Type 0
-ArePlaced parent from [] qs = qs ≡ []
-ArePlaced parent from (p ∷ ps) [] = ⊥
-ArePlaced parent from (p ∷ ps) (q ∷ qs) =
-    IsPlaced parent from p ps q × ArePlaced parent (q.start + q.size) ps qs
+ArePlaced parent from [] places = places ≡ []
+ArePlaced parent from (next ∷ later) [] = ⊥
+ArePlaced parent from (next ∷ later) (place ∷ places) = IsPlaced parent from next later place
+    × ArePlaced parent (place.start + place.size) later places
 
--- the first sibling with the second omitted size of a run; the flag records an omitted size
+-- The first sibling whose omitted size can't be told from an earlier one: no sibling between the
+-- two has an offset. The flag tells whether there is such an earlier one.
 abbrev pub ambiguous_sibling : Bool → List Sibling → Option ℕ
 ambiguous_sibling omitted [] = None
-ambiguous_sibling omitted (p ∷ ps) = let run = omitted && is_none p.offset in
-    if run && is_none p.size then Some p.number else ambiguous_sibling (run || is_none p.size) ps
+ambiguous_sibling omitted (next ∷ later) = let run = omitted && is_none next.offset in
+    if run && is_none next.size then Some next.number
+    else ambiguous_sibling (run || is_none next.size) later
 
 -- ---- the computed places
 
 -- the result of two steps
 abbrev pub and_then : {X Y E : Type 0} → Result X E → (X → Result Y E) → Result Y E
-and_then (Ok x) step = step x
+and_then (Ok value) step = step value
 and_then (Err fault) step = Err fault
 
--- the place, or the fault
+-- the place of a sibling, or its first fault
 abbrev pub place_of : ℕ → ℕ → Sibling → List Sibling → Result Place FmdFault
-place_of parent from p ps = let start = unwrap_or p.offset from in
-    let size = unwrap_or p.size (omitted_end parent ps - start) in
-    if nat_eq size 0 then Err (faults.EmptySection p.number)
-    else (if nat_lt start from then Err (faults.Overlap p.number)
-    else (if nat_lt parent (start + size) then Err (faults.Outside p.number)
+place_of parent from next later = let start = unwrap_or next.offset from in
+    let size = unwrap_or next.size (omitted_end parent later - start) in
+    if nat_eq size 0 then Err (faults.EmptySection next.number)
+    else (if nat_lt start from then Err (faults.Overlap next.number)
+    else (if nat_lt parent (start + size) then Err (faults.Outside next.number)
     else Ok (record { start = start; size = size })))
 
--- the places of the siblings after `from`, added to `qs`
+-- the places before, then those of the siblings from `from` on, or the first fault
 abbrev pub places_from : ℕ → ℕ → List Sibling → List Place → Result (List Place) FmdFault
-places_from parent from [] qs = Ok qs
-places_from parent from (p ∷ ps) qs = and_then (place_of parent from p ps)
-    (λ q. places_from parent (q.start + q.size) ps (qs ++ q ∷ []))
+places_from parent from [] before = Ok before
+places_from parent from (next ∷ later) before = and_then (place_of parent from next later)
+    (λ place. places_from parent (place.start + place.size) later (before ++ place ∷ []))
 
 -- the places of a row, or the first fault: omitted sizes precede places
 abbrev pub places_of : ℕ → List Sibling → Result (List Place) FmdFault
-places_of parent ps = option_map_or (λ n. Err (faults.Ambiguous n)) (ambiguous_sibling false ps)
-    (places_from parent 0 ps [])
+places_of parent row =
+    option_map_or (λ number. Err (faults.Ambiguous number)) (ambiguous_sibling false row)
+    (places_from parent 0 row [])
 
--- sections as siblings, with preorder numbers from `n`
+-- a section as a sibling; the number is that in preorder
 abbrev pub sibling : ℕ → Tree → Sibling
-sibling n (section name flags offset z parts) = record { number = n; offset = offset; size = z }
+sibling number (section name flags offset size parts) =
+    record { number = number; offset = offset; size = size }
 
 abbrev pub siblings : ℕ → Forest → List Sibling
-siblings n none = []
-siblings n (some t ts) = sibling n t ∷ siblings (n + length (names t)) ts
+siblings number none = []
+siblings number (some part parts) =
+    sibling number part ∷ siblings (number + length (names part)) parts

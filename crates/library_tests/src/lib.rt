@@ -7,6 +7,8 @@ mod compiler;
 #[cfg(test)]
 mod edit;
 #[cfg(test)]
+mod failures;
+#[cfg(test)]
 mod output;
 #[cfg(test)]
 mod report;

@@ -3,9 +3,9 @@ use crate::compiler::descriptors::{TABLE, TEXT};
 use crate::edit::actions::COREBOOT;
 use crate::report::reports::request;
 use crate::rows::support::{A_AND_416, PRINT, WITH_A, board};
-use crate::support::{device_from, equal, image_with};
+use crate::support::{device_from, equal, filled, image_with, write_over};
 use cbfs_commands::{Command, Refusal};
-use check_report::{Form, Inspection, WriteFault, Written};
+use check_report::{Files, Form, Inspection, Request, WriteFault, Written};
 use flash_store::{MemSource, Output, Paged, RepeatingSink, put_all};
 use fmap_compiler::ReadText;
 use std::io::{self, ErrorKind, Write};
@@ -350,6 +350,38 @@ fn areas_at_the_border_of_a_block(rt: HostRuntime) {
     reads_area(&rt, &image, b"TWO", 131_072, 14);
 }
 
+/// The header of a component `a`, without its length.
+const HEADER: [u8; 28] = *b"LARCHIVE\0\0\0\0\0\0\0\x50\0\0\0\0\0\0\0\x1ca\0\0\0";
+
+/// Checks the extraction of a content, and returns the number of calls of the writer.
+fn extracts_content(rt: &(impl Abort + AllocGlobal), content: &[u8]) -> u32 {
+    let mut header = HEADER;
+    write_over(
+        &mut header,
+        8,
+        &(content.len().min(0xffff_ffff) as u32).to_be_bytes(),
+    );
+    let image = image_with(rt, 0x30000, &SIZES, 0x1000, &[(0, &header), (28, content)]);
+    let command = Command::Extract {
+        region: b"TWO",
+        name: b"a",
+    };
+    let many = Manner {
+        piece: 10_000,
+        ..GOOD
+    };
+    runs_at_each_call(rt, &image, &command, content, many)
+}
+
+#[test]
+fn contents_at_the_border_of_a_block(rt: HostRuntime) {
+    let bytes = text(&rt, 0x20000);
+    for (len, calls) in [(65_535, 7), (65_536, 7), (65_537, 8)] {
+        let content = bytes.get(..len).expect(&rt, "a content");
+        equal(&rt, &extracts_content(&rt, content), &calls);
+    }
+}
+
 fn compiles_once(rt: &(impl Abort + AllocGlobal), manner: Manner) -> bool {
     let mut out = output(rt, &TABLE, manner, false);
     let answer = fmap_compiler::run(rt.alloc(), &mut ReadText::new(TEXT), &mut out);
@@ -391,4 +423,60 @@ fn a_report(rt: HostRuntime) {
         }
     }
     equal(&rt, &false, &true);
+}
+
+/// A JSON report without rows: the bytes before and after the image's path.
+const BEFORE_PATH: &[u8] = b"{\"format\":1,\"image\":\"";
+
+const AFTER_PATH: &[u8] = b"\",\"rows\":[],\"bad\":0,\"remarks\":0,\"changes\":0}\n";
+
+/// Returns the report of `len` bytes on an image with a long path.
+fn report_of(rt: &(impl Abort + AllocGlobal), len: usize) -> Vec<u8> {
+    let mut text = filled(rt, b'p', len);
+    write_over(&mut text, 0, BEFORE_PATH);
+    write_over(&mut text, len.saturating_sub(AFTER_PATH.len()), AFTER_PATH);
+    text
+}
+
+fn reports_text(rt: &(impl Abort + AllocGlobal), text: &[u8], manner: Manner) -> bool {
+    let end = text.len().saturating_sub(AFTER_PATH.len());
+    let path = text.get(BEFORE_PATH.len()..end).unwrap_or(&[]);
+    let inspection = Inspection {
+        findings: Vec::new(rt.alloc()),
+        changes: None,
+    };
+    let request = Request {
+        files: Files {
+            image: std::str::from_utf8(path).unwrap_or(""),
+            old: None,
+        },
+        ..request(&[], Form::Json)
+    };
+    let out = output(rt, text, manner, false);
+    let Written { out, is_bad } = inspection.write(rt.alloc(), request, out);
+    equal(rt, &(is_bad == Err(WriteFault::Memory)), &false);
+    ends(rt, is_bad.is_ok(), out)
+}
+
+/// Checks a report with a failure at each call of the writer, and returns the number of calls.
+fn reports_at_each_call(rt: &(impl Abort + AllocGlobal), text: &[u8]) -> u32 {
+    for left in 0..100 {
+        let manner = Manner {
+            piece: 10_000,
+            left,
+            ..GOOD
+        };
+        if !reports_text(rt, text, manner) {
+            return left;
+        }
+    }
+    100
+}
+
+#[test]
+fn reports_at_the_border_of_a_block(rt: HostRuntime) {
+    for (len, calls) in [(65_535, 7), (65_536, 7), (65_537, 8), (131_072, 14)] {
+        let text = report_of(&rt, len);
+        equal(&rt, &reports_at_each_call(&rt, &text), &calls);
+    }
 }

@@ -115,6 +115,12 @@ pub fn took_all(writer: WriteSink<Short<'_>>) -> bool {
     rest.is_empty() && !differs
 }
 
+/// Returns whether all received bytes were expected, and whether they were all expected bytes.
+pub fn took_part(writer: WriteSink<Short<'_>>) -> (bool, bool) {
+    let Short { rest, differs, .. } = writer.into_inner();
+    (!differs, rest.is_empty())
+}
+
 pub fn has_all(rt: &impl Abort, writer: WriteSink<Short<'_>>) {
     assert!(rt; took_all(writer));
 }

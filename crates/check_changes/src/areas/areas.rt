@@ -75,7 +75,8 @@ fn push_changes<F: Flash, G: Flash>(
     requires { holders.now.lens ≡ lengths images.old }
 
     ensures after { HasCompared
-        (8 * (lengths images.old).new / 4096 + length holders.now.pairs.now) images.old images.new result }
+        (8 * (lengths images.old).new / 4096 + length holders.now.pairs.now)
+        images.old images.new result }
     ensures changes { OnBoth images.old (λ x y. Gains changes.old changes.new result
         (area_changes_in x y holders.now.pairs.now (8 * length y) holders.now.pairs.now)) }
 {

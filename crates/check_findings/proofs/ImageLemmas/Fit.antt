@@ -4,7 +4,7 @@ use Rattle.std.proofs.Common.{◌==◌}
 use Rattle.check_findings.specs.Lists.{only_if}
 use Rattle.std.proofs.Common.{arith, ◌≡◌, ℕ, ◌+◌, Bool, true, false, cond, List, [], ◌∷◌, Some, None, Contains, All, length, refl, sym, ap, ◌∙◌}
 use Rattle.std.specs.List.{list_any}
-use Rattle.std.proofs.lemmas.Bool.{false≢true, or_parts}
+use Rattle.std.proofs.lemmas.Bool.{false≢true, ltb-false, or_parts}
 use Rattle.std.proofs.lemmas.List.Elements.{All-nil, All-cons, All-contains}
 use Rattle.std.proofs.lemmas.List.Folds.{list_any_at}
 use Rattle.flash_format.specs.Head.{head_of, is_free}
@@ -30,56 +30,73 @@ use Rattle.check_findings.proofs.MapLemmas.Sound.{none_of}
 use Rattle.check_findings.proofs.RegionLemmas.Shadows.{unshadowed_found}
 use Rattle.check_findings.proofs.RegionLemmas.Tails.{none_filled}
 use Rattle.check_findings.specs.Laws.{IsWhole}
-use Rattle.check_findings.specs.Verdicts.{is_bad_region}
+use Rattle.check_findings.specs.Verdicts.{changes_later, is_bad_region, is_too_long, rules_of}
+use Rattle.check_findings.specs.RegionFindings.{component_content}
+use Rattle.check_findings.specs.declared.image.verdict.HashRules.{HashRules}
+use Rattle.cbfs_anchor.specs.Metadata.{longest_metadata, metadata_len}
+use Rattle.cbfs_anchor.specs.declared.anchor.Anchor.{Anchor}
+use Rattle.std.proofs.Common.{Option, ◌≤◌}
+use Rattle.std.specs.Prelude.{nat_lt}
 
 -- a bad finding makes the list bad
-bad_among : (needs : Bool) (all : List RegionFinding) (finding : RegionFinding) → Contains all finding → is_bad_region needs finding ≡ true → list_any (is_bad_region needs) all ≡ true
-bad_among needs all finding has bad = list_any_at (is_bad_region needs) all has.0 finding has.1 (ap (is_bad_region needs) has.2 ∙ bad)
+bad_among : (rules : HashRules) (all : List RegionFinding) (finding : RegionFinding) → Contains all finding → is_bad_region rules finding ≡ true → list_any (is_bad_region rules) all ≡ true
+bad_among rules all finding has bad = list_any_at (is_bad_region rules) all has.0 finding has.1 (ap (is_bad_region rules) has.2 ∙ bad)
 
--- the component's digest, if any, matches
-abbrev IsIntact : Component → Type 0
-IsIntact c = (stored : Digest) → hash_state c.attributes c.content ≢ Invalid stored
+-- the component's digest, if any, matches, if its content doesn't change later; the firmware finds it
+abbrev IsIntact : Option Anchor → Component → Type 0
+IsIntact anchor c = ((stored : Digest) → changes_later anchor c.name ≡ false → hash_state c.attributes c.content ≢ Invalid stored) × (metadata_len c ≤ longest_metadata)
 
-good_shape : (needs : Bool) (size absent : Bool) (rest : List RegionFinding)
-    → list_any (is_bad_region needs) (option_map_or shape_findings (cond size (Some faults.RegionShape) (cond absent (Some faults.NotCbfs) None)) rest) ≡ false
-    → (cond size (Some faults.RegionShape) (cond absent (Some faults.NotCbfs) None) ≡ None) × (list_any (is_bad_region needs) rest ≡ false)
-good_shape needs size absent rest fit = grind (arith, common_steps, fit)
+not_long : (at len : ℕ) → nat_lt 256 ((at + len) - at) ≡ false → len ≤ 256
+not_long at len short = omega (arith, ltb-false 256 ((at + len) - at) short)
 
-intact_cell : (needs : Bool) (at : ℕ) (x : List ℕ) (others : List Component) (free : Bool)
-    → list_any (is_bad_region needs) (cond free (only_if ((head_of x).kind == 0) (findings.Deleted at)) (component_finding false (component_at at x) ∷ [])) ≡ false → All IsIntact others
-    → All IsIntact (cond free others (component_at at x ∷ others))
-intact_cell needs at x others true fit rest = rest
-intact_cell needs at x others false fit rest = All-cons IsIntact (component_at at x) others (λ stored is. grind (arith, common_steps, is, fit)) rest
+good_shape : (rules : HashRules) (size absent : Bool) (rest : List RegionFinding)
+    → list_any (is_bad_region rules) (option_map_or shape_findings (cond size (Some faults.RegionShape) (cond absent (Some faults.NotCbfs) None)) rest) ≡ false
+    → (cond size (Some faults.RegionShape) (cond absent (Some faults.NotCbfs) None) ≡ None) × (list_any (is_bad_region rules) rest ≡ false)
+good_shape rules size absent rest fit = grind (arith, common_steps, fit)
 
-intact : (needs : Bool) (at : ℕ) (cells : List (List ℕ)) → list_any (is_bad_region needs) (cells_findings at cells) ≡ false → All IsIntact (components_from at cells)
+intact_component : (rules : HashRules) (c : Component) → list_any (is_bad_region rules) (component_finding false c ∷ []) ≡ false → IsIntact rules.anchor c
+intact_component rules c fit =
+    let parts = or_parts (is_too_long c.at (component_content c)) _ (or_parts _ false fit).0 in
+    (λ stored fixed is. grind (arith, common_steps, is, fixed, parts.1), not_long c.at (metadata_len c) parts.0)
+
+intact_cell : (rules : HashRules) (at : ℕ) (x : List ℕ) (others : List Component) (free : Bool)
+    → list_any (is_bad_region rules) (cond free (only_if ((head_of x).kind == 0) (findings.Deleted at)) (component_finding false (component_at at x) ∷ [])) ≡ false → All (IsIntact rules.anchor) others
+    → All (IsIntact rules.anchor) (cond free others (component_at at x ∷ others))
+intact_cell rules at x others true fit rest = rest
+intact_cell rules at x others false fit rest = All-cons (IsIntact rules.anchor) (component_at at x) others (intact_component rules (component_at at x) fit) rest
+
+intact : (rules : HashRules) (at : ℕ) (cells : List (List ℕ)) → list_any (is_bad_region rules) (cells_findings at cells) ≡ false → All (IsIntact rules.anchor) (components_from at cells)
 unfolding cells_findings components_from
-intact needs at [] fit = All-nil IsIntact
-intact needs at (x ∷ cells) fit =
-    let parts = none_of (is_bad_region needs) (cell_findings at x) _ fit in
-    intact_cell needs at x (components_from (at + length x) cells) (is_free (head_of x)) parts.0 (intact needs (at + length x) cells parts.1)
+intact rules at [] fit = All-nil (IsIntact rules.anchor)
+intact rules at (x ∷ cells) fit =
+    let parts = none_of (is_bad_region rules) (cell_findings at x) _ fit in
+    intact_cell rules at x (components_from (at + length x) cells) (is_free (head_of x)) parts.0 (intact rules (at + length x) cells parts.1)
 
 -- a mark makes no finding good
-bad_marked : (needs : Bool) (earlier : List RegionFinding) (f : RegionFinding) → is_bad_region needs (marked earlier f) ≡ false → is_bad_region needs f ≡ false
-bad_marked needs earlier (findings.Component at name is content) fit = grind (arith, common_steps, fit)
-bad_marked needs earlier other fit = fit
+bad_marked : (rules : HashRules) (earlier : List RegionFinding) (f : RegionFinding) → is_bad_region rules (marked earlier f) ≡ false → is_bad_region rules f ≡ false
+bad_marked rules earlier (findings.Component at name is content) fit = grind (arith, common_steps, fit)
+bad_marked rules earlier other fit = fit
 
-none_bad : (needs : Bool) (earlier all : List RegionFinding) → list_any (is_bad_region needs) (all_marked earlier all) ≡ false → list_any (is_bad_region needs) all ≡ false
+none_bad : (rules : HashRules) (earlier all : List RegionFinding) → list_any (is_bad_region rules) (all_marked earlier all) ≡ false → list_any (is_bad_region rules) all ≡ false
 unfolding all_marked
-none_bad needs earlier [] fit = fit
-none_bad needs earlier (f ∷ all) fit =
-    let parts = or_parts (is_bad_region needs (marked earlier f)) _ fit in
-    rw (bad_marked needs earlier f parts.0) (none_bad needs (f ∷ earlier) all parts.1)
+none_bad rules earlier [] fit = fit
+none_bad rules earlier (f ∷ all) fit =
+    let parts = or_parts (is_bad_region rules (marked earlier f)) _ fit in
+    rw (bad_marked rules earlier f parts.0) (none_bad rules (f ∷ earlier) all parts.1)
 
 -- a region without bad findings is whole
-pub fit_region : (needs : Bool) (x : List ℕ) → list_any (is_bad_region needs) (region_findings x) ≡ false → IsWhole x
+pub fit_region : (needs : Bool) (anchor : Option Anchor) (x : List ℕ) → list_any (is_bad_region (rules_of needs anchor)) (region_findings x) ≡ false → IsWhole anchor x
 unfolding all_marked region_findings walk_findings tail_findings
-fit_region needs x fit =
-    let all = good_shape needs (has_bad_size (length x)) (not (is_some (front x))) _ (none_bad needs [] (walk_findings x) fit) in
-    let parts = none_of (is_bad_region needs) (cells_findings 0 (cut x).cells) _ all.1 in
+fit_region needs anchor x fit =
+    let rules = rules_of needs anchor in
+    let all = good_shape rules (has_bad_size (length x)) (not (is_some (front x))) _ (none_bad rules [] (walk_findings x) fit) in
+    let parts = none_of (is_bad_region rules) (cells_findings 0 (cut x).cells) _ all.1 in
+    let each = λ (c : Component) (listed : Contains (components x) c). All-contains (IsIntact anchor) (components x) c (intact rules 0 (cut x).cells parts.0) listed in
     record {
       shaped = all.0;
       undamaged = λ kind is. false≢true (sym (rw is at parts.1));
-      intact = λ c stored listed. All-contains IsIntact (components x) c (intact needs 0 (cut x).cells parts.0) listed stored;
+      intact = λ c stored listed. (each c listed).0 stored;
+      short = λ c listed. (each c listed).1;
       blank = λ is. let at = place_after 0 (cut x).cells in let fit = rw is at parts.1 in none_filled at (slice_range x at (length x - 4)) (grind (arith, common_steps, fit));
-      found = λ c listed. unshadowed_found x c all.0 listed (λ there. false≢true (sym fit ∙ bad_among needs _ _ there refl));
+      found = λ c listed. unshadowed_found x c all.0 listed (λ there. false≢true (sym fit ∙ bad_among rules _ _ there refl));
     }

@@ -22,14 +22,16 @@ use Rattle.check_findings.specs.MapFindings.{findings_of, map_findings}
 use Rattle.check_findings.specs.Areas.{area_end, has_name, image_areas, map_areas}
 use Rattle.check_findings.proofs.MapLemmas.Sound.{named, none_of}
 use Rattle.check_findings.specs.declared.image.finding.ImageFinding.{ImageFinding}
-use Rattle.check_findings.specs.declared.image.finding.ImageFinding.TheVariants.{Map, NotChecked}
+use Rattle.check_findings.specs.declared.image.finding.ImageFinding.TheVariants.{Anchor as OfAnchor, Map, NotChecked}
+use Rattle.check_findings.specs.declared.anchor.finding.AnchorFinding.{AnchorFinding}
 use Rattle.check_findings.specs.RegionFindings.{region_findings}
-use Rattle.check_findings.specs.ImageFindings.{areas_findings, has_smaller, bytes_of, has_one_of, image_findings, is_wanted, left_after, range_of}
+use Rattle.check_findings.specs.ImageFindings.{areas_findings, has_smaller, bytes_of, covering, has_one_of, image_findings, is_wanted, left_after, range_of}
 use Rattle.check_findings.specs.Laws.{InFitImages, IsFit}
 use Rattle.check_findings.specs.ImageFindings.{region_areas}
-use Rattle.check_findings.specs.Verdicts.{is_bad, is_bad_map, is_bad_region}
+use Rattle.check_findings.specs.Verdicts.{is_bad, is_bad_anchor, is_bad_map, is_bad_region, rules_of}
 use Rattle.check_findings.proofs.ImageLemmas.Fit.{fit_region}
-use Rattle.check_findings.proofs.ImageLemmas.Regions.{regions_of}
+use Rattle.check_findings.proofs.ImageLemmas.Regions.{head_findings, regions_of}
+use Rattle.check_findings.specs.Anchors.{anchor_findings, image_anchor}
 
 -- ---- a name finds its first area
 
@@ -62,22 +64,22 @@ fit_areas image (Some map) found fit =
 -- without bad findings, the checked areas are fit
 module _ (needs : Bool) (image : List ℕ) (expects : NumberedArea → Bool) where
   fit_areas_of : (left : ℕ) (areas : List NumberedArea) → All (λ (a : NumberedArea). region_of image (text_of a.area.name) ≡ Ok (range_of a)) areas
-      → list_any (is_bad needs) (areas_findings image expects left areas) ≡ false → All (IsFit image) (region_areas (areas_findings image expects left areas))
+      → list_any (is_bad needs) (areas_findings image (image_anchor image) expects left areas) ≡ false → All (IsFit image) (region_areas (areas_findings image (image_anchor image) expects left areas))
   fit_areas_of left [] each fit = All-nil (IsFit image)
   fit_areas_of left (a ∷ areas) each fit =
       let Is : NumberedArea → Type 0 = λ b. region_of image (text_of b.area.name) ≡ Ok (range_of b) in
       go (nat_le a.area.size left) (All-head Is a areas each) fit (fit_areas_of (left_after left a) areas (All-tail Is a areas each))
     where
       rest : List ImageFinding
-      rest = areas_findings image expects (left_after left a) areas
+      rest = areas_findings image (image_anchor image) expects (left_after left a) areas
 
-      go : (checked : Bool) → region_of image (text_of a.area.name) ≡ Ok (range_of a) → list_any (is_bad needs) (cond checked (Region a (region_findings (bytes_of image a))) (NotChecked a (expects a)) ∷ rest) ≡ false
-          → (list_any (is_bad needs) rest ≡ false → All (IsFit image) (region_areas rest)) → All (IsFit image) (region_areas (cond checked (Region a (region_findings (bytes_of image a))) (NotChecked a (expects a)) ∷ rest))
+      go : (checked : Bool) → region_of image (text_of a.area.name) ≡ Ok (range_of a) → list_any (is_bad needs) (cond checked (Region a (covering (image_anchor image) a) (region_findings (bytes_of image a))) (NotChecked a (expects a)) ∷ rest) ≡ false
+          → (list_any (is_bad needs) rest ≡ false → All (IsFit image) (region_areas rest)) → All (IsFit image) (region_areas (cond checked (Region a (covering (image_anchor image) a) (region_findings (bytes_of image a))) (NotChecked a (expects a)) ∷ rest))
       go false is fit later = later (or_parts (expects a) _ fit).1
       go true is fit later =
           let x = bytes_of image a in
-          let good = or_parts (list_any (is_bad_region needs) (region_findings x)) _ fit in
-          All-cons (IsFit image) a (region_areas rest) (is, fit_region needs x good.0) (later good.1)
+          let good = or_parts (list_any (is_bad_region (rules_of needs (covering (image_anchor image) a))) (region_findings x)) _ fit in
+          All-cons (IsFit image) a (region_areas rest) (is, fit_region needs (covering (image_anchor image) a) x good.0) (later good.1)
 
 -- ---- the image
 
@@ -91,10 +93,29 @@ fit_image needs image names expected fit =
     let all = has_one_of (names ++ codes "COREBOOT" ∷ expected) in
     let areas = image_areas image in
     let wanted = is_wanted image all (has_smaller areas) in
-    let regions = areas_findings image all (2 * length image) (filter wanted areas) in
-    let parts = none_of (is_bad needs) (map Map (map_findings image) ++ regions) _ fit in
-    let both = none_of (is_bad needs) (map Map (map_findings image)) regions parts.0 in
-    let each = All-filter wanted (IsReached image) areas (fit_areas image (found_in image) refl (sym (maps_bad needs (map_findings image)) ∙ both.0)) in
+    let regions = areas_findings image (image_anchor image) all (2 * length image) (filter wanted areas) in
+    let head = head_findings (map_findings image) (anchor_findings image) in
+    let parts = none_of (is_bad needs) (head ++ regions) _ fit in
+    let both = none_of (is_bad needs) head regions parts.0 in
+    let first = none_of (is_bad needs) (map Map (map_findings image)) _ both.0 in
+    let each = All-filter wanted (IsReached image) areas (fit_areas image (found_in image) refl (sym (maps_bad needs (map_findings image)) ∙ first.0)) in
     let reach : All (λ (a : NumberedArea). region_of image (text_of a.area.name) ≡ Ok (range_of a)) (filter wanted areas) = λ k d lt. each k d lt (leb-true _ (length image) (and_parts _ _ (filter_passes wanted areas k d lt)).0) in
-    subst (All (IsFit image)) (sym (regions_of (map_findings image) areas names _ regions _ _ refl refl refl))
+    subst (All (IsFit image)) (sym (regions_of (map_findings image) (anchor_findings image) areas names _ regions _ _ refl refl refl))
     (fit_areas_of needs image all (2 * length image) (filter wanted areas) reach both.1)
+
+-- ---- the anchor
+
+anchors_bad : (needs : Bool) (all : List AnchorFinding) → list_any (is_bad needs) (map OfAnchor all) ≡ list_any is_bad_anchor all
+anchors_bad needs [] = refl
+anchors_bad needs (finding ∷ all) = ap (λ b. is_bad_anchor finding || b) (anchors_bad needs all)
+
+pub fit_anchor : (needs : Bool) (image : List ℕ) (names expected : List (List ℕ)) → list_any (is_bad needs) (image_findings image names expected) ≡ false
+    → list_any is_bad_anchor (anchor_findings image) ≡ false
+unfolding image_findings
+fit_anchor needs image names expected fit =
+    let all = has_one_of (names ++ codes "COREBOOT" ∷ expected) in
+    let regions = areas_findings image (image_anchor image) all (2 * length image) (filter (is_wanted image all (has_smaller (image_areas image))) (image_areas image)) in
+    let head = head_findings (map_findings image) (anchor_findings image) in
+    let parts = none_of (is_bad needs) (head ++ regions) _ fit in
+    let both = none_of (is_bad needs) head regions parts.0 in
+    sym (anchors_bad needs (anchor_findings image)) ∙ (none_of (is_bad needs) (map Map (map_findings image)) _ both.0).1

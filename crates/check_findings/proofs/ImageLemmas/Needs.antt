@@ -25,7 +25,8 @@ use Rattle.std.specs.Prelude.{not}
 use Rattle.std.specs.Prelude.{IsOkAnd, IsSomeAnd}
 use Rattle.std.specs.List.{find}
 use Rattle.check_findings.specs.Areas.{has_name}
-use Rattle.check_findings.specs.ImageFindings.{areas_findings, bytes_of, has_one_of, image_findings, left_after, missing_name, wanted_areas}
+use Rattle.check_findings.specs.Anchors.{anchor_findings, image_anchor}
+use Rattle.check_findings.specs.ImageFindings.{areas_findings, bytes_of, covering, has_one_of, image_findings, left_after, missing_name, wanted_areas}
 use Rattle.check_findings.specs.ImageFindings.{region_areas}
 use Rattle.check_findings.specs.MapFindings.{map_findings}
 use Rattle.check_findings.specs.Areas.{image_areas}
@@ -37,7 +38,7 @@ use Rattle.check_findings.specs.declared.region.finding.Content.{Content}
 use Rattle.check_findings.specs.declared.region.finding.RegionFinding.{RegionFinding}
 use Rattle.check_findings.specs.declared.region.finding.RegionFinding.TheVariants.{Component as OfComponent}
 use Rattle.check_findings.proofs.RegionLemmas.Parts.{Part, IsIn, cell_part, end_part, of_end}
-use Rattle.check_findings.proofs.ImageLemmas.Regions.{no_map_areas, no_name_areas, regions_of}
+use Rattle.check_findings.proofs.ImageLemmas.Regions.{head_findings, no_head_areas, no_name_areas, regions_of}
 
 -- a search in the first checked area of the name finds the component at the position
 abbrev IsMet : List ℕ → List NumberedArea → Need → Type 0
@@ -113,15 +114,15 @@ module _ (image : List ℕ) (need : Need) where
 
   -- the first area with the name meets the need
   met_in : (expects : NumberedArea → Bool) (last : List ImageFinding) → unmet last need ≡ Some Missing → (left : ℕ) (areas : List NumberedArea)
-      → unmet (areas_findings image expects left areas ++ last) need ≡ None → IsMet image (region_areas (areas_findings image expects left areas)) need
+      → unmet (areas_findings image (image_anchor image) expects left areas ++ last) need ≡ None → IsMet image (region_areas (areas_findings image (image_anchor image) expects left areas)) need
   met_in expects last missing left [] none = absurd cc
   met_in expects last missing left (a ∷ areas) none = go (nat_le a.area.size left) (is_area need.area.now a.area) refl none (met_in expects last missing (left_after left a) areas)
     where
       rest : List ImageFinding
-      rest = areas_findings image expects (left_after left a) areas
+      rest = areas_findings image (image_anchor image) expects (left_after left a) areas
 
-      go : (checked named : Bool) → is_area need.area.now a.area ≡ named → unmet (cond checked (Region a (region_findings (bytes_of image a))) (NotChecked a (expects a)) ∷ (rest ++ last)) need ≡ None
-          → (unmet (rest ++ last) need ≡ None → IsMet image (region_areas rest) need) → IsMet image (region_areas (cond checked (Region a (region_findings (bytes_of image a))) (NotChecked a (expects a)) ∷ rest)) need
+      go : (checked named : Bool) → is_area need.area.now a.area ≡ named → unmet (cond checked (Region a (covering (image_anchor image) a) (region_findings (bytes_of image a))) (NotChecked a (expects a)) ∷ (rest ++ last)) need ≡ None
+          → (unmet (rest ++ last) need ≡ None → IsMet image (region_areas rest) need) → IsMet image (region_areas (cond checked (Region a (covering (image_anchor image) a) (region_findings (bytes_of image a))) (NotChecked a (expects a)) ∷ rest)) need
       go false named is e later = later e
       go true true is e later = met_here a (region_areas rest) (first_content need.name.now (region_findings (bytes_of image a))) is refl (rw is at e)
       go true false is e later = rw is (later (rw is at e))
@@ -129,7 +130,7 @@ module _ (image : List ℕ) (need : Need) where
 -- findings without a region meet no need
 passed : (l rest : List ImageFinding) (need : Need) → region_areas l ≡ [] → unmet (l ++ rest) need ≡ unmet rest need
 passed [] rest need none = refl
-passed (Region a findings ∷ l) rest need none = absurd cc
+passed (Region a anchor findings ∷ l) rest need none = absurd cc
 passed (other ∷ l) rest need none = passed l rest need none
 
 pub needs_met : (image : List ℕ) (names expected : List (List ℕ)) (need : Need) → let all = image_findings image names expected in unmet all need ≡ None → IsMet image (region_areas all) need
@@ -138,8 +139,8 @@ needs_met image names expected need none =
     let all = has_one_of (names ++ codes "COREBOOT" ∷ expected) in
     let areas = image_areas image in
     let last = flat_map (missing_name areas) (enumerate_from 0 names) in
-    let regions = areas_findings image all (2 * length image) (wanted_areas image all areas) in
-    let found = map Map (map_findings image) in
-    subst (λ l. IsMet image l need) (sym (regions_of (map_findings image) areas names _ regions _ _ refl refl refl))
+    let regions = areas_findings image (image_anchor image) all (2 * length image) (wanted_areas image all areas) in
+    let found = head_findings (map_findings image) (anchor_findings image) in
+    subst (λ l. IsMet image l need) (sym (regions_of (map_findings image) (anchor_findings image) areas names _ regions _ _ refl refl refl))
     (met_in image need all last (ap (λ l. unmet l need) (sym (append-nil last)) ∙ passed last [] need (no_name_areas areas (enumerate_from 0 names))) (2 * length image) (wanted_areas image all areas)
-    (sym (ap (λ l. unmet l need) (append_assoc found regions last) ∙ passed found (regions ++ last) need (no_map_areas (map_findings image))) ∙ none))
+    (sym (ap (λ l. unmet l need) (append_assoc found regions last) ∙ passed found (regions ++ last) need (no_head_areas (map_findings image) (anchor_findings image))) ∙ none))

@@ -1,9 +1,11 @@
 //! Findings of an image.
 
+use crate::anchor::AnchorFinding;
 use crate::areas::NumberedArea;
 use crate::lists::Elements;
 use crate::map::MapFinding;
 use crate::region::RegionFinding;
+use cbfs_anchor::Anchor;
 
 /// The findings of a region.
 pub type RegionFindings = Elements<RegionFinding>;
@@ -12,9 +14,12 @@ pub type RegionFindings = Elements<RegionFinding>;
 #[derive(Drop)]
 pub enum ImageFinding {
     Map(MapFinding),
+    Anchor(AnchorFinding),
     /// An area that was checked as a CBFS region.
     Region {
         area: NumberedArea,
+        /// The image's anchor, if it has a digest of the region's metadata.
+        anchor: Option<Anchor>,
         findings: RegionFindings,
     },
     /// With it, the checked areas would exceed the limit. `is_named`: the name is expected.

@@ -4,8 +4,9 @@ ghost use Rattle.std.specs.Prelude.{length, map, IfOk, nat_le, if◌then◌else�
 ghost use Rattle.flash_format.specs.Flashmap.{area_len};
 ghost use Rattle.flash_map.specs.Fmap.{found_in};
 ghost use Rattle.flash_device.specs.Pages.{OnHonest, Returns, Lists, HasReadBy};
+ghost use Rattle.check_findings.specs.Anchors.{image_anchor};
 ghost use Rattle.check_findings.specs.Areas.{area_end, image_areas};
-ghost use Rattle.check_findings.specs.declared.image.finding.ImageFinding.TheVariants.{Map};
+ghost use Rattle.check_findings.specs.declared.image.finding.ImageFinding.TheVariants.{Anchor as OfAnchor, Map};
 ghost use Rattle.check_findings.specs.Faults.{by_device};
 ghost use Rattle.check_findings.specs.ImageFindings as of;
 ghost use Rattle.check_findings.specs.ImageFindings.{image_findings};
@@ -14,6 +15,7 @@ ghost use Rattle.check_findings.specs.ImageFindings.{AreChecked, region_area, re
 ghost use Rattle.check_findings.specs.Lists.{GivesPart};
 ghost use Rattle.flash_device.specs.Device.{call_limit};
 
+use crate::anchor::{AnchorFinding, check_anchor};
 use crate::areas::NumberedArea;
 use crate::fault::CheckFault;
 use crate::image::choice::wanted_areas;
@@ -21,6 +23,7 @@ use crate::image::finding::{ImageFinding, RegionFindings};
 use crate::image::names::{NameSet, push_missing};
 use crate::map::{MapFinding, check_map};
 use crate::region::check_region;
+use cbfs_anchor::Anchor;
 use flash_device::{Flash, Paged};
 use flash_map::{FoundMap, Region};
 use std::alloc::{AllocError, Global};
@@ -29,24 +32,36 @@ use std::hash::RandomState;
 /// The limit of checked bytes, in image lengths.
 const MAX_IMAGES: u64 = 2;
 
+/// Returns the anchor, if it has a digest of the area's metadata: the area is COREBOOT.
+fn covering(anchor: Option<Anchor>, area: &NumberedArea) -> Option<Anchor>
+    ensures { result ≡ of.covering anchor area.now }
+{
+    if area.area.name_is(b"COREBOOT") {
+        anchor
+    } else {
+        None
+    }
+}
+
 /// Checks an area of at most `left` bytes, and subtracts its size.
 fn area_finding<F: Flash>(
     alloc: Global,
     keys: RandomState,
     paged: &mut Paged<F>,
     expected: &NameSet,
+    anchor: Option<Anchor>,
     area: NumberedArea,
     left: &mut u64,
 ) -> Result<ImageFinding, CheckFault>
     requires { area_end area.area ≤ length paged.old.device.content }
 
     ensures after { HasReadBy by_device
-        ((left.old - left.new) / 16 + 2) paged.old paged.new result }
+        ((left.old - left.new) / 12 + 2) paged.old paged.new result }
     ensures left { left.new ≡ left_after left.old area }
     ensures area { IfOk result (λ finding. region_area finding
         ≡ (if nat_le area.area.size left.old then area ∷ [] else [])) }
     ensures found { OnHonest paged.old.device (λ image.
-        Returns result (of.area_finding image (is_named_in expected.now) left.old area)) }
+        Returns result (of.area_finding image anchor (is_named_in expected.now) left.old area)) }
 {
     let start = u64::from(area.area.offset);
     let size = u64::from(area.area.size);
@@ -55,7 +70,12 @@ fn area_finding<F: Flash>(
         Some(region) if size <= *left => {
             *left -= size;
             let findings = RegionFindings::new(check_region(alloc, keys, paged, region)?);
-            Ok(ImageFinding::Region { area, findings })
+            let anchor = covering(anchor, &area);
+            Ok(ImageFinding::Region {
+                area,
+                anchor,
+                findings,
+            })
         }
         _ => Ok(ImageFinding::NotChecked { area, is_named }),
     }
@@ -66,6 +86,7 @@ fn areas_findings<F: Flash>(
     keys: RandomState,
     paged: &mut Paged<F>,
     expected: &NameSet,
+    anchor: Option<Anchor>,
     areas: &[NumberedArea],
 ) -> Result<Vec<ImageFinding>, CheckFault>
     requires { All (λ a. area_end a.area ≤ length paged.old.device.content) areas.now }
@@ -75,12 +96,12 @@ fn areas_findings<F: Flash>(
     ensures checked { IfOk result (λ all. AreChecked (length paged.old.device.content)
         (length areas.now) 0 (region_areas all.items)) }
     ensures found { OnHonest paged.old.device (λ image. Lists result
-        (of.areas_findings image (is_named_in expected.now) (2 * length image) areas.now)) }
+        (of.areas_findings image anchor (is_named_in expected.now) (2 * length image) areas.now)) }
 {
     let mut left = MAX_IMAGES * paged.len();
     let mut findings = Vec::new(alloc);
     for area in areas {
-        let finding = area_finding(alloc, keys, paged, expected, *area, &mut left)?;
+        let finding = area_finding(alloc, keys, paged, expected, anchor, *area, &mut left)?;
         findings.push(finding)?;
     }
     Ok(findings)
@@ -93,17 +114,25 @@ fn map_part(alloc: Global, found: &[MapFinding]) -> Result<Vec<ImageFinding>, Al
     findings.collect(alloc)
 }
 
-/// An image's findings, map and areas.
+fn anchor_part(alloc: Global, found: &[AnchorFinding]) -> Result<Vec<ImageFinding>, AllocError>
+    ensures { Lists result (map OfAnchor found.now) }
+{
+    let findings = found.iter().map(|finding| ImageFinding::Anchor(*finding));
+    findings.collect(alloc)
+}
+
+/// An image's findings, map, areas and anchor.
 #[derive(Drop)]
 pub struct CheckedImage {
     pub found: Option<FoundMap>,
     /// All areas, in map order; empty without a map.
     pub areas: Vec<NumberedArea>,
+    pub anchor: Option<Anchor>,
     pub findings: Vec<ImageFinding>,
 }
 
-/// Returns the findings of an image: of its map, its checked areas in map order, and each of
-/// `names` without an area.
+/// Returns the findings of an image: of its map, its anchor, its checked areas in map order, and
+/// each of `names` without an area.
 ///
 /// An area inside the image is checked if its name is in `names` or `expected` or is `COREBOOT`, or
 /// if it is the smallest area at its offset that begins with an entry. An area isn't checked if the
@@ -129,17 +158,22 @@ pub fn check_image<F: Flash>(
         (λ image. image_findings image (names_in names.now) (names_in expected.now)) }
     ensures found { GivesPart paged.old result (λ checked. checked.found) found_in }
     ensures areas { GivesPart paged.old result (λ checked. checked.areas.items) image_areas }
+    ensures anchor { GivesPart paged.old result (λ checked. checked.anchor) image_anchor }
 {
     let map = check_map(alloc, paged)?;
+    let anchor = check_anchor(alloc, paged, map.found)?;
     let mut findings = map_part(alloc, &map.findings)?;
+    let mut anchors = anchor_part(alloc, &anchor.findings)?;
+    findings.append(&mut anchors)?;
     let set = NameSet::of(alloc, names, expected)?;
     let wanted = wanted_areas(alloc, paged, &set, &map.areas)?;
-    let mut regions = areas_findings(alloc, keys, paged, &set, &wanted)?;
+    let mut regions = areas_findings(alloc, keys, paged, &set, anchor.anchor, &wanted)?;
     findings.append(&mut regions)?;
     push_missing(alloc, &mut findings, names, &map.areas)?;
     Ok(CheckedImage {
         found: map.found,
         areas: map.areas,
+        anchor: anchor.anchor,
         findings,
     })
 }

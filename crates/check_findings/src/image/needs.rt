@@ -66,7 +66,7 @@ pub fn unmet(findings: &[ImageFinding], need: Need<'_>) -> Option<NeedFinding>
     ensures { result ≡ needs.unmet findings.now need.entry }
 {
     for finding in findings {
-        if let ImageFinding::Region { area, findings } = finding {
+        if let ImageFinding::Region { area, findings, .. } = finding {
             if area.area.name_is(need.area) {
                 return match first_content(findings.as_slice(), need.name) {
                     None => Some(NeedFinding::Missing),

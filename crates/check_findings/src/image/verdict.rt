@@ -2,15 +2,95 @@
 ghost use Rattle.std.specs.Prelude.{◌≡◌};
 ghost use Rattle.check_findings.specs.Verdicts as verdicts;
 
-use crate::region::HashFinding;
+use crate::region::{Content, HashFinding};
+use cbfs_anchor::{Algorithm, Anchor, StoredHash, has_hash_of};
 
-/// Returns whether a component with this digest is bad.
-pub fn is_bad_hash(hash: HashFinding, needs_hashes: bool) -> bool
-    ensures { result ≡ verdicts.is_bad_hash needs_hashes hash }
+/// The maximum number of bytes before a content.
+const LONGEST_METADATA: u64 = 256;
+
+/// Returns whether the firmware can't find a component with this content, because more than 256
+/// bytes precede it.
+pub fn is_too_long(at: u64, content: Content) -> bool
+    ensures { result ≡ verdicts.is_too_long at content }
 {
-    match hash {
-        HashFinding::Invalid(_) => true,
-        HashFinding::Missing | HashFinding::Unsupported => needs_hashes,
-        HashFinding::Valid(_) => false,
+    content.start.saturating_sub(at) > LONGEST_METADATA
+}
+
+/// Returns whether only the firmware loads components of this type: stages, payloads and fsp.
+fn is_firmware(kind: u32) -> bool
+    ensures { result ≡ verdicts.is_firmware kind }
+{
+    matches!(kind, 0x10 | 0x11 | 0x20 | 0x21 | 0x60)
+}
+
+/// Returns whether the firmware needs no digest of this type: bootblock or cbfs header.
+fn is_exempt(kind: u32) -> bool
+    ensures { result ≡ verdicts.is_exempt kind }
+{
+    kind == 1 || kind == 2
+}
+
+/// Returns whether a hash attribute has a digest of an anchor's algorithm.
+fn has_digest(stored: Option<StoredHash>) -> bool
+    ensures { result ≡ verdicts.has_digest stored }
+{
+    let Some(hash) = stored else {
+        return false;
+    };
+    match Algorithm::numbered(hash.number) {
+        Some(algorithm) => algorithm.digest_len() <= hash.len as usize,
+        None => false,
+    }
+}
+
+/// The requirements of a region for the digests of its components.
+#[derive(Clone, Copy)]
+pub struct HashRules {
+    /// Each component has a digest.
+    pub needs_all: bool,
+    /// The image's anchor, if it has a digest of the region's metadata.
+    pub anchor: Option<Anchor>,
+}
+
+impl HashRules {
+    /// Returns whether a component's digest is bad.
+    pub fn is_bad(self, name: &[u8], content: Content) -> bool
+        ensures { result ≡ verdicts.is_bad_hash self name.now content }
+    {
+        match content.hash {
+            HashFinding::Invalid(_) => !(self.anchor.is_some() && name == b"intel_fit".as_slice()),
+            HashFinding::Missing | HashFinding::Unsupported => {
+                self.needs_all || self.refuses(content)
+            }
+            HashFinding::Valid(_) => false,
+        }
+    }
+
+    /// Returns whether the firmware refuses to load a component, because it has no digest.
+    fn refuses(self, content: Content) -> bool
+        ensures { result ≡ verdicts.refuses self content }
+    {
+        self.anchor.is_some() && (is_firmware(content.kind) && !has_digest(content.stored))
+    }
+
+    /// Returns whether a component needs a digest: each one on request, and under an anchor each
+    /// one except the types bootblock and cbfs header.
+    pub fn need(self, content: Content) -> bool
+        ensures { result ≡ verdicts.needs_hash self content }
+    {
+        self.needs_all || (self.anchor.is_some() && !is_exempt(content.kind))
+    }
+
+    /// Returns whether a component under an anchor has a hash attribute, but no digest of the
+    /// anchor's algorithm.
+    pub fn differ(self, content: Content) -> bool
+        ensures { result ≡ verdicts.has_other_hash self content }
+    {
+        match self.anchor {
+            Some(anchor) => {
+                content.stored.is_some() && !has_hash_of(anchor.algorithm, content.stored)
+            }
+            None => false,
+        }
     }
 }

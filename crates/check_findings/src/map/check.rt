@@ -1,8 +1,8 @@
 //! The check of a flash map.
 
-ghost use Rattle.std.specs.Prelude.{◌+◌, ◌*◌, ◌/◌, ◌≤◌, length, IfOk};
+ghost use Rattle.std.specs.Prelude.{◌+◌, ◌*◌, ◌/◌, ◌≤◌, length, IfOk, IfSome};
 ghost use Rattle.flash_format.specs.Flashmap.{area_len};
-ghost use Rattle.flash_map.specs.Fmap.{found_in};
+ghost use Rattle.flash_map.specs.Fmap.{found_in, map_end};
 ghost use Rattle.flash_device.specs.Pages.{HasReadBy};
 ghost use Rattle.check_findings.specs.Faults.{by_device};
 ghost use Rattle.check_findings.specs.Lists.{GivesPart};
@@ -31,6 +31,8 @@ pub struct CheckedMap {
 pub fn check_map<F: Flash>(alloc: Global, paged: &mut Paged<F>) -> Result<CheckedMap, CheckFault>
     ensures after { HasReadBy by_device (length paged.old.device.content
         + length paged.old.device.content / area_len + 16) paged.old paged.new result }
+    ensures inside { IfOk result (λ map.
+        IfSome map.found (λ found. map_end found ≤ length paged.old.device.content)) }
     ensures fits { IfOk result (λ map.
         area_len * length map.areas.items ≤ length paged.old.device.content) }
     ensures found { GivesPart paged.old result (λ map. map.found) found_in }

@@ -15,6 +15,7 @@ use crate::region::count::Count;
 use crate::region::finding::{Content, HashFinding, Name, RegionFinding};
 use crate::region::shadows::mark_shadowed;
 use crate::region::tail::push_tail;
+use cbfs_anchor::first_hash;
 use cbfs_walk::{
     Cell, Step, Walk, WalkFault, cells_stand_in_their_image, check_hash, name, packing,
 };
@@ -32,7 +33,7 @@ fn push_cell<F: Flash>(
 ) -> Result<(), CheckFault>
     requires { IsCellOn IsCellIn region cell.now paged.old.device }
 
-    ensures after { HasReadBy by_device (3 + cell.now.span / 1920) paged.old paged.new result }
+    ensures after { HasReadBy by_device (4 + cell.now.span / 1280) paged.old paged.new result }
     ensures found { OnHonestIn paged.old.device region (λ x. StandsIn x cell.now → Gains
         findings.old findings.new result (cell_findings cell.now.at (cell_in x cell.now))) }
 {
@@ -44,6 +45,7 @@ fn push_cell<F: Flash>(
     let mut field = [0; 256];
     let len = name(paged, region, cell, &mut field)?;
     let compression = packing(paged, region, cell)?;
+    let stored = first_hash(paged, region, cell)?;
     let state = check_hash(paged, region, cell)?;
     let content = Content {
         start: cell.at + u64::from(cell.head.offset),
@@ -51,6 +53,7 @@ fn push_cell<F: Flash>(
         len: cell.head.len,
         compression,
         hash: HashFinding::of(state),
+        stored,
     };
     Ok(findings.push(RegionFinding::Component {
         at: cell.at,
@@ -68,7 +71,7 @@ fn walk_region<F: Flash>(
 ) -> Result<Vec<RegionFinding>, CheckFault>
     requires { LiesOn region paged.old.device }
 
-    ensures after { HasReadBy by_device (region.size / 16 + 2) paged.old paged.new result }
+    ensures after { HasReadBy by_device (region.size / 12 + 2) paged.old paged.new result }
     ensures findings { OnHonestIn paged.old.device region (λ x. Lists result (walk_findings x)) }
 {
     let mut findings = Vec::new(alloc);
@@ -116,7 +119,7 @@ pub fn check_region<F: Flash>(
     requires { LiesOn region paged.old.device }
 
     // On any device.
-    ensures after { HasReadBy by_device (region.size / 16 + 2) paged.old paged.new result }
+    ensures after { HasReadBy by_device (region.size / 12 + 2) paged.old paged.new result }
 
     // On an honest device.
     ensures findings { OnHonestIn paged.old.device region (λ x. Lists result (region_findings x)) }

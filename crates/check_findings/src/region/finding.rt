@@ -3,6 +3,7 @@ ghost use Rattle.std.specs.Prelude.{◌≡◌};
 ghost use Rattle.check_findings.specs.RegionFindings.{hash_finding};
 ghost use Rattle.flash_device.specs.Pages.{Returns};
 
+use cbfs_anchor::StoredHash;
 use cbfs_walk::HashState;
 use flash_format::{Algorithm, DamageKind};
 use smallvec::SmallVec;
@@ -111,6 +112,8 @@ pub struct Content {
     /// The first compression attribute, or 0 without one.
     pub compression: u32,
     pub hash: HashFinding,
+    /// The first hash attribute.
+    pub stored: Option<StoredHash>,
 }
 
 /// A finding of a region. Each `at` is an offset in the region, in bytes. `BadSize` and `NotCbfs`

@@ -1,7 +1,8 @@
 //! A report, printed line by line.
-ghost use Rattle.std.specs.Prelude.{◌≡◌, ◌∷◌, [], None, false};
+ghost use Rattle.std.specs.Prelude.{◌≡◌, ◌∷◌, [], None, OnErr, false};
 ghost use lib.Chars.{codes};
 ghost use Rattle.json.specs.Token.{begin_array, end_array, key};
+ghost use Rattle.flash_device.specs.Device.{AppendsPart};
 ghost use Rattle.check_report.specs.Fields.{seen_line};
 ghost use Rattle.check_report.specs.Reports.{ending, first_fields, part, start_tokens};
 ghost use Rattle.check_report.specs.Effects.{Prints, PrintsLines};
@@ -75,8 +76,10 @@ impl<W: Sink + Drop> Printer<W> {
     }
 
     pub fn end(&mut self, counts: Counts) -> Result<(), WriteFault>
-        ensures { Prints W.Sink result self.old self.new
+        ensures prints { Prints W.Sink result self.old self.new
             (ending self.old.form counts) self.old.follows }
+        ensures part { OnErr result (AppendsPart (W.contents self.old.out)
+            (W.contents self.new.out) (ending self.old.form counts)) }
     {
         let end = match self.form {
             Form::Text => summary(self.alloc, counts)?,
@@ -86,7 +89,9 @@ impl<W: Sink + Drop> Printer<W> {
     }
 
     fn put(&mut self, part: &[u8]) -> Result<(), WriteFault>
-        ensures { Prints W.Sink result self.old self.new part.now self.old.follows }
+        ensures prints { Prints W.Sink result self.old self.new part.now self.old.follows }
+        ensures part { OnErr result
+            (AppendsPart (W.contents self.old.out) (W.contents self.new.out) part.now) }
     {
         put_all(&mut self.out, part)?;
         Ok(())

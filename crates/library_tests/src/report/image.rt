@@ -1,9 +1,25 @@
 //! Bad findings.
 use crate::support::equal;
-use check_findings::{HashFinding, is_bad_hash};
+use check_findings::{Content, HashFinding, HashRules};
 
 #[test]
 fn findings_that_are_bad(rt: HostRuntime) {
-    equal(&rt, &is_bad_hash(HashFinding::Missing, true), &true);
-    equal(&rt, &is_bad_hash(HashFinding::Missing, false), &false);
+    let content = Content {
+        start: 28,
+        kind: 0x50,
+        len: 1,
+        compression: 0,
+        hash: HashFinding::Missing,
+        stored: None,
+    };
+    let rules = HashRules {
+        needs_all: true,
+        anchor: None,
+    };
+    equal(&rt, &rules.is_bad(b"a", content), &true);
+    let rules = HashRules {
+        needs_all: false,
+        anchor: None,
+    };
+    equal(&rt, &rules.is_bad(b"a", content), &false);
 }

@@ -42,7 +42,8 @@ fn told_between(
     count(region_changes(rt.alloc(), keys(rt), images, &AREAS, &checked.findings))
 }
 
-/// Checks the result within `old` and `new` calls. The check of the new image makes eight calls.
+/// Checks the result within `old` and `new` calls. The check of the new image makes eight calls,
+/// and the last one reads another page than that of the first area.
 fn changes_after(
     rt: &(impl Abort + AllocGlobal + RandomSource),
     old: u64,
@@ -65,8 +66,8 @@ fn regions_that_stay(rt: HostRuntime) {
 #[test]
 fn images_on_devices_that_refuse_a_read(rt: HostRuntime) {
     changes_after(&rt, 0, 8, Err(ChangeFault::OldDevice));
-    changes_after(&rt, 1, 8, Err(ChangeFault::OldDevice));
-    changes_after(&rt, 2, 8, Err(ChangeFault::NewDevice));
+    changes_after(&rt, 1, 8, Err(ChangeFault::NewDevice));
     changes_after(&rt, 1, 9, Err(ChangeFault::OldDevice));
-    changes_after(&rt, 2, 9, Ok(2));
+    changes_after(&rt, 2, 9, Err(ChangeFault::NewDevice));
+    changes_after(&rt, 2, 10, Ok(2));
 }

@@ -1,5 +1,5 @@
 //! Reports on failing devices.
-use crate::report::support::{image, keys};
+use crate::report::support::{ONE, image, keys};
 use crate::support::{ALL, Failing, FailingImages, equal};
 use check_report::{
     Asked, Files, Form, Images, Inspection, ReportFault, Request, inspect_change, inspect_image,
@@ -69,4 +69,64 @@ fn refuses_change(
 fn devices_that_refuse_a_read(rt: HostRuntime) {
     refuses_change(&rt, 0, ALL, ReportFault::OldDevice);
     refuses_change(&rt, ALL, 0, ReportFault::NewDevice);
+}
+
+// ---- a failure at each read
+
+/// Returns true if the reads of both images suffice.
+fn ends(
+    rt: &(impl Abort + AllocGlobal + RandomSource),
+    old_calls: u64,
+    new_calls: u64,
+    fault: ReportFault,
+) -> bool {
+    let mut images = Images {
+        old_image: image(rt, &ONE, old_calls),
+        new_image: image(rt, &ONE, new_calls),
+    };
+    let fault_of_change = of_change(rt, &mut images).err();
+    drop(images);
+    equal(rt, &fault_of_change.unwrap_or(fault), &fault);
+    fault_of_change.is_none()
+}
+
+/// Returns the number of reads of the old image that suffice.
+fn old_reads(rt: &(impl Abort + AllocGlobal + RandomSource)) -> u64 {
+    for calls in 0..100 {
+        if ends(rt, calls, ALL, ReportFault::OldDevice) {
+            return calls;
+        }
+    }
+    100
+}
+
+/// Returns the number of reads of the new image that suffice.
+fn new_reads(rt: &(impl Abort + AllocGlobal + RandomSource)) -> u64 {
+    for calls in 0..100 {
+        if ends(rt, ALL, calls, ReportFault::NewDevice) {
+            return calls;
+        }
+    }
+    100
+}
+
+/// Returns the number of reads that suffice for a check of one image.
+fn reads(rt: &(impl Abort + AllocGlobal + RandomSource)) -> u64 {
+    for calls in 0..100 {
+        let mut paged = image(rt, &ONE, calls);
+        let fault = of_image(rt, &mut paged).err();
+        drop(paged);
+        if fault.is_none() {
+            return calls;
+        }
+        equal(rt, &fault, &Some(ReportFault::NewDevice));
+    }
+    100
+}
+
+#[test]
+fn a_report_on_a_device_that_fails_at_each_read(rt: HostRuntime) {
+    equal(&rt, &reads(&rt), &7);
+    equal(&rt, &old_reads(&rt), &7);
+    equal(&rt, &new_reads(&rt), &12);
 }

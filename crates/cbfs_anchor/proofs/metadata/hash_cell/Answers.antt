@@ -1,4 +1,4 @@
-use Rattle.std.proofs.Common.{[], sym, subst, ◌∙◌, drop}
+use Rattle.std.proofs.Common.{[], sym, subst, ◌∙◌, drop, rules}
 use Rattle.std.proofs.lemmas.List.{append-nil}
 use Rattle.flash_format.specs.Entry.{name_end}
 use Rattle.flash_device.specs.Regions.{bytes_in}
@@ -25,3 +25,9 @@ returns-else-cell-le-LONGEST_METADATA-clause-hashed g c = λ h stands message ho
   subst (Holds c.args.hasher.now) (sym (append-nil message)) holds,
   cell_too_long c.args.demand c.args.algorithm (bytes_in c.args.region c.args.paged.now.device.content) c.args.region.size c.args.cell.now (record { checks = c.requires.cell.checks; used = sym c.if-is_free.ensures }) stands (sym c.in_default.is ∙ c.in_ok-fault.ensures.fault h stands) c.if-cell-le-LONGEST_METADATA.false,
 )
+
+pub returns-then-is_free-clause-hashed : goal.returns-then-is_free-clause-hashed
+returns-then-is_free-clause-hashed g c = search rules
+
+pub hash_terminated-requires-clause-short : goal.hash_terminated-requires-clause-short
+hash_terminated-requires-clause-short g c = search rules

@@ -6,7 +6,7 @@ use Rattle.flash_device.proofs.DeviceLemmas.{honest_still}
 use Rattle.flash_format.specs.Made.{meta_length}
 use Rattle.cbfs_edit.specs.Additions.{new_component}
 use Rattle.cbfs_edit.specs.declared.place.Wanted.{Wanted}
-use Rattle.cbfs_edit.proofs.Changes.{copied-fault, copy-counts, copy-done, copy-outside, copy-torn}
+use Rattle.cbfs_edit.proofs.Changes.{copy-counts, copy-done, copy-outside, copy-torn}
 use Rattle.cbfs_edit.proofs.AdditionLemmas.{own-is, no_fault, digest-sized, searched, addition_refused, empty_left, copied_left, shown_left, shown_done}
 use Rattle.cbfs_edit.proofs.addition.add.Goals as goal
 
@@ -52,7 +52,7 @@ returns-in_err-digest-clause-after g c =
     let outside = copy-outside c.args.region c.in_ok-place.place.content _ _ _ source _ (ap (λ n. n + c.in_ok-place.place.content) c.start.ensures) (omega (arith, c.in_ok-place.ensures.found.inside, c.in_ok-place.ensures.found.run.inside, ap (λ (w : Wanted). w.len) is)) _ c.copy_content.ensures.after in
     let counts = copy-counts c.in_err-digest.field-0.0 in
     let told = err_from_is_err_and c.from_residual-in_err-digest.result c.from_residual-in_err-digest.ensures.1 in
-    rw (told.1, copied-fault _ _ told.2) (search rules)
+    rw (told.1, told.2) (search rules)
 
 pub returns-in_err-digest-clause-effect : goal.returns-in_err-digest-clause-effect
 returns-in_err-digest-clause-effect g c honest =
@@ -64,7 +64,7 @@ returns-in_err-digest-clause-effect g c honest =
     let first = honest_still c.find_place.ensures.after.device.calls.same_honesty honest in
     let second = honest_still c.write_empty_entry.ensures.after.calls.same_honesty first in
     let told = err_from_is_err_and c.from_residual-in_err-digest.result c.from_residual-in_err-digest.ensures.1 in
-    rw (told.1, copied-fault _ _ told.2) (copied_left c.args.region c.args.paged.now.device make c.args.spot source _ c.in_ok-place.place c.requires is c.ranges.kind.fits (digest-sized c.args.hash source.content) found _ _ (c.find_place.ensures.after.device.unchanged honest) c.write_empty_entry.ensures.after.calls.same_length _ c.copy_content.ensures.after.calls.same_length (c.in_ok-write_empty_entry.ensures.written first) (copy-torn c.args.region c.in_ok-place.place.content _ _ _ source _ (ap (λ n. n + c.in_ok-place.place.content) c.start.ensures) (omega (arith, c.in_ok-place.ensures.found.inside, c.in_ok-place.ensures.found.run.inside, ap (λ (w : Wanted). w.len) is)) _ c.copy_content.ensures.after second) c.in_err-digest.field-0.0)
+    rw (told.1, told.2) (copied_left c.args.region c.args.paged.now.device make c.args.spot source _ c.in_ok-place.place c.requires is c.ranges.kind.fits (digest-sized c.args.hash source.content) found _ _ (c.find_place.ensures.after.device.unchanged honest) c.write_empty_entry.ensures.after.calls.same_length _ c.copy_content.ensures.after.calls.same_length (c.in_ok-write_empty_entry.ensures.written first) (copy-torn c.args.region c.in_ok-place.place.content _ _ _ source _ (ap (λ n. n + c.in_ok-place.place.content) c.start.ensures) (omega (arith, c.in_ok-place.ensures.found.inside, c.in_ok-place.ensures.found.run.inside, ap (λ (w : Wanted). w.len) is)) _ c.copy_content.ensures.after second) c.in_err-digest.field-0.0)
 
 pub describe-requires-clause-metadata : goal.describe-requires-clause-metadata
 describe-requires-clause-metadata g c =

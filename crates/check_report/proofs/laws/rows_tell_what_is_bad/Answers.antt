@@ -1,6 +1,7 @@
 -- A row is bad if its finding is bad.
-use Rattle.std.proofs.Common.{◌≡◌, ◌∙◌, ℕ, zero, List, [], ◌∷◌, ◌++◌, refl}
-use Rattle.std.specs.Prelude.{Bool, true, false, None, is_none, not}
+use Rattle.std.proofs.Common.{◌≡◌, ◌∙◌, ℕ, zero, ◌==◌, List, [], ◌∷◌, ◌++◌, refl, ap, eqb-true}
+use Rattle.std.proofs.lemmas.Bool.{and_parts, false≢true}
+use Rattle.std.specs.Prelude.{Bool, true, false, None, is_none, is_some, not, ◌&&◌, ◌||◌, if◌then◌else◌}
 use Rattle.std.specs.Borrow.{Bor}
 use Rattle.std.specs.List.{flat_map, list_any}
 use Rattle.std.specs.Option.{option_map_or}
@@ -17,12 +18,19 @@ use Rattle.check_findings.specs.declared.region.finding.RegionFinding.TheVariant
 use Rattle.check_findings.specs.declared.map.finding.MapFinding.{MapFinding}
 use Rattle.check_findings.specs.declared.map.finding.MapFinding.TheVariants as of_map
 use Rattle.check_findings.specs.declared.image.finding.ImageFinding.{ImageFinding}
-use Rattle.check_findings.specs.declared.image.finding.ImageFinding.TheVariants.{Map, Region, NotChecked}
-use Rattle.check_findings.specs.Verdicts.{is_bad, is_bad_hash, is_bad_map, is_bad_region}
+use Rattle.check_findings.specs.declared.image.finding.ImageFinding.TheVariants.{Anchor as OfAnchor, Map, Region, NotChecked}
+use Rattle.check_findings.specs.Verdicts.{has_other_hash, is_bad, is_bad_anchor, is_bad_hash, is_bad_map, is_bad_region, is_bad_state, is_exempt, is_firmware, is_too_long, needs_hash, refuses, rules_of}
+use Rattle.check_findings.specs.declared.anchor.finding.AnchorFinding.{AnchorFinding}
+use Rattle.check_findings.specs.declared.anchor.finding.AnchorFinding.TheVariants as of_anchor
+use Rattle.check_findings.specs.declared.anchor.finding.Bootblock.TheVariants as bootblocks
+use Rattle.check_findings.specs.declared.image.verdict.HashRules.{HashRules}
+use Rattle.check_report.specs.AnchorRows.{anchor_row, at_spot, in_bootblock, metadata_row, map_row as digest_map_row}
+use Rattle.check_findings.specs.declared.anchor.finding.AnchorSpot.{AnchorSpot}
+use Rattle.check_findings.specs.declared.anchor.finding.Bootblock.{Bootblock}
 use Rattle.check_findings.specs.Lists.{only_if}
-use Rattle.check_report.specs.Rows.{SeenRow, at_component, in_area}
-use Rattle.check_report.specs.FindingRows.{component_rows, has_hash_row, hash_row, map_row, plain_row, rows_of}
-use Rattle.check_report.specs.declared.rows.row.Verdict.TheVariants.{Bad}
+use Rattle.check_report.specs.Rows.{SeenRow, at_component, in_area, row, row_of, with_number}
+use Rattle.check_report.specs.FindingRows.{component_rows, has_hash_row, has_state_row, hash_row, hash_rows, map_row, plain_row, rows_of}
+use Rattle.check_report.specs.declared.rows.row.Verdict.TheVariants.{Bad, Remark}
 use Rattle.check_report.specs.Rows.{area_name, has_verdict}
 use Rattle.check_report.proofs.HiddenRows.{bad_after}
 use Rattle.check_report.proofs.laws.rows_tell_what_is_bad.Goals as goal
@@ -36,39 +44,110 @@ bad_map : (f : MapFinding) → list_any (has_verdict Bad) (map_row f ∷ []) ≡
 bad_map (of_map.MapAreaMisses None) = refl
 bad_map _ = refl
 
-bad_hash : (asked : Asked) (region : List ℕ) (at : ℕ) (name : List ℕ) (hash : HashFinding) (verbose needs : Bool)
-    → let a : Asked = record asked { is_verbose = verbose; needs_hashes = needs } in
-    list_any (has_verdict Bad) (only_if (has_hash_row a hash) (at_component region at name (hash_row a hash))) ≡ is_bad_hash needs hash
-bad_hash asked region at name hashes.Missing true true = refl
-bad_hash asked region at name hashes.Missing false true = refl
-bad_hash asked region at name hashes.Unsupported verbose true = refl
-bad_hash asked region at name _ _ _ = refl
+-- a place changes no verdict
+bad_in : (bootblock : Bootblock) (r : SeenRow) → has_verdict Bad (in_bootblock bootblock r) ≡ has_verdict Bad r
+bad_in bootblocks.Area r = refl
+bad_in bootblocks.Component r = refl
+
+bad_at : (spot : AnchorSpot) (r : SeenRow) → list_any (has_verdict Bad) (at_spot spot r ∷ []) ≡ list_any (has_verdict Bad) (r ∷ [])
+bad_at spot r = ap (λ b. b || false) (bad_in spot.bootblock r)
+
+bad_anchor : (f : AnchorFinding) → list_any (has_verdict Bad) (anchor_row f ∷ []) ≡ is_bad_anchor f
+bad_anchor (of_anchor.Metadata spot algorithm true) = bad_at spot (metadata_row algorithm true)
+bad_anchor (of_anchor.Metadata spot algorithm false) = bad_at spot (metadata_row algorithm false)
+bad_anchor (of_anchor.FlashMap spot algorithm true) = bad_at spot (digest_map_row algorithm true)
+bad_anchor (of_anchor.FlashMap spot algorithm false) = bad_at spot (digest_map_row algorithm false)
+bad_anchor (of_anchor.NotChecked spot) = bad_at spot (row Bad "anchor-not-checked" "anchor isn't checked: COREBOOT is damaged")
+bad_anchor (of_anchor.UnknownAlgorithm bootblock) = ap (λ b. b || false) (bad_in bootblock (row Bad "anchor-unknown-algorithm" "anchor with an unknown algorithm"))
+bad_anchor (of_anchor.CutOff bootblock) = ap (λ b. b || false) (bad_in bootblock (row Bad "anchor-cut-off" "anchor is cut off"))
+
+-- ---- digests
+
+-- the types that only the firmware loads are not exempt
+not_exempt : (kind : ℕ) → is_firmware kind ≡ true → is_exempt kind ≡ false
+not_exempt kind loaded = go (kind == 1) (kind == 2) refl refl
+  where
+    go : (first second : Bool) → (kind == 1) ≡ first → (kind == 2) ≡ second → (first || second) ≡ false
+    go true second e f = absurd (false≢true (rw (eqb-true kind 1 e) at loaded))
+    go false true e f = absurd (false≢true (rw (eqb-true kind 2 f) at loaded))
+    go false false e f = refl
+
+or_true : (b : Bool) → (b || true) ≡ true
+or_true true = refl
+or_true false = refl
+
+-- a component without a digest that the firmware refuses to load needs one
+refused_needed : (rules : HashRules) (c : Content) → (rules.needs_all || refuses rules c) ≡ true → needs_hash rules c ≡ true
+refused_needed rules c bad = go rules.needs_all bad
+  where
+    go : (needs : Bool) → (needs || refuses rules c) ≡ true → (needs || (is_some rules.anchor && not (is_exempt c.kind))) ≡ true
+    go true is = refl
+    go false is =
+        let parts = and_parts (is_some rules.anchor) _ is in
+        rw (parts.0, not_exempt c.kind (and_parts (is_firmware c.kind) _ parts.1).0) refl
+
+-- a bad digest has a row
+bad_shown : (asked : Asked) (rules : HashRules) (name : List ℕ) (c : Content) (h : HashFinding) → is_bad_state rules name c h ≡ true → has_state_row asked rules c h ≡ true
+bad_shown asked rules name c hashes.Missing bad = rw (refused_needed rules c bad) (or_true asked.is_verbose)
+bad_shown asked rules name c (hashes.Valid algorithm) bad = refl
+bad_shown asked rules name c (hashes.Invalid algorithm) bad = refl
+bad_shown asked rules name c hashes.Unsupported bad = refl
+
+shown_bad : (region : List ℕ) (at : ℕ) (name code what : List ℕ) (shown bad : Bool) → (bad ≡ true → shown ≡ true)
+    → list_any (has_verdict Bad) (only_if shown (at_component region at name (row_of (if bad then Bad else Remark) code what))) ≡ bad
+shown_bad region at name code what true true each = refl
+shown_bad region at name code what true false each = refl
+shown_bad region at name code what false true each = absurd (false≢true (each refl))
+shown_bad region at name code what false false each = refl
+
+bad_hash : (asked : Asked) (rules : HashRules) (region : List ℕ) (at : ℕ) (name : List ℕ) (content : Content)
+    → list_any (has_verdict Bad) (hash_rows asked rules region at name content) ≡ is_bad_hash rules name content
+bad_hash asked rules region at name content =
+    list_any-append (has_verdict Bad) (only_if (has_hash_row asked rules content) (at_component region at name (hash_row rules name content))) _
+    ∙ rw (shown_bad region at name _ _ (has_hash_row asked rules content) (is_bad_hash rules name content) (bad_shown asked rules name content content.hash)) (go (is_bad_hash rules name content) (has_other_hash rules content))
+  where
+    go : (bad other : Bool) → (bad || list_any (has_verdict Bad) (only_if other (at_component region at name (row Remark "hash-other-algorithm" "hash isn't of the anchor's algorithm")))) ≡ bad
+    go true other = refl
+    go false true = refl
+    go false false = refl
 
 -- a remark or none before other rows
 no_bad : (b : Bool) (row : SeenRow) (rest : List SeenRow) → has_verdict Bad row ≡ false → list_any (has_verdict Bad) (only_if b row ++ rest) ≡ list_any (has_verdict Bad) rest
 no_bad true row rest is = rw is refl
 no_bad false row rest is = refl
 
-bad_component : (asked : Asked) (region : List ℕ) (at : ℕ) (name : List ℕ) (shadowed : Bool) (content : Content)
-    → list_any (has_verdict Bad) (component_rows asked region (of_region.Component at name shadowed content)) ≡ is_bad_region asked.needs_hashes (of_region.Component at name shadowed content)
-bad_component asked region at name true content = refl
-bad_component asked region at name false content =
-    no_bad (not (is_utf8 name)) _ _ refl
-    ∙ no_bad (is_none (name_of_type content.kind)) _ _ refl
-    ∙ bad_hash asked region at name content.hash asked.is_verbose asked.needs_hashes
+bad_component : (asked : Asked) (rules : HashRules) (region : List ℕ) (at : ℕ) (name : List ℕ) (shadowed : Bool) (content : Content)
+    → list_any (has_verdict Bad) (component_rows asked rules region (of_region.Component at name shadowed content)) ≡ is_bad_region rules (of_region.Component at name shadowed content)
+bad_component asked rules region at name true content = refl
+bad_component asked rules region at name false content = go (is_too_long at content)
+  where
+    rest : List SeenRow
+    rest = only_if (not (is_utf8 name)) (at_component region at name (row Remark "component-name" "name isn't UTF-8"))
+        ++ (only_if (is_none (name_of_type content.kind)) (at_component region at name (with_number content.kind (row Remark "component-type" "type without a name")))
+        ++ hash_rows asked rules region at name content)
 
-abbrev rows_in : Asked → List ℕ → RegionFinding → List SeenRow
-rows_in asked area f = option_map_or (λ row. in_area area row ∷ []) (plain_row f) (component_rows asked area f)
+    go : (long : Bool) → list_any (has_verdict Bad) (only_if long (at_component region at name (row Bad "metadata-too-long" "metadata longer than 256 bytes: firmware can't find it")) ++ rest) ≡ (long || is_bad_hash rules name content)
+    go true = refl
+    go false =
+        no_bad (not (is_utf8 name)) _ _ refl
+        ∙ no_bad (is_none (name_of_type content.kind)) _ _ refl
+        ∙ bad_hash asked rules region at name content
 
-bad_region : (asked : Asked) (region : List ℕ) (f : RegionFinding) → list_any (has_verdict Bad) (rows_in asked region f) ≡ is_bad_region asked.needs_hashes f
-bad_region asked region (of_region.Component at name shadowed content) = bad_component asked region at name shadowed content
-bad_region asked region (of_region.Components zero) = refl
-bad_region asked region (of_region.LargestContent None) = refl
-bad_region asked region _ = refl
+abbrev rows_in : Asked → HashRules → List ℕ → RegionFinding → List SeenRow
+rows_in asked rules area f = option_map_or (λ row. in_area area row ∷ []) (plain_row f) (component_rows asked rules area f)
+
+bad_region : (asked : Asked) (rules : HashRules) (region : List ℕ) (f : RegionFinding) → list_any (has_verdict Bad) (rows_in asked rules region f) ≡ is_bad_region rules f
+bad_region asked rules region (of_region.Component at name shadowed content) = bad_component asked rules region at name shadowed content
+bad_region asked rules region (of_region.Components zero) = refl
+bad_region asked rules region (of_region.LargestContent None) = refl
+bad_region asked rules region _ = refl
 
 bad_finding : (asked : Asked) (names : List (Bor (List ℕ))) (f : ImageFinding) → list_any (has_verdict Bad) (rows_of asked names f) ≡ is_bad asked.needs_hashes f
 bad_finding asked names (Map f) = bad_map f
-bad_finding asked names (Region a findings) = bad_rows (rows_in asked (area_name a)) (is_bad_region asked.needs_hashes) (bad_region asked (area_name a)) findings
+bad_finding asked names (OfAnchor f) = bad_anchor f
+bad_finding asked names (Region a anchor findings) =
+    let rules = rules_of asked.needs_hashes anchor in
+    bad_rows (rows_in asked rules (area_name a)) (is_bad_region rules) (bad_region asked rules (area_name a)) findings
 bad_finding asked names (NotChecked a true) = refl
 bad_finding asked names _ = refl
 

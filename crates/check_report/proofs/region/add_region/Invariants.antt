@@ -5,4 +5,4 @@ use Rattle.check_report.proofs.region.add_region.Given as goal
 
 abbrev pub invariant-loop-finding : goal.invariant-loop-finding
 invariant-loop-finding g l = Adds g.W.Sink (Ok tt) l.initial.rows l.rows
-    (region_rows l.asked l.region (take l.finding-index l.findings))
+    (region_rows l.asked l.rules l.region (take l.finding-index l.findings))

@@ -2,6 +2,7 @@ use Rattle.std.proofs.Common.{◌≡◌, ◌∙◌, List, ℕ, sym, subst}
 use Rattle.flash_format.specs.Components.{cell_attributes, cell_content, packing}
 use Rattle.flash_device.specs.Regions.{bytes_in}
 use Rattle.flash_device.proofs.DeviceLemmas.{honest_still}
+use Rattle.cbfs_anchor.specs.Metadata.{stored_hash}
 use Rattle.cbfs_walk.specs.Cells.{cell_in}
 use Rattle.cbfs_walk.specs.Hashes.{hash_state}
 use Rattle.cbfs_walk.specs.Walks.{StandsIn}
@@ -32,7 +33,12 @@ returns-clause-found g c = λ h stands.
     (c.in_ok-compression.ensures.packing still there) in
     let packed = c.in_ok-compression.ensures.after.read.device in
     let after = packed.unchanged still ∙ same in
+    let once = honest_still packed.calls.same_honesty still in
     let stays = subst (λ (l : List ℕ). StandsIn (bytes_in r l) cell) (sym after) stands in
-    let state = subst (λ (l : List ℕ). c.in_ok-state.state ≡ hash_state (cell_attributes (cell_in (bytes_in r l) cell)) (cell_content (cell_in (bytes_in r l) cell))) after
-    (c.in_ok-state.ensures.state (honest_still packed.calls.same_honesty still) stays) in
-    rw (ap is_free known.head ∙ sym c.if-is_free.ensures) (rw (c.in_ok-copied.ensures, c.from.ensures, c.of.ensures, named.name h stands, sym known.head, compressed, state) at c.in_ok-push.ensures.items)
+    let stored = subst (λ (l : List ℕ). c.in_ok-stored.stored ≡ stored_hash (cell_attributes (cell_in (bytes_in r l) cell))) after
+    (c.in_ok-stored.ensures.hash once stays) in
+    let searched = c.in_ok-stored.ensures.after.read.device in
+    let later = searched.unchanged once ∙ after in
+    let state = subst (λ (l : List ℕ). c.in_ok-state.state ≡ hash_state (cell_attributes (cell_in (bytes_in r l) cell)) (cell_content (cell_in (bytes_in r l) cell))) later
+    (c.in_ok-state.ensures.state (honest_still searched.calls.same_honesty once) (subst (λ (l : List ℕ). StandsIn (bytes_in r l) cell) (sym later) stands)) in
+    rw (ap is_free known.head ∙ sym c.if-is_free.ensures) (rw (c.in_ok-copied.ensures, c.from.ensures, c.of.ensures, named.name h stands, sym known.head, compressed, state, stored) at c.in_ok-push.ensures.items)

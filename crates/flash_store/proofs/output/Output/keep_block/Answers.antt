@@ -1,4 +1,3 @@
-use Rattle.std.proofs.Common.{◌≡◌}
 use Rattle.flash_store.proofs.BufferingLemmas.{joined-push}
 use Rattle.flash_store.proofs.output.Output.keep_block.Goals as goal
 

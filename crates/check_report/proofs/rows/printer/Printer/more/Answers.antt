@@ -1,6 +1,6 @@
 use Rattle.std.proofs.Common.{◌∙◌, ap, map, refl}
 use Rattle.check_report.specs.Rows.{more_of, row_line, seen_kind, with_count}
-use Rattle.check_report.proofs.PrinterEffects.{prints_none, prints_then}
+use Rattle.check_report.proofs.PrinterEffects.{prints_failed, prints_none, prints_stopped, prints_then}
 use Rattle.check_report.proofs.rows.printer.Printer.more.Goals as goal
 
 pub loop-kind-init : goal.loop-kind-init
@@ -10,3 +10,9 @@ pub loop-kind-preserved : goal.loop-kind-preserved
 loop-kind-preserved g c = prints_then g.W.Sink _ _ _ (λ k. map row_line (more_of (seen_kind k))) c.args.kinds.now c.loop-kind.kind-index _ _
     c.loop-kind-test.true refl c.loop-kind.invariant
     (rw (c.count.ensures ∙ ap (with_count c.saturating_sub-hidden.result) c.row-more.ensures, c.saturating_sub-hidden.ensures) at c.in_ok-row_if.ensures)
+
+pub returns-in_err-row_if : goal.returns-in_err-row_if
+returns-in_err-row_if g c = prints_failed g.W.Sink _ _ _ _ _ _ c.from_residual.ensures.1
+    (prints_stopped g.W.Sink _ _ _ _ (λ k. map row_line (more_of (seen_kind k))) c.args.kinds.now c.loop-kind.kind-index _ _
+    c.loop-kind-test.true refl c.loop-kind.invariant
+    (rw (c.count.ensures ∙ ap (with_count c.saturating_sub-hidden.result) c.row-more.ensures, c.saturating_sub-hidden.ensures) at c.in_err-row_if.ensures))

@@ -1,6 +1,6 @@
 use Rattle.std.proofs.Common.{◌≡◌, nat_lt, refl, rules, tests}
 use Rattle.std.specs.Prelude.{◌||◌}
-use Rattle.check_report.proofs.SoundRows.{adds_row}
+use Rattle.check_report.proofs.SoundRows.{adds_failed, adds_none, adds_row}
 use Rattle.check_report.proofs.rows.writer.RowWriter.add.Goals as goal
 use Rattle.check_report.proofs.rows.writer.RowWriter.add.Goals.{then-self, else-self}
 
@@ -14,3 +14,9 @@ returns g c =
       | else-self w ↦ search (rules, tests)
     ] in
     adds_row g.W.Sink _ old _ _ _ refl before c.in_ok-self.ensures (rw shown at c.row_if.ensures)
+
+pub returns-in_err-before : goal.returns-in_err-before
+returns-in_err-before g c = adds_failed c.from_residual.ensures.1 (adds_none refl refl)
+
+pub returns-in_err-self : goal.returns-in_err-self
+returns-in_err-self g c = adds_failed c.from_residual-in_err-self.ensures.1 (adds_none refl refl)

@@ -1,0 +1,3 @@
+pub mod Laws
+pub mod Progresses
+pub mod Steps

@@ -1,0 +1,151 @@
+//! A command with its open files, and its steps.
+use cbfs_commands::{Command, Refusal, create_size, is_note_due, run_with_map};
+use cbfs_line::Line;
+use cbfs_steps::{Progress, Step, steps_of};
+use flash_store::{
+    FileFlash, FileSource, FoundMap, Lock, MemSource, OpenFault, Output, Paged, RepeatingSink,
+    SinkFault, create_output,
+};
+use std::fs::File;
+use std::io::{self, Printer};
+
+/// The receiver of a command's output.
+#[derive(Drop)]
+enum Receiver<'r> {
+    Standard(Output<RepeatingSink<Printer<'r, HostRuntime>>>),
+    File(Output<RepeatingSink<File>>),
+}
+
+/// A command, and the files that its steps have opened.
+#[derive(Drop)]
+pub struct Session<'r, 'w> {
+    rt: &'r HostRuntime,
+    /// The path of IMAGE.
+    path: &'w str,
+    /// The path of FILE, if the command has one.
+    file: &'w str,
+    command: Command<'w>,
+    image: Option<Paged<FileFlash>>,
+    /// The flash map that a changed image had before.
+    used_map: Option<FoundMap>,
+    input: Option<FileSource>,
+    output: Receiver<'r>,
+}
+
+impl<'r, 'w> Session<'r, 'w> {
+    pub fn new(rt: &'r HostRuntime, line: &Line<'w>) -> Result<Session<'r, 'w>, Refusal> {
+        Ok(Session {
+            rt,
+            path: line.image(),
+            file: line.file().unwrap_or(""),
+            command: line.command()?,
+            image: None,
+            used_map: None,
+            input: None,
+            output: Receiver::Standard(Output::keeping(
+                rt.alloc(),
+                RepeatingSink::new(io::writer(rt)),
+            )),
+        })
+    }
+
+    /// Takes the steps of the command, and returns its first refusal.
+    pub fn obey(&mut self) -> Result<(), Refusal> {
+        let mut progress = Progress::Going;
+        for step in steps_of(&self.command) {
+            if progress.takes(*step) {
+                progress = progress.after(*step, self.take(*step));
+            }
+        }
+        progress.answer()
+    }
+
+    fn take(&mut self, step: Step) -> Result<(), Refusal> {
+        match step {
+            Step::OpenImage(lock) => self.open_image(step, lock),
+            Step::OpenInput => self.open_input(step),
+            Step::MakeOutput => self.make_output(step),
+            Step::CreateImage => self.create_image(step),
+            Step::Run => self.run(),
+            Step::Unlock => self.unlock(),
+            Step::WriteOutput => self.write_output(),
+            Step::Store => self.store(),
+        }
+    }
+
+    fn open_image(&mut self, step: Step, lock: Lock) -> Result<(), Refusal> {
+        let image = FileFlash::open_with(self.rt, self.path, lock);
+        self.image = Some(Paged::new(image.map_err(|fault| step.refusal(fault))?));
+        Ok(())
+    }
+
+    fn open_input(&mut self, step: Step) -> Result<(), Refusal> {
+        let input = FileSource::open(self.rt, self.file);
+        self.input = Some(input.map_err(|fault| step.refusal(fault))?);
+        Ok(())
+    }
+
+    fn make_output(&mut self, step: Step) -> Result<(), Refusal> {
+        let Some(image) = &self.image else {
+            return Err(Refusal::Device);
+        };
+        let file = create_output(self.rt, self.file, image.flash().identity());
+        let file = file.map_err(|fault| step.refusal(OpenFault::from(fault)))?;
+        self.output = Receiver::File(Output::new(self.rt.alloc(), RepeatingSink::new(file)));
+        Ok(())
+    }
+
+    fn create_image(&mut self, step: Step) -> Result<(), Refusal> {
+        let Some(input) = &mut self.input else {
+            return Err(Refusal::Source);
+        };
+        let image = FileFlash::create(self.rt, self.path, create_size(input)?);
+        self.image = Some(Paged::new(image.map_err(|fault| step.refusal(fault))?));
+        Ok(())
+    }
+
+    fn run(&mut self) -> Result<(), Refusal> {
+        let Some(image) = &mut self.image else {
+            return Err(Refusal::Device);
+        };
+        let (command, nothing) = (&self.command, &mut MemSource::new(&[]));
+        let used = &mut self.used_map;
+        match (&mut self.input, &mut self.output) {
+            (Some(input), Receiver::Standard(out)) => {
+                run_with_map(image, command, input, out, used)
+            }
+            (None, Receiver::Standard(out)) => run_with_map(image, command, nothing, out, used),
+            (_, Receiver::File(out)) => run_with_map(image, command, nothing, out, used),
+        }
+    }
+
+    fn unlock(&self) -> Result<(), Refusal> {
+        if let Some(image) = &self.image {
+            image.flash().unlock();
+        }
+        Ok(())
+    }
+
+    fn write_output(&mut self) -> Result<(), Refusal> {
+        let written: Result<(), SinkFault> = match &mut self.output {
+            Receiver::Standard(out) => out.flush(),
+            Receiver::File(out) => out.flush(),
+        };
+        Ok(written?)
+    }
+
+    fn store(&self) -> Result<(), Refusal> {
+        match &self.image {
+            Some(image) => Ok(image.flash().write_back()?),
+            None => Ok(()),
+        }
+    }
+
+    /// Returns whether the note on an outdated anchor is due, under the lock of the image.
+    pub fn is_note_due(&mut self, answer: Result<(), Refusal>) -> bool {
+        match &mut self.image {
+            Some(image) => is_note_due(image, &self.command, self.used_map, answer),
+            None => false,
+        }
+    }
+}

@@ -1,0 +1,15 @@
+//! Laws about needs, as the contract of a function without effect.
+
+ghost use Rattle.std.specs.Prelude.{◌≡◌, None, Some};
+ghost use lib.Chars.{codes};
+ghost use Rattle.check_findings.specs.declared.image.needs.NeededPlace.TheVariants.{Any, At, End};
+ghost use Rattle.check_line.specs.CheckWords.{need_in};
+
+/// In a need, the first colon ends the area, and the last `@` begins the place.
+pub fn needs_are_split()
+    ensures last_at { need_in (codes "A:a@b@28") ≡ Some (codes "A", codes "a@b", At 28) }
+    ensures first_colon { need_in (codes "A:a:b") ≡ Some (codes "A", codes "a:b", Any) }
+    ensures both { need_in (codes "A:a:b@c:d@0x1c") ≡ Some (codes "A", codes "a:b@c:d", At 28) }
+    ensures end { need_in (codes "A:end@end") ≡ Some (codes "A", codes "end", End) }
+    ensures no_place { need_in (codes "A:a@b") ≡ None }
+{}

@@ -1,0 +1,437 @@
+"""Compares what each script of dist/examples prints and writes with literal values.
+
+tests/test_examples.py has the cases in which a script could lose data; here are the usual ones, on
+images in which a region begins at no round place, and free space lies between components.
+"""
+
+import re
+import struct
+import unittest
+
+from tests import image
+from tests.programs import ProgramTest, program
+from tests.test_examples import ExampleTest, board
+
+START = 0x440
+ALIGNED = "add-aligned", "image.rom", "COREBOOT"
+
+
+def region_image(*parts, size=0x2000, start=START, **fields):
+    """Returns an image whose region COREBOOT has these entries, and free space after them."""
+    used = len(image.join(*parts))
+    areas = [image.Area("FMAP", 0, 0x400), image.Area("COREBOOT", start, size)]
+    areas.append(image.Area("BLOCK", start + size, 64))
+    made = image.Image(start + size + 64, areas, **fields)
+    made.put("COREBOOT", image.join(*parts, image.FreeEntry(size - used, keeps=b"\xff" * 4)))
+    return made.put("BLOCK", b"B" * 64).data()
+
+
+class Additions(ExampleTest):
+    def place(self, folder, content=b"the content"):
+        """Returns the offset of a content in the image."""
+        data = (folder.path / "image.rom").read_bytes()
+        self.assertEqual(data.count(content), 1)
+        return data.index(content)
+
+    def listing(self, folder):
+        return folder.run(["cbfstool", "image.rom", "print", "-v"]).output.decode()
+
+    def test_aligned_in_the_image(self):
+        folder = self.folder({"image.rom": region_image(), "new": b"the content"})
+        self.example(folder, *ALIGNED, "a", "new", "raw", "0x1000")
+        self.assertEqual(self.place(folder), 0x1000)
+
+    def test_aligned_after_a_digest(self):
+        """The first place follows a header of 28 bytes and an attribute of 44 or 76."""
+        for algorithm, length in [("sha256", 44), ("sha512", 76)]:
+            folder = self.folder({"image.rom": region_image(), "new": b"the content"})
+            self.example(folder, *ALIGNED, "a", "new", "raw", "4", "-A", algorithm)
+            self.assertEqual(self.place(folder), START + 28 + length)
+            self.assertIn(f"\thash\t{algorithm}\t", self.listing(folder))
+
+    def test_aligned_in_the_second_free_space(self):
+        cell = image.Component(b"x", b"data")
+        folder = self.folder({
+            "image.rom": region_image(image.FreeEntry(128), cell), "new": bytes(200) + b"end",
+        })
+        self.example(folder, *ALIGNED, "a", "new", "raw", "16")
+        self.assertEqual(self.place(folder, b"end"), START + 192 + 32 + 200 - START % 16)
+
+    def test_a_refused_addition(self):
+        folder = self.folder({"image.rom": region_image(), "new": bytes(0x2000)})
+        before = folder.files()
+        run = self.example(folder, *ALIGNED, "a", "new", "raw", "16", status=1)
+        self.assertEqual(run.message, b"no space in COREBOOT\n")
+        run = self.example(folder, *ALIGNED, "", "new", "raw", "16", status=1)
+        self.assertEqual(run.message, b"cbfstool: bad name\n")
+        self.leaves(run, before)
+
+    def test_at_an_address(self):
+        """The last byte of the image is at 0xffffffff."""
+        size = len(region_image())
+        address = (1 << 32) - size + START + 0x200
+        folder = self.folder({"image.rom": region_image(), "new": b"the content"})
+        words = ["add-at-address", "image.rom", "COREBOOT", "a", "new", "raw"]
+        self.example(folder, *words, hex(address), "-A", "sha256")
+        self.assertEqual(self.place(folder), START + 0x200)
+        self.assertIn("\thash\tsha256\t", self.listing(folder))
+
+    def test_an_address_below_the_region(self):
+        folder = self.folder({"image.rom": region_image(), "new": b"the content"})
+        words = ["add-at-address", "image.rom", "COREBOOT", "a", "new", "raw"]
+        address = hex((1 << 32) - len(region_image()) + START - 1)
+        run = self.example(folder, *words, address, status=1)
+        self.assertEqual(run.message.decode(), f"{address} lies below COREBOOT\n")
+        self.leaves(run, run.before)
+
+    def test_numbers(self):
+        """A number is decimal, also with leading zeros, or hexadecimal after 0x."""
+        at = (1 << 32) - len(region_image()) + START + 0x200
+        for name, texts, place in [
+            ("add-at-address", [f"{at}", f"0{at}", f"{at:#x}", f"0x00{at:X}"], START + 0x200),
+            ("add-aligned", ["4096", "04096", "0x1000", "0x00001000"], 0x1000),
+        ]:
+            words = [name, "image.rom", "COREBOOT", "a", "new", "raw"]
+            for text in texts:
+                folder = self.folder({"image.rom": region_image(), "new": b"the content"})
+                self.example(folder, *words, text)
+                self.assertEqual(self.place(folder), place, text)
+            for text in ["fff00000", "4K", "0X1000", "-4096", "", "0x", "1 2", "0x100000000"]:
+                folder = self.folder({"image.rom": region_image(), "new": b"the content"})
+                run = self.example(folder, *words, text, status=2)
+                self.assertEqual(run.message.decode(), f"no number: {text}\n")
+                self.leaves(run, run.before)
+        folder = self.folder({"image.rom": region_image(), "new": b"the content"})
+        run = self.example(folder, *ALIGNED, "a", "new", "raw", "0", status=1)
+        self.assertEqual(run.message, b"bad alignment: 0\n")
+
+    def test_at_the_end(self):
+        folder = self.folder({"image.rom": region_image(), "new": b"the content"})
+        (folder.path / "link").symlink_to("new")
+        words = ["add-at-end", "image.rom", "COREBOOT", "boot"]
+        self.example(folder, *words, "link", "bootblock", "-A", "sha512")
+        self.assertEqual(self.place(folder), START + 0x2000 - len(b"the content"))
+        self.assertIn("\thash\tsha512\t", self.listing(folder))
+
+
+class Digests(ExampleTest):
+    def components(self):
+        digest = image.hash_attribute
+        return [
+            image.Component(b"good", b"data", attributes=[digest(image.SHA256, b"data")]),
+            image.Component(b"none", b"data"),
+            image.Component(b"wrong", b"data", attributes=[digest(image.SHA512, b"date")]),
+            image.Component(b"other", b"data", attributes=[digest(9, value=bytes(20))]),
+        ]
+
+    def test_bad_digests(self):
+        good, none, wrong, other = self.components()
+        for cells, output in [
+            ([good, none], ""), ([wrong, good], "COREBOOT: wrong: invalid\n"),
+            ([other, good], "COREBOOT: other: unsupported\n"),
+        ]:
+            folder = self.folder({"image.rom": region_image(*cells)})
+            run = self.example(folder, "bad-digests", "image.rom", "COREBOOT",
+                               status=1 if output else 0)
+            self.assertEqual(run.output.decode(), output)
+
+    def test_a_refused_region_before_a_good_one(self):
+        folder = self.folder({"image.rom": region_image(self.components()[0])})
+        run = self.example(folder, "bad-digests", "image.rom", "BLOCK", "COREBOOT", status=1)
+        self.assertEqual(run.output, b"BLOCK: refused\n")
+        folder = self.folder({"image.rom": region_image(self.components()[2])})
+        run = self.example(folder, "bad-digests", "image.rom", "COREBOOT", "FMAP", status=1)
+        self.assertEqual(run.output, b"COREBOOT: wrong: invalid\nFMAP: refused\n")
+
+    def test_bad_digests_of_any_name(self):
+        """The names of regions and components are compared as they are printed."""
+        wrong = self.components()[2]
+        for name in ["RW A", "A\\B", "\u00e4", "A,B", "-r"]:
+            folder = self.folder({"image.rom": board([], name=name)})
+            self.example(folder, "bad-digests", "image.rom", name)
+            made = image.Image(0x1000, [image.Area("FMAP", 0, 0x200), image.Area(name, 512, 256)])
+            made.put(name, image.join(wrong, image.FreeEntry(256 - len(wrong.bytes))))
+            folder = self.folder({"image.rom": made.data()})
+            run = self.example(folder, "bad-digests", "image.rom", name, status=1)
+            self.assertEqual(run.output.decode(), f"{name}: wrong: invalid\n")
+
+    def test_bad_digests_of_many_components(self):
+        """No row is left out, also of more than 16."""
+        wrong = self.components()[2]
+        folder = self.folder({"image.rom": region_image(*[wrong] * 20)})
+        run = self.example(folder, "bad-digests", "image.rom", "COREBOOT", status=1)
+        self.assertEqual(run.output.decode(), "COREBOOT: wrong: invalid\n" * 20)
+
+    def test_bad_digests_of_a_read_only_image(self):
+        folder = self.folder({"image.rom": region_image(self.components()[0])})
+        (folder.path / "image.rom").chmod(0o444)
+        self.stand_in("cbfstool", "exit 1")
+        self.example(folder, "bad-digests", "image.rom", "COREBOOT")
+
+    def test_bad_digests_of_no_image(self):
+        run = self.example(self.folder(), "bad-digests", "absent.rom", "COREBOOT", status=2)
+        self.assertEqual(run.output, b"")
+        self.assertEqual(run.message, b"cbfscheck: absent.rom: No such file or directory\n")
+
+    def test_bad_digests_of_a_damaged_region(self):
+        damaged = image.Component(b"x", b"data", length=0x4000)
+        folder = self.folder({"image.rom": region_image(self.components()[2], damaged)})
+        run = self.example(folder, "bad-digests", "image.rom", "COREBOOT", status=1)
+        self.assertEqual(run.output, b"COREBOOT: wrong: invalid\nCOREBOOT: refused\n")
+
+    def test_component_digest(self):
+        folder = self.folder({
+            "image.rom": region_image(*self.components(), image.FreeEntry(64),
+                                      image.Component(b"(empty)", b"data", attributes=[
+                                          image.hash_attribute(image.SHA256, b"data")])),
+        })
+        for shown, output in [("good", "sha256\n"), ("wrong", "sha512\n"),
+                              ("other", "unsupported\n"), ("none", ""), ("(empty)", "sha256\n")]:
+            run = self.example(folder, "component-digest", "image.rom", "COREBOOT", shown)
+            self.assertEqual(run.output.decode(), output, shown)
+        run = self.example(folder, "component-digest", "image.rom", "COREBOOT", "no", status=1)
+        self.assertEqual(run.message, b"no such component: no\n")
+
+
+class Readings(ExampleTest):
+    """Scripts that read an image."""
+
+    def test_component_place(self):
+        cells = [image.Component(b"x", b"data"), image.Component(b"y", b"content", gap=20)]
+        folder = self.folder({"image.rom": region_image(*cells)})
+        run = self.example(folder, "component-place", "image.rom", "COREBOOT", "y", "stored")
+        self.assertEqual(run.output.decode(), f"{START + 64 + 28 + 20:#x}\n")
+        self.assertEqual(run.after["stored"], b"content")
+
+    def test_extract_all(self):
+        cells = [image.Component(b"x", b"data"), image.FreeEntry(64), image.Component(b"y", b"1")]
+        folder = self.folder({"image.rom": region_image(*cells)})
+        run = self.example(folder, "extract-all", "image.rom")
+        made = {name: content for name, content in run.after.items() if name != "image.rom"}
+        self.assertEqual(sorted(made), [f"out.COREBOOT/{name}" for name in
+                                        ["0x0-x", "0x80-y", "region", "rows"]])
+        self.assertEqual((made["out.COREBOOT/0x0-x"], made["out.COREBOOT/0x80-y"]), (b"data", b"1"))
+
+    def test_a_refused_extraction_leaves_no_folder(self):
+        folder = self.folder({"image.rom": region_image()})
+        self.example(folder, "extract-all", "image.rom", "BLOCK", status=1)
+        self.has_files(folder, "image.rom")
+
+    def test_cbfs_regions(self):
+        text = "F 64K { # C(CBFS)\nFMAP 1K A(CBFS) 1K B ( PRESERVE CBFS ) 1K D(PRESERVE) 1K }"
+        folder = self.folder({"board.fmd": text})
+        run = self.example(folder, "cbfs-regions", "board.fmd")
+        self.assertEqual(run.output, b"A\nB\n")
+
+    def test_check_build(self):
+        """Without options COREBOOT has to be there; an earlier report is replaced."""
+        folder = self.folder({"image.rom": board(name="OTHER"), "report.txt": "bad\told report\n"})
+        run = self.example(folder, "check-build", "image.rom", status=1)
+        self.assertEqual(run.message, b"bad\tCOREBOOT\t-\t-\tno such area\n")
+        self.assertNotIn(b"old report", run.after["report.txt"])
+        run = self.example(folder, "check-build", "image.rom", "-r", "OTHER")
+        self.assertEqual(run.message, b"")
+        self.example(folder, "check-build", "absent.rom", status=2)
+
+
+class SignRegion(ExampleTest):
+    def test_the_signed_bytes(self):
+        """Free space between components is signed, that at the end is not."""
+        cells = [image.Component(b"x", b"data"), image.FreeEntry(64), image.Component(b"y", b"1")]
+        data = region_image(*cells)
+        folder = self.folder({"image.rom": data})
+        sign = ["sh", "-c", "wc -c < $1", "sign"]
+        run = self.example(folder, "sign-region", "image.rom", "COREBOOT", "BLOCK", *sign)
+        self.assertEqual(run.after["to_sign"], data[START : START + 192])
+        wanted = data[:-64] + b"192\n".ljust(64, b"B")
+        self.leaves(run, {**run.after, "image.rom": wanted})
+
+
+class FlashChecked(ExampleTest):
+    def setUp(self):
+        super().setUp()
+        # (with --ifd flashrom reads zeros for the bytes of other regions)
+        self.stand_in("flashrom", 'echo "$*" >> calls\n'
+                      'read=chip; [[ "$*" != *--ifd* ]] || read=part\n'
+                      'case $3 in -r) cp "$read" "$4" ;; -w) cp "$4" chip ;; *) exit 9 ;; esac')
+
+    def calls(self, folder):
+        """Returns the arguments of flashrom, with the path of the private copy as COPY."""
+        text = (folder.path / "calls").read_text()
+        return [re.sub("-w [^ ]*/image.rom", "-w COPY", line) for line in text.splitlines()]
+
+    def test_a_kept_area_that_changes(self):
+        """The image is compared with the content of the chip."""
+        old, new = (board(areas=[("KEPT", text, 8)]) for text in (b"1" * 64, b"2" * 64))
+        folder = self.folder({"image.rom": new, "chip": old})
+        run = self.example(folder, "flash-checked", "image.rom", "--keep", "KEPT", status=1)
+        self.leaves(run, {**run.after, "chip": old})
+
+    def test_the_programmer(self):
+        folder = self.folder({"image.rom": board(), "chip": board()})
+        self.example(folder, "flash-checked", "image.rom", "-r", "COREBOOT",
+                     PROGRAMMER="ch341a_spi")
+        wanted = ["-p ch341a_spi -r chip.rom", "-p ch341a_spi -w COPY"]
+        self.assertEqual(self.calls(folder), wanted)
+        (folder.path / "chip.rom").unlink()
+        (folder.path / "calls").unlink()
+        self.example(folder, "flash-checked", "image.rom", "-r", "COREBOOT")
+        self.assertEqual(self.calls(folder), ["-p internal -r chip.rom", "-p internal -w COPY"])
+
+    def test_the_chip(self):
+        folder = self.folder({"image.rom": board(), "chip": board()})
+        self.example(folder, "flash-checked", "image.rom", "-c", "W25Q64.V", "-r", "COREBOOT")
+        wanted = ["-p internal -r chip.rom -c W25Q64.V", "-p internal -w COPY -c W25Q64.V"]
+        self.assertEqual(self.calls(folder), wanted)
+
+    def areas(self, letter):
+        return [("KEPT", letter * 64, 0), ("A", letter * 128, 0), ("B", letter * 128, 0)]
+
+    def test_areas_of_the_map(self):
+        """The areas of -i are those of the image, and all other bytes those of the chip."""
+        old, new = (board([("config", b"1")], self.areas(b"1")), board(areas=self.areas(b"2")))
+        folder = self.folder({"image.rom": new, "chip": old})
+        words = ["-i", "A", "--keep", "KEPT,COREBOOT", "--fmap", "-i", "B", "-N"]
+        run = self.example(folder, "flash-checked", "image.rom", *words)
+        areas = [self.areas(b"1")[0], *self.areas(b"2")[1:]]
+        self.leaves(run, {**run.after, "chip": board([("config", b"1")], areas)})
+        wanted = ["-p internal -r chip.rom", "-p internal -w COPY --fmap -i A -i B -N"]
+        self.assertEqual(self.calls(folder), wanted)
+        self.assertIn(b"change\tA\t", run.output)
+        self.assertNotIn(b"change\tCOREBOOT\t", run.output)
+
+    def test_an_area_that_is_elsewhere_on_the_chip(self):
+        old = board(areas=[("A", b"1" * 64, 0), ("B", b"1" * 128, 0)])
+        for area in ["A", "B", "NONE"]:
+            folder = self.folder({"image.rom": board(areas=self.areas(b"2")), "chip": old})
+            words = ["-r", "COREBOOT", "--fmap", "-i", area]
+            run = self.example(folder, "flash-checked", "image.rom", *words, status=1)
+            cause = "it has no area NONE" if area == "NONE" else f"{area} is elsewhere on the chip"
+            self.assertEqual(run.message.decode(), f"image.rom is not written: {cause}\n")
+            self.leaves(run, {**run.after, "chip": old})
+
+    def verified(self, content):
+        """Returns an image with CBFS verification, whose digests are right."""
+        areas = [image.Area("FMAP", 0, 0x400), image.Area("COREBOOT", 0x400, 0x400)]
+        made = image.Image(0xA00, [*areas, image.Area("BOOTBLOCK", 0x800, 0x200)])
+        cell = image.Component(b"a", content, attributes=[image.hash_attribute(2, content)])
+        made.put("COREBOOT", image.join(cell, image.FreeEntry(0x400 - len(cell.bytes))))
+        return made.put("BOOTBLOCK", image.sealed_anchor(2, [cell], made.map)).data()
+
+    def test_a_region_without_its_anchor(self):
+        """What the chip will have is checked: COREBOOT of the image with the chip's anchor."""
+        old, new = self.verified(b"old"), self.verified(b"new")
+        folder = self.folder({"image.rom": new, "chip": old})
+        words = ["-r", "COREBOOT", "--fmap", "-i", "COREBOOT"]
+        run = self.example(folder, "flash-checked", "image.rom", *words, status=1)
+        self.assertIn(b"metadata hash sha256 invalid", run.output)
+        self.leaves(run, {**run.after, "chip": old})
+        (folder.path / "chip.rom").unlink()
+        run = self.example(folder, "flash-checked", "image.rom", *words, "-i", "BOOTBLOCK")
+        self.leaves(run, {**run.after, "chip": new})
+
+    def intel(self, name, descriptor, engine, content=b"data"):
+        """Returns an image with the areas of an Intel descriptor."""
+        areas = [image.Area("SI_ALL", 0, 0x200), image.Area("SI_DESC", 0, 0x100)]
+        areas += [image.Area("SI_ME", 0x100, 0x100), image.Area(name, 0x200, 0x800)]
+        areas += [image.Area("FMAP", 0x200, 0x400), image.Area("COREBOOT", 0x600, 0x400)]
+        made = image.Image(0xA00, areas)
+        made.put("SI_DESC", descriptor * 0x100).put("SI_ME", engine * 0x100)
+        cell = image.Component(b"a", content)
+        made.put("COREBOOT", image.join(cell, image.FreeEntry(0x400 - len(cell.bytes))))
+        return made.data()
+
+    def test_an_erased_descriptor(self):
+        chip, words = self.intel("SI_BIOS", b"D", b"M"), ["-r", "COREBOOT"]
+        for descriptor, engine, area in [
+            (b"\xff", b"M", "SI_DESC"), (b"D", b"\xff", "SI_ME"), (b"\0", b"\0", "SI_DESC"),
+        ]:
+            made = self.intel("SI_BIOS", descriptor, engine, b"new")
+            folder = self.folder({"image.rom": made, "chip": chip})
+            run = self.example(folder, "flash-checked", "image.rom", *words, status=1)
+            cause = f"{area} is blank, and not on the chip"
+            self.assertEqual(run.message.decode(), f"image.rom is not written: {cause}: "
+                             "copy it from chip.rom, or add --ifd -i bios\n")
+            self.leaves(run, {**run.after, "chip": chip})
+        # (an empty chip, and another descriptor)
+        made = self.intel("SI_BIOS", b"\xff", b"\0")
+        for old, new in [(made, made), (chip, self.intel("SI_BIOS", b"d", b"m"))]:
+            folder = self.folder({"image.rom": new, "chip": old})
+            run = self.example(folder, "flash-checked", "image.rom", *words)
+            self.leaves(run, {**run.after, "chip": new})
+
+    def test_the_bios_region(self):
+        """flashrom reads and writes this region only, and the report has no other change."""
+        for name in ["SI_BIOS", "BIOS"]:
+            chip = self.intel(name, b"D", b"M")
+            made = self.intel(name, b"\xff", b"\xff", b"new content")
+            part = bytes(0x200) + chip[0x200:]
+            folder = self.folder({"image.rom": made, "chip": chip, "part": part})
+            words = ["--ifd", "-i", "bios", "-N", "-r", "COREBOOT"]
+            run = self.example(folder, "flash-checked", "image.rom", *words)
+            wanted = ["-p internal -r chip.rom --ifd -i bios",
+                      "-p internal -w COPY --ifd -i bios -N"]
+            self.assertEqual(self.calls(folder), wanted)
+            self.leaves(run, {**run.after, "chip": bytes(0x200) + made[0x200:]})
+            self.assertIn(b"change\tCOREBOOT\ta\t", run.output)
+            self.assertNotRegex(run.output, b"\tSI_(ALL|DESC|ME)\t")
+
+    def test_wrong_options(self):
+        for words in [
+            ["-i", "A"], ["--ifd"], ["--fmap"], ["--ifd", "-i", "me"], ["--fmap", "-i", "A:file"],
+            ["--ifd", "-i", "bios", "-i", "me"], ["--ifd", "--fmap", "-i", "bios"], ["-i"], ["-c"],
+            ["--fmap", "-i", ""], ["--fmap", "-i", "A", "-i", "B:file"],
+        ]:
+            folder = self.folder({"image.rom": board(areas=self.areas(b"2")), "chip": b""})
+            run = self.example(folder, "flash-checked", "image.rom", "-r", "A", *words, status=2)
+            self.has_files(folder, "chip", "image.rom")
+            self.assertRegex(run.message, b"^(usage: |flash-checked: -i needs )", words)
+        for words in [["-N"], ["-c", "W25Q64.V"], ["--fmap", "-i", "A"]]:
+            folder = self.folder({"image.rom": board(), "chip": b""})
+            self.example(folder, "flash-checked", "image.rom", *words, status=2)
+            self.has_files(folder, "chip", "image.rom")
+
+
+class EditVerified(ExampleTest):
+    """The script needs cbfsseal too."""
+
+    programs = (*ProgramTest.programs, "cbfsseal")
+
+    def setUp(self):
+        super().setUp()
+        self.stand_in("cbfsseal", 'exec "$SEAL" "$@"')
+
+    def verified(self):
+        """Returns an image with CBFS verification, whose digests are outdated."""
+        areas = [image.Area("FMAP", 0, 0x400), image.Area("COREBOOT", 0x400, 0x1000)]
+        areas.append(image.Area("BOOTBLOCK", 0x1400, 0x400))
+        made = image.Image(0x1800, areas)
+        made.put("COREBOOT", image.empty_region(0x1000))
+        return made.put("BOOTBLOCK", image.anchor(image.SHA256, bytes(32), bytes(32)))
+
+    def edit(self, folder, **run):
+        words = ["edit-verified", "image.rom", "new", "content", "raw", "sha256"]
+        return self.example(folder, *words, SEAL=program("cbfsseal"), **run)
+
+    def test_the_image_is_sealed(self):
+        made = self.verified()
+        folder = self.folder({"image.rom": made.data(), "content": b"content"})
+        run = self.edit(folder)
+        digest = image.hash_attribute(image.SHA256, b"content")
+        cell = image.Component(b"new", b"content", attributes=[digest])
+        made.put("COREBOOT", image.join(
+            cell, image.FreeEntry(0x1000 - len(cell.bytes), keeps=b"\xff" * 4)))
+        made.put("BOOTBLOCK", image.sealed_anchor(image.SHA256, [cell], made.map))
+        self.leaves(run, {"image.rom": made.data(), "content": b"content"})
+
+    def test_a_bad_image_is_not_written(self):
+        """The map states another size than the image has, so that cbfscheck reports it."""
+        data = bytearray(self.verified().data())
+        data[18:22] = struct.pack("<I", 0x1900)
+        folder = self.folder({"image.rom": bytes(data), "content": b"content"})
+        run = self.edit(folder, status=1)
+        self.leaves(run, run.before)
+
+
+if __name__ == "__main__":
+    unittest.main()
