@@ -85,7 +85,7 @@ class Pipes(ProgramTest):
 # The listings of these images are longer than the 65,536 bytes that a pipe holds. cbfscheck accepts
 # at most 4096 areas.
 MANY = Example(4000)
-MANY_AREAS = Example(40, more=1500)
+MANY_AREAS = Example(40, more=3000)
 REPORT = lines(*MANY.findings(*MANY.without_hashes()), "0_bad,_4005_remarks,_0_changes")
 LISTINGS = {
     "print": (MANY, "cbfstool image print", MANY.listing()),
@@ -201,7 +201,7 @@ class RefusedMemory(ProgramTest):
 
         There is at least one of the latter for each 65,536 bytes.
         """
-        example = Example(3000, more=1500)
+        example = Example(3000, more=3000)
         listed = example.output(command)
         reported, spared = self.refuse_memory(COMMANDS[command], {"image": example.image}, listed)
         self.assertEqual(reported, list(range(1, len(reported) + 1)))
