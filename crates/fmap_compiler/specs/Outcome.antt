@@ -1,5 +1,5 @@
 -- The output and the errors of the compiler.
-use Rattle.std.specs.Prelude.{◌≡◌, ℕ, ◌+◌, ◌≤◌, ◌⊎◌, List, length, Option}
+use Rattle.std.specs.Prelude.{◌≡◌, ℕ, ◌+◌, ◌≤◌, ◌⊎◌, ⊤, List, length, Option}
 use Rattle.std.specs.Prelude.{Some, None, Result, Ok, Err, IfSome}
 use Rattle.std.specs.Io.KnownBytes.{Appends, Consumes, Keeps}
 use Rattle.flash_device.specs.Device.{AppendsPart}
@@ -28,6 +28,11 @@ Compiles text bytes = (first_fault text ≡ None)
 abbrev pub Refuses : List ℕ → FmdFault → Type 0
 Refuses text fault = (first_fault text ≡ Some fault) ⊎ ((first_fault text ≡ None)
     × ((tree : Tree) × IsSection tree (words text) × (layout_fault tree ≡ Some fault)))
+
+-- the text of a refused descriptor; memory can be missing for each text
+abbrev pub IsRefusedText : List ℕ → Refusal → Type 0
+IsRefusedText text (refusal.Descriptor fault) = (fault ≡ faults.Memory) ⊎ Refuses text fault
+IsRefusedText text other = ⊤
 
 -- ---- readers and writers with known bytes
 

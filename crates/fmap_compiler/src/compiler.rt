@@ -1,8 +1,8 @@
 //! Compiles a descriptor into the table.
 
 ghost use Rattle.std.specs.Prelude.{◌≡◌, ◌<◌, ◌≤◌, ◌⊎◌, take, IfOk, IfErr, IfSome, IsErrOf};
-ghost use Rattle.fmap_compiler.specs.Outcome.{Compiles, Delivers, HasReadText, Refuses};
-ghost use Rattle.fmap_compiler.specs.Outcome.{reading_limit};
+ghost use Rattle.fmap_compiler.specs.Outcome.{Compiles, Delivers, HasReadText, IsRefusedText};
+ghost use Rattle.fmap_compiler.specs.Outcome.{Refuses, reading_limit};
 
 use crate::reader::TextReader;
 use crate::refusal::Refusal;
@@ -44,6 +44,32 @@ fn compile(alloc: Global, text: &[u8]) -> Result<Vec<u8>, FmdFault>
     encode(alloc, &table)
 }
 
+/// Reads a descriptor, at most 1,048,577 bytes, and writes the complete table. The text stays in
+/// `text`, so that the caller can explain a refusal.
+pub fn run_with_text<R: TextReader, W: Sink>(
+    alloc: Global,
+    reader: &mut R,
+    writer: &mut W,
+    text: &mut Vec<u8>,
+) -> Result<(), Refusal>
+    // Success writes the table, and nothing else. An output error leaves a part of it, any other
+    // error no output.
+    ensures output { Delivers (R.remaining reader.old) (W.contents writer.old)
+        (W.contents writer.new) result }
+    ensures read_cause { IsErrOf result Refusal.Read → R.faults reader.old < R.faults reader.new }
+    ensures output_cause { IsErrOf result Refusal.Output
+        → W.faults writer.old < W.faults writer.new }
+    ensures reader { HasReadText R.TextReader reader.old reader.new }
+    ensures writer_faults { W.faults writer.old ≤ W.faults writer.new }
+    // The text is the one that is refused.
+    ensures text { IfErr result (λ refusal. IsRefusedText text.new.items refusal) }
+{
+    *text = read_text(alloc, reader)?;
+    let table = compile(alloc, text)?;
+    put_all(writer, &table)?;
+    Ok(())
+}
+
 /// Reads a descriptor, at most 1,048,577 bytes, and writes the complete table.
 pub fn run<R: TextReader, W: Sink>(
     alloc: Global,
@@ -60,8 +86,6 @@ pub fn run<R: TextReader, W: Sink>(
     ensures reader { HasReadText R.TextReader reader.old reader.new }
     ensures writer_faults { W.faults writer.old ≤ W.faults writer.new }
 {
-    let text = read_text(alloc, reader)?;
-    let table = compile(alloc, &text)?;
-    put_all(writer, &table)?;
-    Ok(())
+    let mut text = Vec::new(alloc);
+    run_with_text(alloc, reader, writer, &mut text)
 }

@@ -5,29 +5,70 @@ mod session;
 
 use flash_store::program_words;
 pub use fmap_compiler::{Refusal, run};
-use fmap_steps::{Failure, failure_of_words, read_words, status_of, steps_of};
+use fmap_steps::{Explanation, Failure, failure_of_words, read_words, status_of, steps_of};
 use session::Session;
+use std::env;
+use std::io::IsTerminal;
 use std::process::ExitCode;
+use terminal_text::is_explained;
+
+/// A failure, with its explanation.
+#[derive(Drop)]
+struct Failed {
+    failure: Failure,
+    explanation: Option<Explanation>,
+}
+
+impl From<Failure> for Failed {
+    fn from(failure: Failure) -> Failed {
+        Failed {
+            failure,
+            explanation: None,
+        }
+    }
+}
 
 /// Takes the steps of the command line, up to the first failure.
-fn obey(rt: &HostRuntime) -> Result<(), Failure> {
+fn obey(rt: &HostRuntime) -> Result<(), Failed> {
     let words = program_words(rt).map_err(|fault| failure_of_words(&fault))?;
     let mut texts: Vec<&str> = Vec::new(rt.alloc());
     for word in &words {
-        texts.push(word.as_str())?;
+        texts.push(word.as_str()).map_err(Failure::from)?;
     }
     let invocation = read_words(texts.as_slice())?;
     let mut session = Session::new(rt, invocation);
     for step in steps_of(&invocation) {
-        session.take(*step)?;
+        if let Err(failure) = session.take(*step) {
+            let explanation = session.explanation(failure);
+            return Err(Failed {
+                failure,
+                explanation,
+            });
+        }
     }
     Ok(())
 }
 
+/// Returns true on a terminal, or if the environment asks for explanations.
+fn is_wanted(rt: &HostRuntime) -> bool {
+    let variable = env::var(rt, "CBFSTOOL_EXPLAIN").ok();
+    is_explained(rt.stderr().is_terminal(), variable.as_deref())
+}
+
+/// Prints a failure, and its explanation if it is wanted. Output errors are ignored.
+fn print(rt: &HostRuntime, failed: &Failed) {
+    let _told = eprintln!(rt; "fmaptool: {}", failed.failure);
+    if let Some(explanation) = &failed.explanation
+        && is_wanted(rt)
+    {
+        let _told = eprint!(rt; "fmaptool: {explanation}");
+    }
+}
+
 fn main(rt: HostRuntime) -> ExitCode {
     let answer = obey(&rt);
-    if let Err(failure) = answer {
-        let _told = eprintln!(&rt; "fmaptool: {failure}");
+    if let Err(failed) = &answer {
+        print(&rt, failed);
     }
-    ExitCode::from(status_of(answer))
+    ExitCode::from(status_of(answer.map_err(|failed| failed.failure)))
 }

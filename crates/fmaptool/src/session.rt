@@ -1,7 +1,7 @@
 //! The files of fmaptool, and its steps.
 use flash_store::{FileIdentity, Output, RepeatingSink, create_output, open_beside_standard};
-use fmap_compiler::{ReadText, Refusal, run};
-use fmap_steps::{Failure, Invocation, Step};
+use fmap_compiler::{ReadText, Refusal, run_with_text};
+use fmap_steps::{Explanation, Failure, Invocation, Step, explain};
 use std::fs::{File, OpenOptions};
 
 const USAGE: &str = "usage: fmaptool INPUT.fmd OUTPUT\n";
@@ -14,6 +14,8 @@ pub struct Session<'r, 'w> {
     input: Option<ReadText<File>>,
     identity: Option<FileIdentity>,
     output: Option<Output<RepeatingSink<File>>>,
+    /// The text of the descriptor, after `Step::Run`.
+    text: Vec<u8>,
 }
 
 impl<'r, 'w> Session<'r, 'w> {
@@ -24,6 +26,7 @@ impl<'r, 'w> Session<'r, 'w> {
             input: None,
             identity: None,
             output: None,
+            text: Vec::new(rt.alloc()),
         }
     }
 
@@ -76,7 +79,9 @@ impl<'r, 'w> Session<'r, 'w> {
 
     fn run(&mut self) -> Result<(), Failure> {
         match (&mut self.input, &mut self.output) {
-            (Some(input), Some(output)) => Ok(run(self.rt.alloc(), input, output)?),
+            (Some(input), Some(output)) => {
+                Ok(run_with_text(self.rt.alloc(), input, output, &mut self.text)?)
+            }
             (None, _) => Err(Failure::Refused(Refusal::Read)),
             (_, None) => Err(Failure::Refused(Refusal::Output)),
         }
@@ -86,6 +91,14 @@ impl<'r, 'w> Session<'r, 'w> {
         match &mut self.output {
             Some(output) => Ok(output.flush()?),
             None => Err(Failure::Refused(Refusal::Output)),
+        }
+    }
+
+    /// Explains the failure of a step, if the descriptor is refused.
+    pub fn explanation(&self, failure: Failure) -> Option<Explanation> {
+        match failure {
+            Failure::Refused(Refusal::Descriptor(fault)) => explain(&self.text, fault),
+            _ => None,
         }
     }
 }

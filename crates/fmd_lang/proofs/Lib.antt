@@ -10,3 +10,5 @@ pub mod WordLemmas
 pub mod RowLemmas
 pub mod NameLemmas
 pub mod LayoutLemmas
+pub mod LineStarts
+pub mod SectionNames

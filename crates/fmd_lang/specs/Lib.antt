@@ -4,3 +4,4 @@ pub mod Faults
 pub mod Layout
 pub mod Table
 pub mod ParserResults
+pub mod Positions

@@ -1,10 +1,11 @@
 //! Laws of the definitions: each contract is a law.
 
-ghost use Rattle.std.specs.Prelude.{◌≡◌, ◌≢◌, ◌↔◌, ℕ, List, ◌++◌, Some, None, Ok, false};
+ghost use Rattle.std.specs.Prelude.{◌≡◌, ◌≢◌, ◌↔◌, ℕ, List, ◌++◌, Some, None, Ok, false, map};
 ghost use Rattle.flash_format.specs.Laws.{IsReadAsMap};
 ghost use Rattle.fmd_lang.specs.Table.{table_bytes, table_head, IsTable, layout_fault};
-ghost use Rattle.fmd_lang.specs.Grammar.{Tree, IsSection};
-ghost use Rattle.fmd_lang.specs.Words.{words};
+ghost use Rattle.fmd_lang.specs.Grammar.{Tree, IsSection, names};
+ghost use Rattle.fmd_lang.specs.Positions.{section_words};
+ghost use Rattle.fmd_lang.specs.Words.{Word, words};
 ghost use Rattle.fmd_lang.specs.Faults.{first_fault};
 ghost use Rattle.fmd_lang.specs.declared.fault.Expected.{Expected};
 ghost use Rattle.fmd_lang.specs.Layout.{ambiguous_sibling, places_of, ArePlaced};
@@ -51,4 +52,10 @@ pub fn tables_are_maps(text: &[u8], table: &Table)
     ensures { (t : Tree) (more : List ℕ) → IsSection t (words text.now) → layout_fault t ≡ None
         → IsTable t table.now
         → IsReadAsMap (table_head table.now) table.now.areas.items (table_bytes table.now ++ more) }
+{}
+
+/// The names outside parentheses are those of the sections, in preorder.
+pub fn names_are_those_of_the_sections(text: &[u8])
+    ensures { (t : Tree) → IsSection t (words text.now)
+        → map (λ (w : Word). w.bytes) (section_words false (words text.now)) ≡ names t }
 {}

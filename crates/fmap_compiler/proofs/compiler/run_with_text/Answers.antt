@@ -2,7 +2,7 @@ use Rattle.std.proofs.Common.{inl, inr}
 use Rattle.std.proofs.lemmas.Result.{err_from_is_err_and}
 use Rattle.std.proofs.KnownBytes.{Keeps-refl}
 use Rattle.fmap_compiler.proofs.Compilations.{HasTable-prefix, Refuses-known}
-use Rattle.fmap_compiler.proofs.compiler.run.Goals as goal
+use Rattle.fmap_compiler.proofs.compiler.run_with_text.Goals as goal
 
 pub returns-clause-output : goal.returns-clause-output
 returns-clause-output g c =
@@ -22,7 +22,7 @@ returns-in_err-table-clause-output g c =
     rw (p.1, p.2) (
       elim c.in_err-table.ensures.refused [
         | inl memory ↦ inl memory
-        | inr refuses ↦ inr (Refuses-known _ c.in_ok-text.text.items c.deref.result.now c.in_err-table.field-0.0
+        | inr refuses ↦ inr (Refuses-known _ _ c.deref.result.now c.in_err-table.field-0.0
             c.in_ok-text.ensures.text c.deref.ensures.value refuses)
       ],
       Keeps-refl _,
