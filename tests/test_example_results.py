@@ -330,51 +330,116 @@ class FlashChecked(ExampleTest):
         run = self.example(folder, "flash-checked", "image.rom", *words, "-i", "BOOTBLOCK")
         self.leaves(run, {**run.after, "chip": new})
 
-    def intel(self, name, descriptor, engine, content=b"data"):
-        """Returns an image with the areas of an Intel descriptor."""
-        areas = [image.Area("SI_ALL", 0, 0x200), image.Area("SI_DESC", 0, 0x100)]
-        areas += [image.Area("SI_ME", 0x100, 0x100), image.Area(name, 0x200, 0x800)]
-        areas += [image.Area("FMAP", 0x200, 0x400), image.Area("COREBOOT", 0x600, 0x400)]
-        made = image.Image(0xA00, areas)
-        made.put("SI_DESC", descriptor * 0x100).put("SI_ME", engine * 0x100)
+    # An Intel flash descriptor: the signature, the offset 0x40 of its regions in the third byte of
+    # the map, and the first and last block of 4096 bytes of the regions fd, bios and me. The
+    # regions gbe and pd are unused: their last block precedes the first one.
+    DESCRIPTOR = (
+        b"\xff" * 16 + b"\x5a\xa5\xf0\x0f" + b"\x03\x00\x04\x00" + b"\xff" * 40
+        + b"\0\0\0\0" + b"\2\0\3\0" + b"\1\0\1\0" + b"\xff\x7f\0\0" * 2
+    ).ljust(0x1000, b"\xff")
+    # The same of an old board, whose descriptor begins with the signature.
+    OLD_DESCRIPTOR = (DESCRIPTOR[16:24] + DESCRIPTOR[24:64].rjust(56, b"\xff")
+                      + DESCRIPTOR[64:])
+
+    def intel(self, name, descriptor, engine=b"M", content=b"data", named=True):
+        """Returns an image for a chip with an Intel descriptor, whose areas may have no names."""
+        areas = [image.Area(name, 0x2000, 0x2000), image.Area("FMAP", 0x2000, 0x400)]
+        areas.append(image.Area("COREBOOT", 0x2400, 0x1C00))
+        if named:
+            areas += [image.Area("SI_ALL", 0, 0x2000), image.Area("SI_DESC", 0, 0x1000)]
+            areas.append(image.Area("SI_ME", 0x1000, 0x1000))
+        made = image.Image(0x4000, areas)
+        made.put_at(0, descriptor.ljust(0x1000, descriptor[-1:]) + engine * 0x1000)
         cell = image.Component(b"a", content)
-        made.put("COREBOOT", image.join(cell, image.FreeEntry(0x400 - len(cell.bytes))))
+        made.put("COREBOOT", image.join(cell, image.FreeEntry(0x1C00 - len(cell.bytes))))
         return made.data()
 
+    def is_refused(self, chip, made, cause, *words):
+        """Checks that the image is not written to the chip, for this cause."""
+        folder = self.folder({"image.rom": made, "chip": chip, "part": chip})
+        words = "-r", "COREBOOT", *words
+        run = self.example(folder, "flash-checked", "image.rom", *words, status=1)
+        self.assertEqual(run.message.decode(), f"image.rom is not written: {cause}\n")
+        self.leaves(run, {**run.after, "chip": chip})
+
+    def is_written(self, chip, made, *words, left=None):
+        """Checks that the image is written to the chip, which then has these bytes."""
+        folder = self.folder({"image.rom": made, "chip": chip, "part": chip})
+        words = "-r", "COREBOOT", *words
+        run = self.example(folder, "flash-checked", "image.rom", *words)
+        self.leaves(run, {**run.after, "chip": left or made})
+
     def test_an_erased_descriptor(self):
-        chip, words = self.intel("SI_BIOS", b"D", b"M"), ["-r", "COREBOOT"]
+        chip = self.intel("SI_BIOS", b"D")
         for descriptor, engine, area in [
             (b"\xff", b"M", "SI_DESC"), (b"D", b"\xff", "SI_ME"), (b"\0", b"\0", "SI_DESC"),
         ]:
             made = self.intel("SI_BIOS", descriptor, engine, b"new")
-            folder = self.folder({"image.rom": made, "chip": chip})
-            run = self.example(folder, "flash-checked", "image.rom", *words, status=1)
-            cause = f"{area} is blank, and not on the chip"
-            self.assertEqual(run.message.decode(), f"image.rom is not written: {cause}: "
-                             "copy it from chip.rom, or add --ifd -i bios\n")
-            self.leaves(run, {**run.after, "chip": chip})
+            self.is_refused(chip, made, f"{area} is blank, and not on the chip: "
+                            "copy it from chip.rom, or add --ifd -i bios")
         # (an empty chip, and another descriptor)
         made = self.intel("SI_BIOS", b"\xff", b"\0")
-        for old, new in [(made, made), (chip, self.intel("SI_BIOS", b"d", b"m"))]:
-            folder = self.folder({"image.rom": new, "chip": old})
-            run = self.example(folder, "flash-checked", "image.rom", *words)
-            self.leaves(run, {**run.after, "chip": new})
+        self.is_written(made, made)
+        self.is_written(chip, self.intel("SI_BIOS", b"d", b"m"))
+
+    def test_a_descriptor_without_an_area(self):
+        """The map of a laptop has an area BIOS, and none for the descriptor and the engine."""
+        lost = "the chip would lose its flash descriptor: write only --ifd -i bios"
+        for descriptor in [self.DESCRIPTOR, self.OLD_DESCRIPTOR]:
+            chip = self.intel("BIOS", descriptor, named=False)
+            for other in [b"\xff", b"\0", b"other bytes", descriptor.replace(b"\xf0", b"\xf1")]:
+                made = self.intel("BIOS", other, content=b"new", named=False)
+                self.is_refused(chip, made, lost)
+                # (only the bytes of COREBOOT are written)
+                self.is_written(chip, made, "--fmap", "-i", "COREBOOT",
+                                left=chip[:0x2400] + made[0x2400:])
+            self.is_written(chip, self.intel("BIOS", descriptor, b"m", b"new", named=False))
+        self.is_refused(self.intel("BIOS", self.DESCRIPTOR, named=False),
+                        self.intel("BIOS", self.OLD_DESCRIPTOR, named=False), lost)
+
+    def test_an_engine_without_an_area(self):
+        """The descriptor of the chip says which bytes are those of the engine."""
+        chip = self.intel("BIOS", self.DESCRIPTOR, named=False)
+        for blank in [b"\xff", b"\0"]:
+            made = self.intel("BIOS", self.DESCRIPTOR, blank, b"new", named=False)
+            self.is_refused(chip, made, "the chip would lose its region me: "
+                            "write only --ifd -i bios")
+            # (the chip has no engine either)
+            self.is_written(self.intel("BIOS", self.DESCRIPTOR, blank, named=False), made)
+
+    def test_a_blank_area_of_the_descriptor(self):
+        """An area that is named by -i may not erase the descriptor either."""
+        chip = self.intel("SI_BIOS", self.DESCRIPTOR)
+        made = self.intel("SI_BIOS", b"\xff", b"\xff")
+        self.is_refused(chip, made, "the chip would lose its flash descriptor: "
+                        "write only --ifd -i bios", "--fmap", "-i", "SI_DESC")
+        self.is_refused(chip, made, "the chip would lose its region me: "
+                        "write only --ifd -i bios", "--fmap", "-i", "SI_ME")
 
     def test_the_bios_region(self):
-        """flashrom reads and writes this region only, and the report has no other change."""
+        """flashrom writes this region only, and the report has no other change."""
         for name in ["SI_BIOS", "BIOS"]:
-            chip = self.intel(name, b"D", b"M")
+            chip = self.intel(name, self.DESCRIPTOR)
             made = self.intel(name, b"\xff", b"\xff", b"new content")
-            part = bytes(0x200) + chip[0x200:]
+            part = chip[:0x1000] + bytes(0x1000) + chip[0x2000:]
             folder = self.folder({"image.rom": made, "chip": chip, "part": part})
             words = ["--ifd", "-i", "bios", "-N", "-r", "COREBOOT"]
             run = self.example(folder, "flash-checked", "image.rom", *words)
-            wanted = ["-p internal -r chip.rom --ifd -i bios",
+            wanted = ["-p internal -r chip.rom --ifd -i fd -i bios",
                       "-p internal -w COPY --ifd -i bios -N"]
             self.assertEqual(self.calls(folder), wanted)
-            self.leaves(run, {**run.after, "chip": bytes(0x200) + made[0x200:]})
+            self.leaves(run, {**run.after, "chip": part[:0x2000] + made[0x2000:]})
             self.assertIn(b"change\tCOREBOOT\ta\t", run.output)
             self.assertNotRegex(run.output, b"\tSI_(ALL|DESC|ME)\t")
+
+    def test_another_bios_region(self):
+        """flashrom writes the region of the descriptor, and the area of the map was checked."""
+        for name in ["SI_BIOS", "BIOS"]:
+            made = self.intel(name, b"\xff")
+            for region in [b"\1\0\3\0", b"\2\0\2\0", b"\2\0\4\0", b"\xff\x7f\0\0"]:
+                descriptor = self.DESCRIPTOR.replace(b"\2\0\3\0", region)
+                cause = f"the BIOS region of the chip's descriptor is not its area {name}"
+                self.is_refused(self.intel(name, descriptor), made, cause, "--ifd", "-i", "bios")
 
     def test_wrong_options(self):
         for words in [
