@@ -266,7 +266,7 @@ class ReplaceComponent(ExampleTest):
 
 
 class CopyPreserved(ExampleTest):
-    """copy-preserved copies all areas with the flag PRESERVE, or changes nothing."""
+    """copy-preserved copies all areas with the flag PRESERVE in one image, or changes nothing."""
 
     def copy(self, old_areas, new_areas, **run):
         """Runs the script on two images with these areas, and returns its run."""
@@ -276,12 +276,32 @@ class CopyPreserved(ExampleTest):
     def test_an_area_with_another_flag_too(self):
         """The flags are a sum: static 1, compressed 2, read-only 4, preserved 8."""
         flags = list(range(16))
-        old = [(f"A{flag}", bytes([flag + 1]) * 64, flag) for flag in flags]
-        new = [(name, bytes(64), flag) for name, _, flag in old]
-        wanted = [(name, content if flag >= 8 else bytes(64), flag) for name, content, flag in old]
-        run = self.copy(old, new)
-        self.leaves(run, {**run.after, "new.rom": board(areas=wanted)})
-        self.assertEqual(run.output.decode().split(), [f"A{flag}" for flag in flags if flag >= 8])
+        contents = [(f"A{flag}", bytes([flag + 1]) * 64) for flag in flags]
+        for in_old, in_new in [(flags, flags), (flags, [0] * 16), ([0] * 16, flags)]:
+            old = [(*area, flag) for area, flag in zip(contents, in_old)]
+            new = [(name, bytes(64), flag) for (name, _), flag in zip(contents, in_new)]
+            wanted = [(name, content if kept >= 8 else bytes(64), flag)
+                      for (name, content), kept, flag in zip(contents, flags, in_new)]
+            run = self.copy(old, new)
+            self.leaves(run, {**run.after, "new.rom": board(areas=wanted)})
+            names = [f"A{flag}" for flag in flags if flag >= 8]
+            self.assertEqual(run.output.decode().split(), names)
+
+    def test_an_area_that_only_the_new_image_preserves(self):
+        """An area of another size has no content that could be copied, and the others are."""
+        first = ("FIRST", b"1" * 64, 8)
+        for old, new in [
+            (("B", b"2" * 64, 0), ("C", b"3" * 64, 8)), (("B", b"2" * 64, 0), ("B", b"3" * 128, 8)),
+            # (commands use the first area of a name)
+            (("FIRST", b"2" * 64, 0), ("B", b"3" * 64, 8)),
+        ]:
+            folder = self.folder({
+                "old.rom": self.named(first, old),
+                "new.rom": self.named(("FIRST", b"3" * 64, 8), new),
+            })
+            run = self.example(folder, "copy-preserved", "old.rom", "new.rom")
+            self.leaves(run, {**run.after, "new.rom": self.named(first, new)}, old)
+            self.assertEqual(run.output, b"FIRST\n")
 
     def test_names_of_any_bytes(self):
         for name, shown in [
