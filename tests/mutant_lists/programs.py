@@ -146,8 +146,10 @@ MUTANTS = [
     ),
     Mutant(
         "an addition reads nothing of its source", SESSION,
-        "(Some(input), Receiver::Standard(out)) => run(image, command, input, out)",
-        "(Some(_), Receiver::Standard(out)) => run(image, command, nothing, out)",
+        "(Some(input), Receiver::Standard(out)) => {\n"
+        "                run_with_map(image, command, input, out, used)",
+        "(Some(_), Receiver::Standard(out)) => {\n"
+        "                run_with_map(image, command, nothing, out, used)",
         "The component is empty, with status 0.",
         "test_note.Outdated.test_after_an_addition",
     ),
@@ -361,6 +363,18 @@ MUTANTS = [
         "add -f /proc/self/status adds an empty component.",
         "test_files.Sources.test_a_source_with_more_bytes_than_stated", ("cbfstool",),
         is_new=False,
+    ),
+    Mutant(
+        "a system file is read at the offset 0", OS_FILE,
+        "self.file.read_at(out, at);", "self.file.read_at(out, 0);",
+        "Each command sees the first bytes of the image in place of those that it asked for.",
+        "test_print.Samples.test_listings", ("cbfstool",),
+    ),
+    Mutant(
+        "a system file is written at the offset 0", OS_FILE,
+        "self.file.write_at(bytes, at);", "self.file.write_at(bytes, 0);",
+        "An addition overwrites the first bytes of the image.",
+        "test_add.Samples.test_a_small_region", ("cbfstool",),
     ),
     Mutant(
         "a file system without locks is refused", OS_FILE,
