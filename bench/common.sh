@@ -16,6 +16,13 @@ peers() {
     failed=0
 }
 
+# machine: the processors, their load, the version that is measured and the day, for the first line of the saved figures
+machine() {
+    local kind
+    kind=$(sed -n '/^model name/{s/^[^:]*: *//p;q}' /proc/cpuinfo)
+    echo "$(nproc) processors${kind:+ ($kind)} with a load of $(cut -d ' ' -f 1 /proc/loadavg), version $(cat "$top/VERSION"), $(LC_ALL=C date '+%-d %B %Y')"
+}
+
 # image NAME DESCRIPTOR: makes an image of a descriptor, with our own tools
 image() {
     echo "$2" > "$1.fmd"
