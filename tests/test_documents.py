@@ -639,6 +639,33 @@ class Promises(unittest.TestCase):
             self.assertTrue(promise in stated, f"not in {PROMISES}: {promise}")
 
 
+class Boards(unittest.TestCase):
+    """VERIFICATION.md counts the rows of tests/boards.tsv, and the harm that each judge notices."""
+
+    def test_the_numbers(self):
+        heads, *rows = [line.split("\t") for line in text_of("tests/boards.tsv").splitlines()]
+        rows = [dict(zip(heads, row)) for row in rows]
+        harmful = [row for row in rows if row["harm"] != "none"]
+
+        def noticed(*names):
+            return sum(any(row[name] not in ("", "-") for name in names) for row in harmful)
+
+        asked = sum(row["cbfscheck, one image"] != "-" for row in harmful)
+        stated = words_of_document("docs/VERIFICATION.md")
+        for text in [
+            f"breaks them in {len(rows)} ways, of which {len(harmful)} do harm and "
+            f"{len(rows) - len(harmful)} are good changes.",
+            f"Of the {len(harmful)} harmful changes, the rules notice "
+            f"{noticed('rules, one image', 'rules, two images')}, `futility verify` "
+            f"{noticed('futility verify')}, coreboot's `print -v` {noticed('cbfstool print -v')}, "
+            f"`ifdtool -t` {noticed('ifdtool -t')} and `ifittool` {noticed('ifittool -a')}.",
+            f"`cbfscheck` was asked about {asked} of them, with one image only, and noticed "
+            f"{noticed('cbfscheck, one image')}.",
+        ]:
+            self.assertIn(text, stated)
+        self.assertEqual({row["cbfscheck, two images"] for row in rows}, {"-"})
+
+
 class Procedures(unittest.TestCase):
     """The README, the page of cbfscheck and its script flash an image by the same steps."""
 
