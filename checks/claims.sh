@@ -544,7 +544,7 @@ limits() {
     tried add -n "$(printf "%0$((limit + 1))d" 0)" -t raw -f abc
     [ "$status" = 1 ] || fail "claims: a name of $((limit + 1)) bytes is taken"
     # the gap before a content, at 65 places of the content (the header and the field of the name have 28 bytes)
-    limit cbfstool.1 'Up to N bytes of 0xff may separate header and content'
+    limit cbfstool.1 'Up to N bytes of 0xff may separate metadata and content'
     for at in $(seq 32768 32832); do
         tried add -n new -t raw -f abc -b "$at"
         cbfstool tried.rom print > listed

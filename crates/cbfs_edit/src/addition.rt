@@ -163,13 +163,14 @@ fn attribute_len(hash: HashChoice) -> usize
 }
 
 /// Adds a component with the whole source as content, at the least allowed place in the first free
-/// space with room, and returns its position. The remaining free space becomes empty entries. The
-/// region's last four bytes remain after the content, unless the content is at a fixed place.
+/// space with room, and returns its position. The remaining free space becomes empty entries. Those
+/// of the region's last four bytes that follow the content remain. Only a content at a fixed place,
+/// or the gap before it, covers the others.
 ///
 /// The errors, in this order, are: invalid name, type, alignment or region size, no entry at the
 /// region's start, first damaged entry, existing name, no space. Only a device or source fault can
-/// leave a change: after a source fault, the components are the same as before; after a device
-/// fault, they are the same, or include the complete new component.
+/// leave a change. After a source fault, the components are the same as before. After a device
+/// fault, they are the same, or include the complete new component, if the source is honest.
 pub fn add<F: Flash, S: Source>(
     paged: &mut Paged<F>,
     region: Region,
