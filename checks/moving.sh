@@ -359,7 +359,7 @@ random_descriptors() {
             *) fail "seed $seed, descriptor $each: statuses $their_status and $our_status: $(cat told): $text" ;;
         esac
     done
-    stated "of $1 descriptors both compile $accepted, to equal tables, and refuse $refused; of $empty coreboot's makes an empty area"
+    stated "of $1 descriptors, both programs compile $accepted to equal tables, and both refuse $refused; coreboot's alone compiles $empty, to a table with an empty area"
 }
 
 # random_additions COUNT: both leave the same image, but for the length of the last free cell
@@ -395,7 +395,7 @@ random_additions() {
         without_lengths ours.rom COREBOOT > "$work/other.rom"
         cmp "$work/one.rom" "$work/other.rom" || fail "seed $seed, addition $each: other images: ${words[*]}"
     done
-    stated "$1 additions leave the same images, but for the length of the last free cell in $differing of them"
+    stated "after $1 additions both images are the same, except for the length of the last free cell, which differs in $differing of them"
 }
 
 # stated TEXT: tells what was seen; from the default seed it is what the document says
