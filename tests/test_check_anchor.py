@@ -11,6 +11,7 @@ from tests.image import (
     SHA512, SIMPLE_ELF, STAGE, Area, Component, FreeEntry, Image, anchor, attribute, digest,
     hash_attribute, join, metadata_digest, sealed_anchor,
 )
+from tests.findings import CheckTest
 from tests.programs import ProgramTest
 
 FMAP = Area("FMAP", 0, 0x200)
@@ -380,6 +381,267 @@ class Documents(CheckAnchor):
             files = {"old.rom": old.data(), "new.rom": new.data()}
             with self.subTest(row[1]):
                 self.assertIn(row, self.document("old.rom new.rom", files))
+
+
+class Reports(CheckTest):
+    """Complete reports of an image of 3072 bytes, whose area BOOTBLOCK has an anchor at 0x40."""
+
+    AREAS = [Area("FMAP", 0, 0x200), Area("COREBOOT", 0x400, 0x400),
+             Area("BOOTBLOCK", 0x800, 0x400)]
+    MAP = Image(0xC00, AREAS).map
+
+    def image(self, parts, anchor_bytes, at=0x40):
+        """Returns the image with these components, and with these bytes in the area BOOTBLOCK."""
+        space = FreeEntry(0x400 - len(join(*parts)), keeps=bytes(4))
+        made = Image(0xC00, self.AREAS).put("COREBOOT", join(*parts, space))
+        return made.put_at(0x800 + at, anchor_bytes).data()
+
+    def sealed(self, algorithm, *parts):
+        """Returns the image with the right digests."""
+        return self.image(parts, sealed_anchor(algorithm, parts, self.MAP))
+
+    def digests(self, algorithm, valid, outdated):
+        """Checks the reports of an image with the right digests, and with digests of zeros."""
+        zeros = bytes(len(digest(algorithm, b"")))
+        self.reports(0, self.sealed(algorithm), valid)
+        self.reports(1, self.image([], anchor(algorithm, zeros, zeros)), outdated)
+
+    def test_sha1(self):
+        self.digests(SHA1, """
+            remark|-|-|0x0|flashmap
+            remark|BOOTBLOCK|-|0x40|metadata hash sha1 valid
+            remark|BOOTBLOCK|-|0x40|map hash sha1 valid
+            remark|COREBOOT|-|-|complete
+            remark|COREBOOT|-|-|no components
+            remark|COREBOOT|-|-|free bytes|1024
+            remark|COREBOOT|-|-|largest content that add takes|992
+            0 bad, 7 remarks, 0 changes
+        """, """
+            remark|-|-|0x0|flashmap
+            bad|BOOTBLOCK|-|0x40|metadata hash sha1 invalid: run cbfsseal IMAGE
+            bad|BOOTBLOCK|-|0x40|map hash sha1 invalid: run cbfsseal IMAGE
+            remark|COREBOOT|-|-|complete
+            remark|COREBOOT|-|-|no components
+            remark|COREBOOT|-|-|free bytes|1024
+            remark|COREBOOT|-|-|largest content that add takes|992
+            2 bad, 5 remarks, 0 changes
+        """)
+
+    def test_sha224(self):
+        self.digests(SHA224, """
+            remark|-|-|0x0|flashmap
+            remark|BOOTBLOCK|-|0x40|metadata hash sha224 valid
+            remark|BOOTBLOCK|-|0x40|map hash sha224 valid
+            remark|COREBOOT|-|-|complete
+            remark|COREBOOT|-|-|no components
+            remark|COREBOOT|-|-|free bytes|1024
+            remark|COREBOOT|-|-|largest content that add takes|992
+            0 bad, 7 remarks, 0 changes
+        """, """
+            remark|-|-|0x0|flashmap
+            bad|BOOTBLOCK|-|0x40|metadata hash sha224 invalid: run cbfsseal IMAGE
+            bad|BOOTBLOCK|-|0x40|map hash sha224 invalid: run cbfsseal IMAGE
+            remark|COREBOOT|-|-|complete
+            remark|COREBOOT|-|-|no components
+            remark|COREBOOT|-|-|free bytes|1024
+            remark|COREBOOT|-|-|largest content that add takes|992
+            2 bad, 5 remarks, 0 changes
+        """)
+
+    def test_sha256(self):
+        self.digests(SHA256, """
+            remark|-|-|0x0|flashmap
+            remark|BOOTBLOCK|-|0x40|metadata hash sha256 valid
+            remark|BOOTBLOCK|-|0x40|map hash sha256 valid
+            remark|COREBOOT|-|-|complete
+            remark|COREBOOT|-|-|no components
+            remark|COREBOOT|-|-|free bytes|1024
+            remark|COREBOOT|-|-|largest content that add takes|992
+            0 bad, 7 remarks, 0 changes
+        """, """
+            remark|-|-|0x0|flashmap
+            bad|BOOTBLOCK|-|0x40|metadata hash sha256 invalid: run cbfsseal IMAGE
+            bad|BOOTBLOCK|-|0x40|map hash sha256 invalid: run cbfsseal IMAGE
+            remark|COREBOOT|-|-|complete
+            remark|COREBOOT|-|-|no components
+            remark|COREBOOT|-|-|free bytes|1024
+            remark|COREBOOT|-|-|largest content that add takes|992
+            2 bad, 5 remarks, 0 changes
+        """)
+
+    def test_sha384(self):
+        self.digests(SHA384, """
+            remark|-|-|0x0|flashmap
+            remark|BOOTBLOCK|-|0x40|metadata hash sha384 valid
+            remark|BOOTBLOCK|-|0x40|map hash sha384 valid
+            remark|COREBOOT|-|-|complete
+            remark|COREBOOT|-|-|no components
+            remark|COREBOOT|-|-|free bytes|1024
+            remark|COREBOOT|-|-|largest content that add takes|992
+            0 bad, 7 remarks, 0 changes
+        """, """
+            remark|-|-|0x0|flashmap
+            bad|BOOTBLOCK|-|0x40|metadata hash sha384 invalid: run cbfsseal IMAGE
+            bad|BOOTBLOCK|-|0x40|map hash sha384 invalid: run cbfsseal IMAGE
+            remark|COREBOOT|-|-|complete
+            remark|COREBOOT|-|-|no components
+            remark|COREBOOT|-|-|free bytes|1024
+            remark|COREBOOT|-|-|largest content that add takes|992
+            2 bad, 5 remarks, 0 changes
+        """)
+
+    def test_sha512(self):
+        self.digests(SHA512, """
+            remark|-|-|0x0|flashmap
+            remark|BOOTBLOCK|-|0x40|metadata hash sha512 valid
+            remark|BOOTBLOCK|-|0x40|map hash sha512 valid
+            remark|COREBOOT|-|-|complete
+            remark|COREBOOT|-|-|no components
+            remark|COREBOOT|-|-|free bytes|1024
+            remark|COREBOOT|-|-|largest content that add takes|992
+            0 bad, 7 remarks, 0 changes
+        """, """
+            remark|-|-|0x0|flashmap
+            bad|BOOTBLOCK|-|0x40|metadata hash sha512 invalid: run cbfsseal IMAGE
+            bad|BOOTBLOCK|-|0x40|map hash sha512 invalid: run cbfsseal IMAGE
+            remark|COREBOOT|-|-|complete
+            remark|COREBOOT|-|-|no components
+            remark|COREBOOT|-|-|free bytes|1024
+            remark|COREBOOT|-|-|largest content that add takes|992
+            2 bad, 5 remarks, 0 changes
+        """)
+
+    def test_another_algorithm(self):
+        sha512 = self.sealed(SHA512)
+        self.changes(0, self.sealed(SHA1), sha512, """
+            change|-|-|-|erase blocks differ|1
+            change|-|-|-|anchor's algorithm changed from sha1
+            change|BOOTBLOCK|-|0x800|erase blocks differ|1
+            0 bad, 7 remarks, 3 changes
+        """)
+        self.changes(0, self.sealed(SHA224), sha512, """
+            change|-|-|-|erase blocks differ|1
+            change|-|-|-|anchor's algorithm changed from sha224
+            change|BOOTBLOCK|-|0x800|erase blocks differ|1
+            0 bad, 7 remarks, 3 changes
+        """)
+        self.changes(0, self.sealed(SHA256), sha512, """
+            change|-|-|-|erase blocks differ|1
+            change|-|-|-|anchor's algorithm changed from sha256
+            change|BOOTBLOCK|-|0x800|erase blocks differ|1
+            0 bad, 7 remarks, 3 changes
+        """)
+        self.changes(0, self.sealed(SHA384), sha512, """
+            change|-|-|-|erase blocks differ|1
+            change|-|-|-|anchor's algorithm changed from sha384
+            change|BOOTBLOCK|-|0x800|erase blocks differ|1
+            0 bad, 7 remarks, 3 changes
+        """)
+        self.changes(0, sha512, self.sealed(SHA1), """
+            change|-|-|-|erase blocks differ|1
+            change|-|-|-|anchor's algorithm changed from sha512
+            change|BOOTBLOCK|-|0x800|erase blocks differ|1
+            0 bad, 7 remarks, 3 changes
+        """)
+
+    def test_no_anchor(self):
+        self.reports(0, self.image([], b""), """
+            remark|-|-|0x0|flashmap
+            remark|COREBOOT|-|-|complete
+            remark|COREBOOT|-|-|no components
+            remark|COREBOOT|-|-|free bytes|1024
+            remark|COREBOOT|-|-|largest content that add takes|992
+            0 bad, 5 remarks, 0 changes
+        """)
+
+    def test_an_unknown_algorithm(self):
+        self.reports(1, self.image([], anchor(9, bytes(64), bytes(64))), """
+            remark|-|-|0x0|flashmap
+            bad|BOOTBLOCK|-|-|anchor with an unknown algorithm
+            remark|COREBOOT|-|-|complete
+            remark|COREBOOT|-|-|no components
+            remark|COREBOOT|-|-|free bytes|1024
+            remark|COREBOOT|-|-|largest content that add takes|992
+            1 bad, 5 remarks, 0 changes
+        """)
+
+    def test_an_anchor_that_is_cut_off(self):
+        cut = anchor(SHA256, bytes(32), bytes(31))
+        self.reports(1, self.image([], cut, at=0x400 - 75), """
+            remark|-|-|0x0|flashmap
+            bad|BOOTBLOCK|-|-|anchor is cut off
+            remark|COREBOOT|-|-|complete
+            remark|COREBOOT|-|-|no components
+            remark|COREBOOT|-|-|free bytes|1024
+            remark|COREBOOT|-|-|largest content that add takes|992
+            1 bad, 5 remarks, 0 changes
+        """)
+
+    def test_a_damaged_region(self):
+        damaged = [Component(b"d", b"x", offset=1)]
+        self.reports(1, self.image(damaged, sealed_anchor(SHA256, [], self.MAP)), """
+            remark|-|-|0x0|flashmap
+            bad|BOOTBLOCK|-|0x40|anchor isn't checked: COREBOOT is damaged
+            bad|COREBOOT|-|0x0|damaged entry: offset
+            remark|COREBOOT|-|-|no components
+            remark|COREBOOT|-|-|free bytes|0
+            remark|COREBOOT|-|-|no room for a component
+            2 bad, 4 remarks, 0 changes
+        """)
+
+    def test_an_invalid_digest_of_the_fit(self):
+        """The FIT tool changes it after the build. It is a remark below a valid anchor."""
+        fit = Component(b"intel_fit", b"x", attributes=[hash_attribute(SHA512, b"y")])
+        self.reports(0, self.sealed(SHA512, fit), """
+            remark|-|-|0x0|flashmap
+            remark|BOOTBLOCK|-|0x40|metadata hash sha512 valid
+            remark|BOOTBLOCK|-|0x40|map hash sha512 valid
+            remark|COREBOOT|intel_fit|0x0|sha512 invalid
+            remark|COREBOOT|-|-|complete
+            remark|COREBOOT|-|-|components|1
+            remark|COREBOOT|-|-|free bytes|896
+            remark|COREBOOT|-|-|largest content that add takes|864
+            0 bad, 8 remarks, 0 changes
+        """)
+
+    def test_components_below_an_anchor(self):
+        self.reports(1, self.sealed(
+            SHA256,
+            Component(b"o", b"x", attributes=[hash_attribute(SHA512, b"x")]),
+            Component(b"intel_fit", b"x", attributes=[hash_attribute(SHA256, b"y")]),
+            Component(b"s", b"x", type=STAGE),
+            Component(b"l", b"x", gap=257),
+        ), """
+            remark|-|-|0x0|flashmap
+            remark|BOOTBLOCK|-|0x40|metadata hash sha256 valid
+            remark|BOOTBLOCK|-|0x40|map hash sha256 valid
+            remark|COREBOOT|o|0x0|sha512 valid
+            remark|COREBOOT|o|0x0|hash isn't of the anchor's algorithm
+            remark|COREBOOT|intel_fit|0x80|sha256 invalid
+            bad|COREBOOT|s|0x100|no hash
+            bad|COREBOOT|l|0x140|metadata longer than 256 bytes: firmware can't find it
+            remark|COREBOOT|l|0x140|no hash
+            remark|COREBOOT|-|-|complete
+            remark|COREBOOT|-|-|components|4
+            remark|COREBOOT|-|-|free bytes|384
+            remark|COREBOOT|-|-|largest content that add takes|352
+            2 bad, 11 remarks, 0 changes
+        """)
+
+    def test_an_anchor_that_is_added_or_gone(self):
+        none, sealed_image = self.image([], b""), self.sealed(SHA256)
+        self.changes(0, none, sealed_image, """
+            change|-|-|-|erase blocks differ|1
+            change|-|-|-|anchor added
+            change|BOOTBLOCK|-|0x800|erase blocks differ|1
+            0 bad, 7 remarks, 3 changes
+        """)
+        self.changes(1, sealed_image, none, """
+            change|-|-|-|erase blocks differ|1
+            bad|-|-|-|anchor gone
+            change|BOOTBLOCK|-|0x800|erase blocks differ|1
+            1 bad, 5 remarks, 2 changes
+        """)
 
 
 if __name__ == "__main__":
