@@ -380,12 +380,12 @@ class ProgramTest(unittest.TestCase):
         name = words_of(command)[0]
         return self.check(command, files, status, b"", f"{name}: {message}\n", left, **run)
 
-    def refuse_memory(self, command, files, output=b"", left=None, made=()):
+    def refuse_memory(self, command, files, output=b"", left=None, made=(), status=1):
         """Refuses each request for memory of a command in turn.
 
-        A run either reports that, and leaves at most empty files of the names `made`, or it does
-        without the memory, and has the stated output and files. Returns the numbers of the
-        requests whose refusal was reported, and of those that were spared.
+        A run either reports that with `status`, and leaves at most empty files of the names `made`,
+        or it does without the memory, and has the stated output and files. Returns the numbers of
+        the requests whose refusal was reported, and of those that were spared.
         """
         name, reported, spared = words_of(command)[0], [], []
         for number in itertools.count(1):
@@ -394,7 +394,7 @@ class ProgramTest(unittest.TestCase):
             done = folder.run(command, faults=memory)
             if memory.changed() and done.status:
                 empty = {one: b"" for one in made if one in done.after}
-                self.compare_run(folder, done, 1, "", f"{name}: out of memory\n", empty)
+                self.compare_run(folder, done, status, "", f"{name}: out of memory\n", empty)
                 reported.append(number)
             else:
                 self.compare_run(folder, done, output=output, left=left)
