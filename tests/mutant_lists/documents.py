@@ -2,7 +2,8 @@
 
 from tests.mutants import Mutant
 
-TESTS = ("test_documents", "test_diagnostics", "test_check_help", "checks/promises", "checks/pages")
+TESTS = ("test_documents", "test_diagnostics", "test_check_help", "test_worked_examples",
+         "test_check_rows", "test_check_schema", "checks/promises", "checks/pages")
 NUMBERS = "test_documents.Numbers.test_each_number"
 
 
@@ -12,6 +13,8 @@ def of(file, title, old, new, harm, test=NUMBERS, is_new=True):
 
 
 TOOL, COMPILER, LANGUAGE = "man/cbfstool.1", "man/fmaptool.1", "man/fmd.5"
+EXAMPLES, PRINT = "docs/EXAMPLES.md", "crates/library_tests/src/rows/print.rt"
+WORKED = "test_worked_examples.WorkedExamples"
 CHECK, SEAL = "man/cbfscheck.1", "man/cbfsseal.1"
 FORMAT, PROMISES, README = "docs/FORMAT.md", "docs/PROMISES.md", "README.md"
 
@@ -175,4 +178,38 @@ MUTANTS = [
     of(TOOL, "a refused creation leaves the image unchanged",
        '"create: 5 to 7, 19" Ta erased', '"create: 5 to 7, 19" Ta unchanged',
        "An image is lost.", "test_diagnostics.Refusals.test_each_creation"),
+
+    # ---- worked examples, definitions, and rows of cbfscheck
+    of(EXAMPLES, "an example names another test",
+       "`an_image_that_is_cut` |", "`an_image_is_cut` |", "Nothing tests the example.",
+       f"{WORKED}.test_each_named_test_exists", is_new=False),
+    of(EXAMPLES, "an example names no test",
+       "`an_image_that_is_cut` |", "by reading |", "Nothing tests the example.",
+       f"{WORKED}.test_the_cells_of_a_row", is_new=False),
+    of(EXAMPLES, "an example is gone",
+       "| The board truncated to 768, 100 and 0 bytes | `an_image_that_is_cut` |\n", "",
+       "A test has no example.", f"{WORKED}.test_each_test_has_an_example", is_new=False),
+    of(EXAMPLES, "two examples name one test",
+       "| The board truncated to 768, 100 and 0 bytes | `an_image_that_is_cut` |\n",
+       "| The board truncated | `an_image_that_is_cut` |\n| A cut | `an_image_that_is_cut` |\n",
+       "Nothing tests one of them.", f"{WORKED}.test_no_test_is_named_twice", is_new=False),
+    of(PRINT, "a test of an example is none any more",
+       "#[test]\nfn an_image_that_is_cut(", "fn an_image_that_is_cut(",
+       "Nothing tests the example.", f"{WORKED}.test_each_named_test_exists", is_new=False),
+    of(FORMAT, "the index of definitions lacks a section",
+       "| Heads | `flash_format/Head` |\n", "", "A reader does not find the definition.",
+       "test_worked_examples.Definitions.test_each_section_has_a_row_in_order", is_new=False),
+    of(FORMAT, "the index names no definition file",
+       "| Heads | `flash_format/Head` |", "| Heads | `flash_format/Heads` |",
+       "A reader does not find the definition.",
+       "test_worked_examples.Definitions.test_each_definition_file_exists", is_new=False),
+    of(CHECK, "the page has another text of an overlap",
+       ".It bad Qq overlaps\n", ".It bad Qq overlap\n", "A script searches for the wrong text.",
+       "test_check_rows.Texts.test_the_texts_of_the_page", is_new=False),
+    of(CHECK, "the page lacks a code",
+       ".Bq tail-bytes\n", "", "A script does not know the code.",
+       "test_check_schema.Codes.test_the_codes_of_the_page", is_new=False),
+    of("docs/cbfscheck.schema.json", "the schema lacks a code",
+       '        "tail-bytes",\n', "", "A script refuses the report.",
+       "test_check_schema.Codes.test_the_codes_of_the_table", is_new=False),
 ]

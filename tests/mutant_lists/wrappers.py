@@ -9,7 +9,11 @@ from tests.mutants import Wrapper
 
 TESTS = ("test_create", "test_fmaptool", "test_sizes", "test_borders", "test_unusual_files",
          "test_print", "test_layout", "test_extract", "test_add", "test_remove",
-         "test_command_line", "test_stops", "test_locks", "test_pipes", "test_interrupts")
+         "test_command_line", "test_stops", "test_locks", "test_pipes", "test_interrupts",
+         "test_check_map", "test_check_region", "test_check_needs", "test_check_list",
+         "test_check_rows", "test_check_blocks", "test_check_areas", "test_check_components",
+         "test_check_board", "test_check_anchor", "test_check_document", "test_check_schema",
+         "test_check_line", "test_check_files", "test_limits", "test_together")
 
 
 def fault(name, test, said, title, harm, program="cbfstool"):
@@ -39,6 +43,14 @@ def reworded(title, change, harm, test, program="cbfstool"):
     script = f'run "$@" 2> "$FOLDER/told.$$"\nstatus=$?\nsed "{change}" "$FOLDER/told.$$" >&2\n'
     script += 'rm "$FOLDER/told.$$"\nexit $status\n'
     return Wrapper(title, program, script, harm, test, "message of the command differs")
+
+
+def edited(title, change, harm, test, said="differs"):
+    """Returns a wrapper of cbfscheck that sends its output through sed."""
+    script = 'run "$@" > "$FOLDER/printed.$$"\nstatus=$?\n'
+    script += f"sed '{change}' < \"$FOLDER/printed.$$\"\n"
+    script += 'rm "$FOLDER/printed.$$"\nexit $status\n'
+    return Wrapper(f"cbfscheck: {title}", "cbfscheck", script, harm, test, said)
 
 
 ALWAYS = '*'
@@ -306,4 +318,72 @@ MUTANTS = [
           "an interrupted write has written all bytes", "Some bytes of the image are lost."),
     fault("stubborn", "test_interrupts.EndlessInterrupts.test_endless_interrupts", "differs",
           "an interrupted call is repeated without end", "The command hangs."),
+
+    # ---- reports of cbfscheck
+    edited("no overlap is reported", "/overlaps/d", "A write to one area changes another one.",
+           "test_check_map.Small.test_an_overlap_at_the_start"),
+    edited("a further map is at another offset", "s/0x2bc/0x2c0/", "The user looks at other bytes.",
+           "test_check_map.Small.test_two_further_maps"),
+    edited("an area that ends one byte outside is accepted", "/0x180.ends outside/d",
+           "The update program refuses the image.",
+           "test_check_map.Small.test_an_area_that_ends_one_byte_after_the_image"),
+    edited("an area outside the limit is not named", "/isn.t checked/d",
+           "The user believes that the area was checked.",
+           "test_check_map.CheckedBytes.test_an_area_of_one_byte_too_many"),
+    edited("a second entry in the tail is not reported", "/0xc0.entry in the unused tail/d",
+           "A lost component cannot be found.", "test_check_region.Tails.test_two_entries"),
+    edited("the largest content is four bytes smaller", "s/takes.100$/takes\t96/",
+           "A build refuses a content that fits.",
+           "test_check_region.LargestContent.test_a_run_between_components"),
+    edited("an invalid digest is a remark", "s/^bad\\(.*sha512 invalid\\)/remark\\1/",
+           "A damaged component is flashed.",
+           "test_check_region.Sampled.test_a_content_that_is_not_that_of_its_digest"),
+    edited("a need at an offset is always met", "/needed component is elsewhere/d",
+           "A board whose bootblock moved is flashed.",
+           "test_check_needs.Needs.test_a_component_at_an_offset"),
+    edited("the list shows LZ4 as LZMA", "s/LZ4/LZMA/", "A script unpacks with the wrong program.",
+           "test_check_list.List.test_compressed_components"),
+    edited("17 rows of a kind are printed without a note", "/more of these/d",
+           "The user overlooks findings.", "test_check_rows.RowsOfAKind.test_17_rows"),
+    edited("one block too few is counted", "s/differ.2$/differ\t1/",
+           "The update program erases too little.",
+           "test_check_blocks.Areas.test_blocks_from_the_start_of_an_area"),
+    edited("a change in a preserved area is a change", "s/^bad\tA/change\tA/",
+           "An update loses settings.", "test_check_areas.Preserved"),
+    edited("a moved component is not reported", "/component moved/d",
+           "A component at a fixed address is lost.",
+           "test_check_components.Components.test_two_components_that_moved"),
+    edited("an erased bootblock is not missed", "/bootblock.*isn.t there/d",
+           "A board without a bootblock is flashed.",
+           "test_check_board.Board.test_an_erased_bootblock"),
+    edited("an outdated SHA-384 is valid",
+           "s/^bad\\(.*sha384\\) invalid: run cbfsseal IMAGE/remark\\1 valid/",
+           "The board does not boot.", "test_check_anchor.Reports.test_sha384"),
+    edited("a seventeenth area is compared",
+           "s/^change\tP8\t-\t0x0\tnot compared/change\tP8\t-\t0x0\terase blocks differ\t1/",
+           "A hostile map takes hours.", "test_limits.ComparedAreas.test_a_longer_old_image"),
+    edited("the code of a tail's bytes is that of the tail", "s/tail-bytes/tail/",
+           "A script ignores the finding.", "test_check_document.RowsOfAKind.test_16_rows"),
+    edited("a control character has another code point", "s/u0001/u0002/",
+           "A script finds no area of the name.", "test_check_document.Names.test_the_document"),
+    edited("a finding has an unknown code", 's/"code":"map"/"code":"flashmap"/',
+           "A script fails.", "test_check_schema.Documents", "not valid"),
+    Wrapper("a bad report has status 0", "cbfscheck", 'run "$@"\nexit 0\n',
+            "A script flashes a bad image.", "test_check_map.Small.test_no_area_FMAP", STATUS),
+    reworded("a list of areas is a list of regions", "s/list of areas/list of regions/",
+             "The user looks for another option.", "test_check_line.Errors", "cbfscheck"),
+    fault("unlocked", "test_check_files.Locks.test_an_exclusive_lock", "False is not true",
+          "a check of one image takes no lock", "The report is that of no image.", "cbfscheck"),
+    Wrapper("a check takes 100 MB of memory", "cbfscheck",
+            'python3 -S -c "bytes(10 ** 8)[::4096]"\nrun "$@"\n',
+            "A check on a small machine is killed.",
+            "test_limits.ManyAreas.test_nested_areas", "not less than or equal to"),
+
+    # ---- many commands at once
+    fault("unlocked", "test_together", "seed", "commands at once take no lock",
+          "Two additions at once lose a component."),
+    fault("shared", "test_together", "seed", "commands at once share the lock",
+          "Two additions at once lose a component."),
+    fault("kept", "test_together", "does not end in", "a listing into a full pipe keeps its lock",
+          "A command further down a pipe hangs."),
 ]
