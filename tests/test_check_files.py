@@ -65,16 +65,19 @@ class Paths(CheckTest):
     @unittest.skipUnless(traces(), "strace")
     def test_a_file_that_becomes_a_pipe_before_it_is_opened(self):
         folder = self.folder({"late": b"abc"})
-        words = tracing(folder, "openat", ["late"], "delay_enter=2000000")
+        words = tracing(folder, "openat,stat,statx,newfstatat", ["late"])
+        words += ["-e", "inject=openat:delay_enter=2000000"]
+        folder.notes.write_text("")
         started = folder.start([*words, "cbfscheck", "late"])
-        time.sleep(1)
-        (folder.path / "late").unlink()
-        os.mkfifo(folder.path / "late")
-        # (open for both, so that no side waits for the other)
-        pipe = os.open(folder.path / "late", os.O_RDWR)
-        self.addCleanup(os.close, pipe)
-        done = started.end(limit=LIMIT)
-        self.compare_run(folder, done, 2, b"", "cbfscheck: late: device fault\n", {"late": None})
+        while started.process.poll() is None and "stat" not in folder.notes.read_text():
+            time.sleep(0.01)
+        os.mkfifo(folder.path / "pipe")
+        (folder.path / "pipe").rename(folder.path / "late")
+        # (open for both sides, so that no side waits for the other)
+        both = os.open(folder.path / "late", os.O_RDWR)
+        self.addCleanup(os.close, both)
+        self.compare_run(folder, started.end(limit=LIMIT), 2, "",
+                         "cbfscheck: late: device fault\n", {"late": None})
         self.assertIn("DELAYED", folder.notes.read_text())
 
     @unittest.skipUnless(traces(), "strace")
