@@ -1,5 +1,9 @@
 """Validates JSON documents by a schema of draft 07, with the keywords of cbfscheck.schema.json."""
 
+import json
+
+from tests.programs import TOP
+
 TYPES = {"object": dict, "array": list, "string": str, "integer": int}
 # Keywords that state nothing of a document.
 NOTES = {"$schema", "title", "description", "definitions"}
@@ -69,3 +73,7 @@ class Schema:
         if word == "additionalProperties" and rule is False:
             return not isinstance(value, dict) or set(value) <= set(self.schema["properties"])
         raise ValueError(f"an unknown keyword of a schema: {word}")
+
+
+# The schema of the documents of cbfscheck.
+REPORTS = Schema(json.loads((TOP / "docs" / "cbfscheck.schema.json").read_text(encoding="utf-8")))

@@ -8,6 +8,7 @@ from tests.findings import (
 )
 from tests.image import Component, compression
 from tests.samples import Sample
+from tests.schema import REPORTS
 
 HASHES, TYPES = Sample("hashes").image, Sample("types").image
 
@@ -32,6 +33,7 @@ class DocumentTest(CheckTest):
             expected["components"] = components
         expected["rows"] = rows
         expected.update(zip(("bad", "remarks", "changes"), counts))
+        self.assertTrue(REPORTS.accepts(expected), "not valid by the schema")
         text = json.dumps(expected, ensure_ascii=False, separators=(",", ":"))
         command = ["cbfscheck", "--json", *paths, *options.split()]
         self.check(command, files, status, text + "\n")

@@ -52,7 +52,9 @@ class Paths(CheckTest):
             ("/dev/zero: device fault", "hashes.rom /dev/zero"),
         ]:
             with self.subTest(words):
-                self.refuses(2, message, f"cbfscheck {words}", self.folder_of_kinds(), limit=LIMIT)
+                folder = self.folder_of_kinds()
+                self.refuses(2, message, f"cbfscheck {words}", folder, limit=LIMIT)
+                self.assertTrue((folder.path / "pipe").is_fifo())
 
     def test_an_image_of_4_gib(self):
         folder, large = self.folder(FILES), self.folder().path / "large.rom"

@@ -14,10 +14,9 @@ from tests.image import (
 )
 from tests.programs import TOP
 from tests.samples import NAMES, Sample
-from tests.schema import Schema
+from tests.schema import REPORTS, Schema
 
-SCHEMA = json.loads((TOP / "docs" / "cbfscheck.schema.json").read_text(encoding="utf-8"))
-CODES = SCHEMA["definitions"]["code"]["enum"]
+CODES = REPORTS.schema["definitions"]["code"]["enum"]
 SAMPLES = [Sample(name).image for name in NAMES]
 
 # The texts of each code. `more of these` has the code of its kind.
@@ -209,7 +208,7 @@ class Documents(CheckTest):
         for number, (options, *images) in enumerate(RUNS):
             with self.subTest(number, options=options):
                 found = self.document(options, *images)
-                self.assertTrue(Schema(SCHEMA).accepts(found), f"not valid: {found}")
+                self.assertTrue(REPORTS.accepts(found), f"not valid: {found}")
                 for row in found["rows"]:
                     self.assertIn(row["what"], [*TEXTS[row["code"]], "more of these"])
                 codes |= {row["code"] for row in found["rows"]}
@@ -252,10 +251,10 @@ class Faults(unittest.TestCase):
             document = copy.deepcopy(VALID)
             change(document)
             self.assertNotEqual(document, VALID)
-            self.assertFalse(Schema(SCHEMA).accepts(document))
+            self.assertFalse(REPORTS.accepts(document))
 
     def test_a_valid_document(self):
-        self.assertTrue(Schema(SCHEMA).accepts(VALID))
+        self.assertTrue(REPORTS.accepts(VALID))
 
     def test_members_of_the_document(self):
         for title, members in [
@@ -297,7 +296,7 @@ class Faults(unittest.TestCase):
         self.refuses("a row", lambda document: document["components"].append(VALID["rows"][0]))
 
     def test_an_unknown_keyword(self):
-        schema = copy.deepcopy(SCHEMA)
+        schema = copy.deepcopy(REPORTS.schema)
         schema["definitions"]["number"]["multipleOf"] = 1
         with self.assertRaises(ValueError):
             Schema(schema).accepts(VALID)

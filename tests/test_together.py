@@ -17,6 +17,7 @@ import random
 import signal
 import struct
 import subprocess
+import sys
 import tempfile
 import termios
 import time
@@ -32,6 +33,11 @@ MIB = 1 << 20
 LIMIT, SOON = 60, float(os.environ.get("TOGETHER_LIMIT", 20))
 PIPE_SIZE = 4096
 F_SETPIPE_SZ = 1031
+# Holds a lock of the image for 50 milliseconds.
+HOLD = """import fcntl, sys, time
+with open("image.rom", "rb") as file:
+    fcntl.flock(file, int(sys.argv[1]))
+    time.sleep(0.05)"""
 
 BOTH = flash_map(16 * MIB, [Area("FMAP", 0, 4096), Area("A", 4096, 8 * MIB),
                             Area("B", 4096 + 8 * MIB, MIB)], name=b"F")
@@ -190,7 +196,14 @@ class Worker:
         self.locks(fcntl.LOCK_EX)
 
     def locks(self, how):
-        """Holds a lock, under which the image does not change."""
+        """Holds a lock, under which the image does not change, or kills a process that has it."""
+        if self.chance.randrange(3) == 0:
+            holder = subprocess.Popen([sys.executable, "-IS", "-c", HOLD, str(how)],
+                                      cwd=self.room.path)
+            time.sleep(self.chance.randrange(100) / 1000)
+            holder.kill()
+            holder.wait()
+            return
         with open(self.room.path / "image.rom", "rb") as file:
             fcntl.flock(file, how)
             before = os.pread(file.fileno(), MIB, 0)
@@ -214,6 +227,12 @@ class Worker:
         self.room.end(command, listing)
         if len(rest) <= PIPE_SIZE:
             raise Refused("the listing is not longer than its pipe")
+        # (the reader of another listing goes away at once)
+        short = self.room.start(command)
+        short.stdout.readline()
+        short.stdout.close()
+        short.stderr.close()
+        short.wait()
 
     def edits(self):
         """Extracts two components, and adds and removes one, each in a short time."""
