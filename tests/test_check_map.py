@@ -27,9 +27,10 @@ class Sampled(CheckTest):
 
     programs = ("cbfscheck", "cbfstool")
 
-    def trips(self, message, command, image, **more):
-        """Checks that a command of cbfstool on the image is refused."""
-        self.refuses(1, message, f"cbfstool {command}", {"image.rom": image, **more})
+    def trips(self, message, command, image, left=None):
+        """Checks that a command of cbfstool is refused, and leaves these files."""
+        files = {"image.rom": image, "table": image[0x1000:0x110A]}
+        self.refuses(1, message, f"cbfstool {command}", files, left)
 
     def test_no_map(self):
         image = patched(HASHES, (0x1000, b"X"))
@@ -87,7 +88,7 @@ class Sampled(CheckTest):
             remark|COREBOOT|-|-|largest content that add takes|15264
             2 bad, 9 remarks, 0 changes
         """)
-        self.trips("region outside the image", "image.rom read -r TAIL -f out", image)
+        self.trips("region outside the image", "image.rom read -r TAIL -f out", image, {"out": b""})
 
     def test_an_area_without_bytes(self):
         self.reports(0, patched(HASHES, (area(3, 4), bytes(4))), r"""
@@ -120,7 +121,7 @@ class Sampled(CheckTest):
             remark|COREBOOT|-|-|largest content that add takes|15264
             1 bad, 9 remarks, 0 changes
         """)
-        self.trips("no such region", "image.rom read -r TAIL -f out", image)
+        self.trips("no such region", "image.rom read -r TAIL -f out", image, {"out": b""})
         self.check("cbfstool image.rom read -r SMMSTORE -f out", {"image.rom": image},
                    left={"out": bytes(4096)})
 
@@ -160,7 +161,8 @@ class Sampled(CheckTest):
             remark|COREBOOT|-|-|largest content that add takes|15264
             1 bad, 9 remarks, 0 changes
         """)
-        self.trips("bad FMAP area", "made.rom create -M table", image, table=image[0x1000:0x110A])
+        self.trips("bad FMAP area", "made.rom create -M table", image,
+                   {"made.rom": b"\xff" * 0x8000})
 
     def test_an_area_FMAP_after_the_map(self):
         """`create` puts the map to another place, so a write to another area would hit the map."""

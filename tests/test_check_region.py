@@ -198,7 +198,11 @@ class Sampled(CheckTest):
             remark|COREBOOT|-|-|no room for a component
             1 bad, 7 remarks, 0 changes
         """)
-        self.trips("damaged entry at 0x180: extent", "print", image)
+        self.check("cbfstool image.rom print", {"image.rom": image}, 1, (
+            "h\\x20sha1\t0x0\traw\t10\tnone\n"
+            "h\\x20sha256\t0x80\traw\t10\tnone\n"
+            "h\\x20sha512\t0x100\traw\t10\tnone\n"),
+            "cbfstool: damaged entry at 0x180: extent\n")
 
 
 class Components(CheckTest):
