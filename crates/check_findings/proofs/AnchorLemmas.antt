@@ -1,5 +1,5 @@
 -- The findings of an anchor, and the digests that it should have.
-use Rattle.std.proofs.Common.{◌≡◌, ◌∙◌, ℕ, Bool, true, false, List, [], ◌∷◌, Option, Some, None, Result, Ok, Err, refl, sym, ap, subst}
+use Rattle.std.proofs.Common.{◌≡◌, ◌∙◌, ℕ, Bool, true, false, List, [], Some, None, Result, Ok, Err, refl, sym}
 use Rattle.std.specs.Prelude.{◌≢◌, ◌↔◌, ◌||◌, not}
 use Rattle.std.specs.List.{list_any}
 use Rattle.std.specs.Option.{option_map_or}
@@ -21,7 +21,7 @@ use Rattle.cbfs_anchor.specs.Faults.{and_then}
 use Rattle.cbfs_anchor.specs.Places.{place_in, place_with}
 use Rattle.cbfs_anchor.specs.Seals.{Survey, stored_map, stored_metadata, survey_at, survey_in}
 use Rattle.check_findings.specs.Anchors.{IsAnchorCheck, anchor_at, anchor_findings, digest_findings, findings_at, image_anchor}
-use Rattle.check_findings.specs.declared.anchor.check.CheckedAnchor.{CheckedAnchor}
+use Rattle.check_findings.specs.declared.anchor.checked_anchor.CheckedAnchor.{CheckedAnchor}
 use Rattle.check_findings.specs.declared.fault.CheckFault.{CheckFault}
 use Rattle.check_findings.specs.Laws.{HasDigests, is_other_map, is_other_metadata}
 use Rattle.check_findings.specs.Verdicts.{is_bad_anchor}

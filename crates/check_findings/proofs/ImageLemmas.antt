@@ -4,3 +4,4 @@ pub mod Regions
 pub mod Fit
 pub mod FitImages
 pub mod Needs
+pub mod Limits

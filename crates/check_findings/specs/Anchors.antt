@@ -14,7 +14,7 @@ use Rattle.cbfs_anchor.specs.Faults.{and_then}
 use Rattle.cbfs_anchor.specs.Layout.{anchor_in}
 use Rattle.cbfs_anchor.specs.Places.{place_in}
 use Rattle.cbfs_anchor.specs.Seals.{Survey, stored_map, stored_metadata, survey_at}
-use Rattle.check_findings.specs.declared.anchor.check.CheckedAnchor.{CheckedAnchor}
+use Rattle.check_findings.specs.declared.anchor.checked_anchor.CheckedAnchor.{CheckedAnchor}
 use Rattle.check_findings.specs.declared.anchor.finding.AnchorFinding.{AnchorFinding}
 use Rattle.check_findings.specs.declared.anchor.finding.AnchorFinding.TheVariants.{CutOff, FlashMap, Metadata, NotChecked, UnknownAlgorithm}
 use Rattle.check_findings.specs.declared.anchor.finding.AnchorSpot.{AnchorSpot}

@@ -40,8 +40,8 @@ has_one_of names a = list_any (λ name. is_area name a.area) names
 
 -- a smaller area with room for a header has the same offset, and so the same entry
 abbrev pub has_smaller : List NumberedArea → NumberedArea → Bool
-has_smaller areas a = list_any (λ (b : NumberedArea). b.area.offset == a.area.offset
-    && (nat_le 24 b.area.size && nat_lt b.area.size a.area.size)) areas
+has_smaller areas a = list_any (λ (other : NumberedArea). other.area.offset == a.area.offset
+    && (nat_le 24 other.area.size && nat_lt other.area.size a.area.size)) areas
 
 -- the area lies inside the image, and is expected, or begins with an entry and isn't above a
 -- smaller one
@@ -60,18 +60,22 @@ cbfs_areas image areas = wanted_areas image (has_one_of []) areas
 abbrev pub covering : Option Anchor → NumberedArea → Option Anchor
 covering anchor a = if has_name (codes "COREBOOT") a then anchor else None
 
+-- an area of at most `left` bytes is checked
+abbrev pub fits_in : ℕ → NumberedArea → Bool
+fits_in left a = nat_le a.area.size left
+
 -- of an area, with `left` bytes for checks
 abbrev pub area_finding : List ℕ → Option Anchor → (NumberedArea → Bool) → ℕ → NumberedArea
     → ImageFinding
-area_finding image anchor expects left a = if nat_le a.area.size left
+area_finding image anchor expects left a = if fits_in left a
     then Region a (covering anchor a) (region_findings (bytes_of image a))
     else NotChecked a (expects a)
 
--- the remaining bytes for checks
+-- the remaining bytes for checks after an area
 abbrev pub left_after : ℕ → NumberedArea → ℕ
-left_after left a = if nat_le a.area.size left then left - a.area.size else left
+left_after left a = if fits_in left a then left - a.area.size else left
 
--- of the areas to check, with `left` bytes for checks
+-- of the areas to check in order, with `left` bytes for checks
 abbrev pub areas_findings : List ℕ → Option Anchor → (NumberedArea → Bool) → ℕ
     → List NumberedArea → List ImageFinding
 areas_findings image anchor expects left areas =
@@ -79,15 +83,25 @@ areas_findings image anchor expects left areas =
 
 -- of a name without an area, by its index
 abbrev pub missing_name : List NumberedArea → ℕ × List ℕ → List ImageFinding
-missing_name areas n = only_if (is_none (find (has_name n.1) areas)) (NoArea n.0)
+missing_name areas name = only_if (is_none (find (has_name name.1) areas)) (NoArea name.0)
 
--- of the map, anchor, regions, and names without an area; the default region is expected too
+-- an area with one of these names, or the default region, is expected
+abbrev pub expects : List (List ℕ) → List (List ℕ) → NumberedArea → Bool
+expects names expected = has_one_of (names ++ codes "COREBOOT" ∷ expected)
+
+-- the areas that a check with these names and expected names is to check
+abbrev pub areas_to_check : List ℕ → List (List ℕ) → List (List ℕ) → List NumberedArea
+areas_to_check image names expected =
+    wanted_areas image (expects names expected) (image_areas image)
+
+-- of the map, of the anchor, of the areas to check, and of names without an area
 unfoldable pub image_findings : List ℕ → List (List ℕ) → List (List ℕ) → List ImageFinding
-image_findings image names expected = let areas = image_areas image in
-    let all = has_one_of (names ++ codes "COREBOOT" ∷ expected) in
-    map Map (map_findings image) ++ map OfAnchor (anchor_findings image) ++ areas_findings image
-    (image_anchor image) all (2 * length image) (wanted_areas image all areas)
-    ++ flat_map (missing_name areas) (enumerate_from 0 names)
+image_findings image names expected =
+    map Map (map_findings image)
+    ++ map OfAnchor (anchor_findings image)
+    ++ areas_findings image (image_anchor image) (expects names expected) (2 * length image)
+    (areas_to_check image names expected)
+    ++ flat_map (missing_name (image_areas image)) (enumerate_from 0 names)
 
 -- ---- the checked areas
 

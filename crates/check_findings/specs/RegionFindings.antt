@@ -28,7 +28,7 @@ use Rattle.check_findings.specs.declared.region.finding.RegionFinding.{RegionFin
 use Rattle.check_findings.specs.declared.region.finding.RegionFinding.TheVariants as findings
 use Rattle.check_findings.specs.declared.region.finding.RegionFinding.TheVariants.{Component as Found}
 use Rattle.check_findings.specs.declared.region.finding.RegionFinding.TheVariants.{Deleted}
-use Rattle.check_findings.specs.declared.region.count.Count.{Count}
+use Rattle.check_findings.specs.declared.region.entry_counts.EntryCounts.{EntryCounts}
 
 abbrev pub hash_finding : HashState → HashFinding
 hash_finding states.Absent = hashes.Missing
@@ -37,16 +37,14 @@ hash_finding (states.Invalid digest) = hashes.Invalid (algorithm digest)
 hash_finding states.Unsupported = hashes.Unsupported
 
 abbrev pub component_content : Component → Content
-component_content c = let h = head_of c.bytes in let code = packing c.attributes in
-    let hash = hash_finding (hash_state c.attributes c.content) in
-    record {
-      start = c.at + h.offset;
-      kind = h.kind;
-      len = h.len;
-      compression = code;
-      hash = hash;
-      stored = stored_hash c.attributes;
-    }
+component_content c = let head = head_of c.bytes in record {
+  start = c.at + head.offset;
+  kind = head.kind;
+  len = head.len;
+  compression = packing c.attributes;
+  hash = hash_finding (hash_state c.attributes c.content);
+  stored = stored_hash c.attributes;
+}
 
 -- of an entry; an empty entry of type 0 is a deleted component
 abbrev pub cell_findings : ℕ → List ℕ → List RegionFinding
@@ -67,11 +65,27 @@ is_filled b = not (b == 0xff || b == 0x00)
 abbrev pub first_filled : ℕ → List ℕ → Option ℕ
 first_filled at x = position_from is_filled at (slice_range x at (length x - 4))
 
--- of the tail, its first filled byte, and entries in steps of 64; a blank tail has no entries
+-- an entry, damaged or not, begins at this offset of the region
+abbrev pub has_entry_at : ℕ → List ℕ → Bool
+has_entry_at at x = is_some (front (drop at x))
+
+-- the offsets from `at` on, in steps of 64, which 64 bytes of the region follow
+abbrev pub offsets_from : ℕ → List ℕ → List ℕ
+offsets_from at x = map (λ i. at + 64 * i) (range_with_len 0 ((length x - at) / 64))
+
+-- the entries from `at` on, where the walk ends: no walk returns them
+abbrev pub later_entries : ℕ → List ℕ → List RegionFinding
+later_entries at x =
+    map findings.TailEntry (filter (λ place. has_entry_at place x) (offsets_from at x))
+
+-- of a tail from `at` on with this first filled byte
+abbrev pub filled_tail : ℕ → List ℕ → ℕ → List RegionFinding
+filled_tail at x filled = findings.TailFilled filled ∷ later_entries at x
+
+-- of the tail from `at` on; a blank tail has no entries
 unfoldable pub tail_findings : ℕ → List ℕ → List RegionFinding
-tail_findings at x = findings.Tail at ∷ option_map_or (λ place. findings.TailFilled place
-    ∷ map findings.TailEntry (filter (λ p. is_some (front (drop p x)))
-    (map (λ i. at + 64 * i) (range_with_len 0 ((length x - at) / 64))))) (first_filled at x) []
+tail_findings at x =
+    findings.Tail at ∷ option_map_or (filled_tail at x) (first_filled at x) []
 
 -- of the end of the entries
 abbrev pub end_findings : List ℕ → ℕ → End → List RegionFinding
@@ -87,25 +101,52 @@ shape_findings _ = []
 
 -- ---- counts
 
--- the most usable bytes of an empty run, if the entries end here: all but the region's last four
-abbrev pub usable_room : Count → ℕ
-usable_room n = max n.room (n.at - n.start - (if n.at == n.size then 4 else 0))
+-- the usable bytes of the empty run after the last component, if the entries end here: all but the
+-- region's last four
+abbrev pub last_room : EntryCounts → ℕ
+last_room counts = counts.at - counts.start - (if counts.at == counts.size then 4 else 0)
+
+-- the most usable bytes of an empty run, if the entries end here
+abbrev pub usable_room : EntryCounts → ℕ
+usable_room counts = max counts.room (last_room counts)
+
+-- after an empty entry of this length
+abbrev pub counts_after_free : EntryCounts → ℕ → EntryCounts
+counts_after_free counts len = record counts { at = counts.at + len; free = counts.free + len }
+
+-- after a component of this length, which ends the empty run before it
+abbrev pub counts_after_component : EntryCounts → ℕ → EntryCounts
+counts_after_component counts len = record counts {
+  at = counts.at + len;
+  components = counts.components + 1;
+  room = usable_room counts;
+  start = counts.at + len;
+}
 
 -- after an entry of this length
-abbrev pub count_after : Count → Bool → ℕ → Count
-count_after n free len = let end = n.at + len in let room = usable_room n in
-    if free then record n { at = end; free = n.free + len }
-    else record n { at = end; components = n.components + 1; room = room; start = end }
+abbrev pub counts_after : EntryCounts → Bool → ℕ → EntryCounts
+counts_after counts free len =
+    if free then counts_after_free counts len else counts_after_component counts len
+
+-- before the first entry of a region of this size
+abbrev pub no_entries : ℕ → EntryCounts
+no_entries size =
+    record { size = size; at = 0; components = 0; free = 0; start = 0; room = 0 }
 
 -- after these entries of a region of this size
-abbrev pub entry_counts : ℕ → List (List ℕ) → Count
-entry_counts size = fold (λ n x. count_after n (is_free (head_of x)) (length x))
-    (record { size = size; at = 0; components = 0; free = 0; start = 0; room = 0 })
+abbrev pub entry_counts : ℕ → List (List ℕ) → EntryCounts
+entry_counts size = fold
+    (λ counts entry. counts_after counts (is_free (head_of entry)) (length entry))
+    (no_entries size)
 
 -- In the room, 28 bytes hold the header and a name of at most 3 bytes with its NUL.
-abbrev pub count_findings : Count → List RegionFinding
-count_findings n = findings.Components n.components ∷ findings.FreeBytes n.free
-    ∷ findings.LargestContent (then_some (nat_le 28 (usable_room n)) (usable_room n - 28)) ∷ []
+abbrev pub largest_content : ℕ → Option ℕ
+largest_content room = then_some (nat_le 28 room) (room - 28)
+
+abbrev pub count_findings : EntryCounts → List RegionFinding
+count_findings counts = findings.Components counts.components
+    ∷ findings.FreeBytes counts.free
+    ∷ findings.LargestContent (largest_content (usable_room counts)) ∷ []
 
 -- ---- the region
 

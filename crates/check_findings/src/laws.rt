@@ -1,5 +1,5 @@
 //! Laws about findings, as contracts of functions without effect.
-ghost use Rattle.std.specs.Prelude.{◌≡◌, ◌≢◌, ◌↔◌, ℕ, Bool, List, [], ◌∷◌, Contains, IsOkAnd, IsSomeAnd, None, Ok, Some, length, true, false};
+ghost use Rattle.std.specs.Prelude.{◌≡◌, ◌≢◌, ◌↔◌, ◌+◌, ◌*◌, ◌<◌, ◌≤◌, ℕ, Bool, List, [], ◌∷◌, Contains, IsOkAnd, IsSomeAnd, None, Ok, Some, length, true, false};
 ghost use Rattle.std.specs.List.{filter, find, list_any, sum_by};
 ghost use Rattle.flash_format.specs.Cut.{cut};
 ghost use Rattle.flash_format.specs.Head.{head_of, is_free};
@@ -15,7 +15,9 @@ ghost use Rattle.check_findings.specs.MapFindings.{map_findings};
 ghost use Rattle.check_findings.specs.RegionFindings.{component_content, region_findings};
 ghost use Rattle.check_findings.specs.RegionFindings.{entry_counts, tail_findings};
 ghost use Rattle.check_findings.specs.ImageFindings.{bytes_of, image_findings};
-ghost use Rattle.check_findings.specs.ImageFindings.{region_areas};
+ghost use Rattle.check_findings.specs.ImageFindings.{areas_to_check, region_areas, sum_sizes};
+ghost use Rattle.check_findings.specs.declared.areas.NumberedArea.{NumberedArea};
+ghost use Rattle.check_findings.specs.declared.image.finding.ImageFinding.TheVariants.{NotChecked};
 ghost use Rattle.check_findings.specs.Needs.{is_met, unmet};
 ghost use Rattle.check_findings.specs.declared.image.needs.Need.{Need};
 ghost use Rattle.check_findings.specs.Laws.{InFitImages, IsBlankTail, IsSound};
@@ -67,6 +69,19 @@ pub fn fit_regions_are_whole()
 /// region as above.
 pub fn fit_images_are_whole()
     ensures { InFitImages IsFit }
+{}
+
+/// If the areas to check have at most two image lengths together, all of them are checked. An area
+/// is left out only if the checked areas and this area have more than two image lengths together.
+pub fn two_image_lengths_are_checked()
+    ensures all { (image : List ℕ) (names expected : List (List ℕ)) →
+        sum_sizes (areas_to_check image names expected) ≤ 2 * length image →
+        region_areas (image_findings image names expected)
+        ≡ areas_to_check image names expected }
+    ensures left_out { (image : List ℕ) (names expected : List (List ℕ)) (a : NumberedArea)
+        (is_expected : Bool) → let all = image_findings image names expected in
+        Contains all (NotChecked a is_expected) →
+        2 * length image < sum_sizes (region_areas all) + a.area.size }
 {}
 
 /// If the findings meet a need, a search in its area finds its component at the required position.

@@ -21,7 +21,7 @@ pub use image::{
 pub use laws::{
     blank_tails_are_known, clean_maps_are_sound, counts_are_of_the_entries, fit_images_are_sealed,
     fit_images_are_whole, fit_regions_are_whole, needs_are_there, other_digests_are_reported,
-    unshadowed_components_are_found,
+    two_image_lengths_are_checked, unshadowed_components_are_found,
 };
 pub use lists::{Elements, push, push_if};
 pub use map::{CheckedMap, MapFinding, check_map, is_text};

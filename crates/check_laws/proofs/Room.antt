@@ -14,8 +14,8 @@ use Rattle.cbfs_edit.specs.declared.group.CellRange.{CellRange}
 use Rattle.cbfs_edit.specs.declared.place.Place.{Place}
 use Rattle.std.specs.List.{fold}
 use Rattle.flash_format.specs.Head.{head_of, is_free}
-use Rattle.check_findings.specs.declared.region.count.Count.{Count}
-use Rattle.check_findings.specs.RegionFindings.{cells_findings, count_after, count_findings, end_findings, entry_counts, marked, region_findings, usable_room, walk_findings}
+use Rattle.check_findings.specs.declared.region.entry_counts.EntryCounts.{EntryCounts}
+use Rattle.check_findings.specs.RegionFindings.{cells_findings, counts_after, count_findings, end_findings, entry_counts, marked, region_findings, usable_room, walk_findings}
 use Rattle.check_findings.specs.declared.region.finding.RegionFinding.{RegionFinding}
 use Rattle.check_findings.specs.declared.region.finding.RegionFinding.TheVariants.{Component, LargestContent}
 use Rattle.check_findings.proofs.RegionLemmas.Parts.{IsIn, cell_part, end_part, of_cells, of_end}
@@ -64,17 +64,17 @@ module _ (size n : ℕ) where
   enough_max : (a b : ℕ) → enough (max a b) ≡ (enough a || enough b)
   enough_max a b = grind (arith, nat_tests)
 
-  count_all : Count → List (List ℕ) → Count
-  count_all = fold (λ (c : Count) x. count_after c (is_free (head_of x)) (length x))
+  count_all : EntryCounts → List (List ℕ) → EntryCounts
+  count_all = fold (λ (c : EntryCounts) x. counts_after c (is_free (head_of x)) (length x))
 
   -- a run has a place if the content fits the most usable bytes of a run
-  among : (c : Count) (cells : List (List ℕ)) → c.size ≡ size → (enough c.room || has_place (runs_from c.start c.at cells)) ≡ enough (usable_room (count_all c cells))
+  among : (c : EntryCounts) (cells : List (List ℕ)) → c.size ≡ size → (enough c.room || has_place (runs_from c.start c.at cells)) ≡ enough (usable_room (count_all c cells))
   unfolding runs_from count_all
   among c [] same = let most = enough_max c.room (usable c.start c.at) in grind (arith, nat_tests, run_or c.start c.at [], most, same)
   among c (x ∷ cells) same =
       let end = c.at + length x in
-      let longer = among (count_after c true (length x)) cells same in
-      let later = among (count_after c false (length x)) cells same in
+      let longer = among (counts_after c true (length x)) cells same in
+      let later = among (counts_after c false (length x)) cells same in
       let closed = run_or c.start c.at (runs_from end end cells) in
       let most = enough_max c.room (usable c.start c.at) in
       grind (arith, nat_tests, longer, later, closed, most, same)

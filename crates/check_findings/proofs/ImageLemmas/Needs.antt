@@ -1,7 +1,7 @@
 -- The first content of a name in the findings belongs to the component that a search finds.
 use lib.Chars.{codes}
 use Rattle.std.proofs.Common.{◌≡◌, ℕ, ◌+◌, Bool, true, false, cond, List, [], ◌∷◌, ◌++◌, length, Option, Some, None, Ok, refl, sym, ap, subst, ◌∙◌, append_assoc, append-nil, arith}
-use Rattle.std.specs.Prelude.{map, ◌*◌, nat_le, All}
+use Rattle.std.specs.Prelude.{◌*◌, nat_le, All}
 use Rattle.std.proofs.lemmas.List.Elements.{All-head, All-tail, All-weaker}
 use Rattle.std.specs.List.{enumerate_from, flat_map}
 use Rattle.std.specs.Option.{option_map}
@@ -32,7 +32,7 @@ use Rattle.check_findings.specs.MapFindings.{map_findings}
 use Rattle.check_findings.specs.Areas.{image_areas}
 use Rattle.check_findings.specs.declared.areas.NumberedArea.{NumberedArea}
 use Rattle.check_findings.specs.declared.image.finding.ImageFinding.{ImageFinding}
-use Rattle.check_findings.specs.declared.image.finding.ImageFinding.TheVariants.{Map, NotChecked, Region}
+use Rattle.check_findings.specs.declared.image.finding.ImageFinding.TheVariants.{NotChecked, Region}
 use Rattle.check_findings.specs.declared.image.needs.NeedFinding.TheVariants.{Missing}
 use Rattle.check_findings.specs.declared.region.finding.Content.{Content}
 use Rattle.check_findings.specs.declared.region.finding.RegionFinding.{RegionFinding}

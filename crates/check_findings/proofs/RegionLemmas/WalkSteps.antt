@@ -20,10 +20,10 @@ use Rattle.cbfs_walk.specs.declared.walk.WalkFault.TheVariants as walk
 use Rattle.cbfs_walk.proofs.Shapes.{shaped_step}
 use Rattle.flash_format.specs.Head.{head_of, is_free}
 use Rattle.flash_format.specs.declared.head.DamageKind.{DamageKind}
-use Rattle.check_findings.specs.RegionFindings.{cell_findings, cells_findings, count_after, count_findings, end_findings, entry_counts, tail_findings, shape_findings, walk_findings}
+use Rattle.check_findings.specs.RegionFindings.{cell_findings, cells_findings, counts_after, count_findings, end_findings, entry_counts, tail_findings, shape_findings, walk_findings}
 use Rattle.check_findings.specs.declared.region.finding.RegionFinding.{RegionFinding}
 use Rattle.check_findings.specs.declared.region.finding.RegionFinding.TheVariants as findings
-use Rattle.check_findings.specs.declared.region.count.Count.{Count}
+use Rattle.check_findings.specs.declared.region.entry_counts.EntryCounts.{EntryCounts}
 use Rattle.check_findings.proofs.RegionLemmas.WalkParts.{Answers, Reached, reached_answer, reached_more, reached_start}
 use Rattle.std.specs.List.{fold}
 
@@ -33,30 +33,30 @@ use Rattle.std.specs.List.{fold}
 last : List ℕ → End → ℕ → List RegionFinding → List RegionFinding
 last bytes end at counts = end_findings bytes at end ++ counts
 
-count_all : Count → List (List ℕ) → Count
-count_all = fold (λ (n : Count) x. count_after n (is_free (head_of x)) (length x))
+count_all : EntryCounts → List (List ℕ) → EntryCounts
+count_all = fold (λ (n : EntryCounts) x. counts_after n (is_free (head_of x)) (length x))
 
 -- the findings of a region after these counts, if the cut continues at an offset
-cut_findings : List ℕ → ℕ → Cut → Count → List RegionFinding
+cut_findings : List ℕ → ℕ → Cut → EntryCounts → List RegionFinding
 cut_findings bytes at k n = cells_findings at k.cells ++ last bytes k.end (place_after at k.cells) (count_findings (count_all n k.cells))
 
-cell_step : List ℕ → Cell → (Count → List RegionFinding) → Count → List RegionFinding
-cell_step x given later n = cell_findings given.at x ++ later (count_after n (is_free given.head) given.span)
+cell_step : List ℕ → Cell → (EntryCounts → List RegionFinding) → EntryCounts → List RegionFinding
+cell_step x given later n = cell_findings given.at x ++ later (counts_after n (is_free given.head) given.span)
 
-fault_findings : WalkFault → Count → List RegionFinding
+fault_findings : WalkFault → EntryCounts → List RegionFinding
 fault_findings fault n = shape_findings fault
 
-cell_more : (bytes : List ℕ) (at : ℕ) (x : List ℕ) (k : Cut) (n : Count)
-    → cut_findings bytes at (after (x ∷ []) k) n ≡ cell_findings at x ++ cut_findings bytes (at + length x) k (count_after n (is_free (head_of x)) (length x))
+cell_more : (bytes : List ℕ) (at : ℕ) (x : List ℕ) (k : Cut) (n : EntryCounts)
+    → cut_findings bytes at (after (x ∷ []) k) n ≡ cell_findings at x ++ cut_findings bytes (at + length x) k (counts_after n (is_free (head_of x)) (length x))
 unfolding cut_findings cells_findings last count_all
 cell_more bytes at x k n = append_assoc (cell_findings at x) (cells_findings (at + length x) k.cells) _
 
 law : (bytes : List ℕ) → ReadsCells (cut_findings bytes) cell_step
 unfolding cell_step
-law bytes at x k = fun_ext (λ (n : Count). cell_more bytes at x k n)
+law bytes at x k = fun_ext (λ (n : EntryCounts). cell_more bytes at x k n)
 
 -- the findings from an offset on
-pub findings_from : List ℕ → Count → ℕ → List RegionFinding
+pub findings_from : List ℕ → EntryCounts → ℕ → List RegionFinding
 findings_from x n at = reading_of fault_findings (cut_findings x) x at n
 
 whole_findings : (x : List ℕ) → walk_findings x ≡ findings_from x (entry_counts (length x) []) 0
@@ -68,12 +68,12 @@ whole_findings x = go (shape_fault x)
     go (Some fault) = refl
 
 -- the same by the result of the walk
-findings_by : List ℕ → Count → StepResult → List RegionFinding
+findings_by : List ℕ → EntryCounts → StepResult → List RegionFinding
 findings_by x n answer = by_answer fault_findings (cut_findings x) cell_step x answer n
 
-by_step : (x : List ℕ) (n : Count) (at : ℕ) → at ≤ length x → at % 64 ≡ 0 → findings_from x n at ≡ findings_by x n (answer_at x at)
+by_step : (x : List ℕ) (n : EntryCounts) (at : ℕ) → at ≤ length x → at % 64 ≡ 0 → findings_from x n at ≡ findings_by x n (answer_at x at)
 unfolding findings_from findings_by
-by_step x n at inside aligned = ap (λ (f : Count → List RegionFinding). f n) (shaped_step fault_findings (cut_findings x) cell_step (law x) x at inside aligned)
+by_step x n at inside aligned = ap (λ (f : EntryCounts → List RegionFinding). f n) (shaped_step fault_findings (cut_findings x) cell_step (law x) x at inside aligned)
 
 -- a tail begins at the walk's offset
 tail_place : (x : List ℕ) (place at : ℕ) → (let a : StepResult = Ok (steps.Tail at) in a) ≡ answer_at x place → at ≡ place
@@ -83,7 +83,7 @@ tail_place x place at is = grind (arith, common_steps, is)
 -- ---- the loop
 
 -- the check has reached the walk's offset
-pub record Checking {F : Type 0} (r : Range) (w : Walking) (found : List RegionFinding) (count : Count) (old now : Pages F) : Type 0 where
+pub record Checking {F : Type 0} (r : Range) (w : Walking) (found : List RegionFinding) (count : EntryCounts) (old now : Pages F) : Type 0 where
   pub reached : Reached r w (w.at / 12) old now
   pub place : count.at ≡ w.at
   pub before : (count.components ≤ count.at) × (count.free ≤ count.at)
@@ -99,12 +99,12 @@ checking_start r old lies = record {
       whole_findings x ∙ ap (λ n. findings_from x (entry_counts n []) 0) (length-bytes_in r old.device.content lies.inside);
 }
 
-counted : (free : Bool) (n : Count) (at len : ℕ) → n.at ≡ at → (n.components ≤ n.at) × (n.free ≤ n.at) → 64 ≤ len
-    → (let m = count_after n free len in (m.at ≡ at + len) × ((m.components ≤ m.at) × (m.free ≤ m.at)))
+counted : (free : Bool) (n : EntryCounts) (at len : ℕ) → n.at ≡ at → (n.components ≤ n.at) × (n.free ≤ n.at) → 64 ≤ len
+    → (let m = counts_after n free len in (m.at ≡ at + len) × ((m.components ≤ m.at) × (m.free ≤ m.at)))
 counted true n at len is had some = (omega (arith, is), (omega (arith, had.0), omega (arith, had.1)))
 counted false n at len is had some = (omega (arith, is), (omega (arith, had.0, some), omega (arith, had.1)))
 
-module _ {F : Type 0} (r : Range) (w : Walking) (found : List RegionFinding) (count : Count) (old now : Pages F) (lies : LiesOn r old.device) (i : Checking r w found count old now) where
+module _ {F : Type 0} (r : Range) (w : Walking) (found : List RegionFinding) (count : EntryCounts) (old now : Pages F) (lies : LiesOn r old.device) (i : Checking r w found count old now) where
   abbrev x : List ℕ
   x = bytes_in r old.device.content
 
@@ -115,11 +115,11 @@ module _ {F : Type 0} (r : Range) (w : Walking) (found : List RegionFinding) (co
       (here.0, i.so_far h ∙ ap (λ (l : List RegionFinding). found ++ l) step)
 
   -- another cell
-  pub checking_more : (c : Cell) (v : Walking) (next : List RegionFinding) (more : Count) (mid new : Pages F) (n m : ℕ) → IsCellIn w.region.size c × (c.at ≡ w.at)
+  pub checking_more : (c : Cell) (v : Walking) (next : List RegionFinding) (more : EntryCounts) (mid new : Pages F) (n m : ℕ) → IsCellIn w.region.size c × (c.at ≡ w.at)
       → HasRead n 0 now mid → n ≡ reads_over c.span → HasRead m 0 mid new → m ≡ 4 + c.span / 1280
       → Answers w now (Ok (steps.Cell c))
       → v ≡ record w { at = w.at + c.span; steps = w.steps + 1 }
-      → more ≡ count_after count (is_free c.head) c.span
+      → more ≡ counts_after count (is_free c.head) c.span
       → OnHonestIn mid.device r (λ y. StandsIn y c → next ≡ found ++ cell_findings c.at (cell_in y c))
       → Checking r v next more old new
   unfolding findings_by cell_step findings_from
@@ -134,7 +134,7 @@ module _ {F : Type 0} (r : Range) (w : Walking) (found : List RegionFinding) (co
         let stands : StandsIn x c = ap (λ p. answer_at x p) given.1 ∙ sym known.0 in
         let cells = cell_findings c.at (cell_in x c) in
         let gained = (rw same at (gains (honest_still reads.device.calls.same_honesty k))) stands in
-        known.1 ∙ sym (append_assoc found cells _) ∙ ap (λ p. (found ++ cells) ++ findings_from x (count_after count (is_free c.head) c.span) (p + c.span)) given.1 ∙ rw (gained, is_more) refl;
+        known.1 ∙ sym (append_assoc found cells _) ∙ ap (λ p. (found ++ cells) ++ findings_from x (counts_after count (is_free c.head) c.span) (p + c.span)) given.1 ∙ rw (gained, is_more) refl;
   })
 
   -- ---- the walk ended

@@ -1,11 +1,11 @@
 //! The check of a flash map.
 
-mod check;
+mod checked_map;
 mod finding;
 mod findings;
 mod names;
 mod overlaps;
 
-pub use check::{CheckedMap, check_map};
+pub use checked_map::{CheckedMap, check_map};
 pub use finding::MapFinding;
 pub use findings::is_text;

@@ -1,8 +1,7 @@
 //! Starts of entries.
-ghost use Rattle.std.specs.Prelude.{drop, is_some};
 ghost use Rattle.flash_device.specs.Pages.{HasAnswered, ReadsAs};
 ghost use Rattle.flash_device.specs.Regions.{Reaches};
-ghost use Rattle.flash_format.specs.Entry.{front};
+ghost use Rattle.check_findings.specs.RegionFindings.{has_entry_at};
 
 use flash_device::{Flash, FlashFault, Paged};
 use flash_format::Head;
@@ -23,7 +22,7 @@ pub fn has_entry_at<F: Flash>(
     ensures after { HasAnswered 1 paged.old paged.new result }
 
     // On an honest device.
-    ensures has { ReadsAs paged.old region result (λ x. is_some (front (drop at x))) }
+    ensures has { ReadsAs paged.old region result (has_entry_at at) }
 {
     if region.size() - at < HEAD {
         return Ok(false);

@@ -1,13 +1,11 @@
 //! The bytes after the entries.
-ghost use Rattle.std.specs.Prelude.{◌≡◌, ◌+◌, ◌-◌, ◌*◌, ◌/◌, ◌^◌, ◌<◌, drop, filter, is_some, length, map};
-ghost use Rattle.std.specs.List.{position_from, range_with_len};
+ghost use Rattle.std.specs.Prelude.{◌≡◌, ◌+◌, ◌-◌, ◌/◌, ◌^◌, ◌<◌, length};
+ghost use Rattle.std.specs.List.{position_from};
 ghost use Rattle.flash_device.specs.Pages.{HasAnswered, OnHonestIn, HasReadBy, ReadsAs};
 ghost use Rattle.flash_device.specs.Regions.{Reaches};
 ghost use Rattle.check_findings.specs.Faults.{by_device};
 ghost use Rattle.check_findings.specs.Lists.{Gains};
-ghost use Rattle.check_findings.specs.RegionFindings.{first_filled, is_filled};
-ghost use Rattle.check_findings.specs.declared.region.finding.RegionFinding.TheVariants.{TailEntry};
-ghost use Rattle.flash_format.specs.Entry.{front};
+ghost use Rattle.check_findings.specs.RegionFindings.{first_filled, is_filled, later_entries};
 ghost use Rattle.check_findings.specs.RegionFindings.{tail_findings};
 
 use crate::fault::CheckFault;
@@ -63,9 +61,8 @@ fn push_entries<F: Flash>(
     requires { Reaches region at paged.old.device }
 
     ensures after { HasReadBy by_device ((region.size - at) / 64) paged.old paged.new result }
-    ensures found { OnHonestIn paged.old.device region (λ x. Gains findings.old findings.new result
-        (map TailEntry (filter (λ p. is_some (front (drop p x)))
-        (map (λ i. at + 64 * i) (range_with_len 0 ((length x - at) / 64)))))) }
+    ensures found { OnHonestIn paged.old.device region
+        (λ x. Gains findings.old findings.new result (later_entries at x)) }
 {
     let lines = (region.size() - at) / 64;
     for i in 0..lines {

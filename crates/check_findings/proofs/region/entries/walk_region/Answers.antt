@@ -1,6 +1,6 @@
 use Rattle.std.proofs.Common.{refl}
 use Rattle.check_findings.proofs.RegionLemmas.WalkSteps.{checking_start, checking_more, checking_end, checking_tail, checking_damage, checking_size, checking_absent}
-use Rattle.check_findings.proofs.region.check.walk_region.Goals as goal
+use Rattle.check_findings.proofs.region.entries.walk_region.Goals as goal
 
 pub loop-cell-init : goal.loop-cell-init
 loop-cell-init g c = rw (c.new-findings.ensures.items, c.new-walk.ensures, c.new-count.ensures, c.size.ensures) (checking_start c.args.region c.args.paged.now c.requires)

@@ -8,7 +8,7 @@ use Rattle.cbfs_walk.specs.Hashes.{hash_state}
 use Rattle.cbfs_walk.specs.Walks.{StandsIn}
 use Rattle.std.proofs.Common.{ap}
 use Rattle.flash_format.specs.Head.{is_free}
-use Rattle.check_findings.proofs.region.check.push_cell.Goals as goal
+use Rattle.check_findings.proofs.region.entries.push_cell.Goals as goal
 
 pub returns-then-is_free-clause-found : goal.returns-then-is_free-clause-found
 returns-then-is_free-clause-found g c = λ h stands.

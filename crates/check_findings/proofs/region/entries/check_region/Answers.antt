@@ -1,7 +1,7 @@
 use Rattle.std.proofs.Common.{[], ◌∷◌, ap, ◌∙◌}
 use Rattle.std.specs.List.{scan}
 use Rattle.check_findings.specs.RegionFindings.{marked, region_findings}
-use Rattle.check_findings.proofs.region.check.check_region.Goals as goal
+use Rattle.check_findings.proofs.region.entries.check_region.Goals as goal
 
 pub returns-clause-findings : goal.returns-clause-findings
 unfolding region_findings

@@ -3,7 +3,7 @@ use Rattle.std.proofs.lemmas.Bool.{false≢true}
 use Rattle.flash_device.proofs.DeviceLemmas.{honest_still}
 use Rattle.flash_map.specs.Fmap.{found_in}
 use Rattle.check_findings.proofs.AnchorLemmas.{with_place, without_map, without_place}
-use Rattle.check_findings.proofs.anchor.check.check_anchor.Goals as goal
+use Rattle.check_findings.proofs.anchor.checked_anchor.check_anchor.Goals as goal
 
 pub returns-in_default-clause-checked : goal.returns-in_default-clause-checked
 returns-in_default-clause-checked g c = λ h is.

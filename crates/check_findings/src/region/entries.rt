@@ -11,7 +11,7 @@ ghost use Rattle.check_findings.specs.RegionFindings.{walk_findings};
 
 use crate::fault::CheckFault;
 use crate::lists::push_if;
-use crate::region::count::Count;
+use crate::region::entry_counts::EntryCounts;
 use crate::region::finding::{Content, HashFinding, Name, RegionFinding};
 use crate::region::shadows::mark_shadowed;
 use crate::region::tail::push_tail;
@@ -75,7 +75,7 @@ fn walk_region<F: Flash>(
     ensures findings { OnHonestIn paged.old.device region (λ x. Lists result (walk_findings x)) }
 {
     let mut findings = Vec::new(alloc);
-    let mut count = Count::new(region.size());
+    let mut count = EntryCounts::new(region.size());
     let mut walk = Walk::new(region);
     loop {
         match walk.next(paged) {

@@ -12,7 +12,7 @@ const METADATA: u64 = 28;
 
 /// The sums over the entries before an offset.
 #[derive(Clone, Copy, Default)]
-pub struct Count {
+pub struct EntryCounts {
     /// The region's size in bytes.
     pub size: u64,
     /// The offset after the last entry.
@@ -26,16 +26,16 @@ pub struct Count {
     pub room: u64,
 }
 
-impl Count {
-    ghost use Rattle.check_findings.specs.RegionFindings.{count_after, count_findings};
+impl EntryCounts {
+    ghost use Rattle.check_findings.specs.RegionFindings.{counts_after, count_findings};
     ghost use Rattle.check_findings.specs.RegionFindings.{entry_counts, usable_room};
 
-    pub fn new(size: u64) -> Count
+    pub fn new(size: u64) -> EntryCounts
         ensures { result ≡ entry_counts size [] }
     {
-        Count {
+        EntryCounts {
             size,
-            ..Count::default()
+            ..EntryCounts::default()
         }
     }
 
@@ -49,11 +49,11 @@ impl Count {
         self.room.max(usable)
     }
 
-    pub fn with(self, cell: &Cell) -> Count
+    pub fn with(self, cell: &Cell) -> EntryCounts
         requires before { (self.components ≤ self.at) × (self.free ≤ self.at) }
         requires small { self.at + cell.now.span < 2 ^ 32 }
 
-        ensures { result ≡ count_after self (is_free cell.now.head) cell.now.span }
+        ensures { result ≡ counts_after self (is_free cell.now.head) cell.now.span }
     {
         let mut next = self;
         next.at += cell.span;

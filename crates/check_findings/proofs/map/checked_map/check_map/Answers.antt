@@ -6,8 +6,8 @@ use Rattle.check_findings.specs.declared.areas.NumberedArea.{NumberedArea}
 use Rattle.check_findings.specs.declared.map.finding.MapFinding.{MapFinding}
 use Rattle.check_findings.specs.MapFindings.{findings_of, map_findings}
 use Rattle.check_findings.specs.Areas.{image_areas}
-use Rattle.check_findings.proofs.map.check.check_map.Goals as goal
-use Rattle.check_findings.proofs.map.check.check_map.Goals.{in-Some+in_ok-next-in-Some+in_ok-findings-in-Some, in-None+in_ok-findings-in-None}
+use Rattle.check_findings.proofs.map.checked_map.check_map.Goals as goal
+use Rattle.check_findings.proofs.map.checked_map.check_map.Goals.{in-Some+in_ok-next-in-Some+in_ok-findings-in-Some, in-None+in_ok-findings-in-None}
 
 of_map : (image : List ℕ) (all : List MapFinding) (map : FoundMap) (next : Option FoundMap) (n : ℕ) (areas : List NumberedArea) → Some map ≡ found_in image → next ≡ found_from (map.at + 1) image → n ≡ length image
     → areas ≡ image_areas image → all ≡ findings_of n map next areas → all ≡ map_findings image

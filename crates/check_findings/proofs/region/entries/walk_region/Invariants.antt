@@ -1,6 +1,6 @@
 use Rattle.std.proofs.Common.{◌-◌}
 use Rattle.check_findings.proofs.RegionLemmas.WalkSteps.{Checking}
-use Rattle.check_findings.proofs.region.check.walk_region.Given as goal
+use Rattle.check_findings.proofs.region.entries.walk_region.Given as goal
 
 abbrev pub invariant-loop-cell : goal.invariant-loop-cell
 invariant-loop-cell g l = Checking l.fn.region l.walk l.findings.items l.count l.initial.paged l.paged
