@@ -1,7 +1,7 @@
 -- Changes of the flash map and of areas. This project defines their choice and order.
 use Rattle.std.specs.Prelude.{ℕ, ◌+◌, ◌-◌, ◌*◌, Bool, false, not, ◌&&◌, List, [], ◌∷◌, ◌++◌, length, map, min, nat_lt, nat_le, Option, Some, None, is_none, ◌==◌, if◌then◌else◌}
 use Rattle.std.specs.Bool.{then_some}
-use Rattle.std.specs.List.{flat_map, list_any, scan}
+use Rattle.std.specs.List.{flat_map, list_any}
 use Rattle.std.specs.Option.{option_map_or, option_and_then}
 use Rattle.std.specs.Str.{bytes_eq}
 use Rattle.flash_format.specs.Flashmap.{text_of}
@@ -58,58 +58,75 @@ map_changes (Some old) (Some new) = if_changed old.at new.at maps.MovedFrom
 -- ---- pairs of areas
 
 -- the area is the first of its name
-abbrev pub is_reached : List NumberedArea → NumberedArea → Bool
-is_reached areas a = option_map_or (λ first. first.number == a.number) (namesake a areas) false
+abbrev pub is_first_of_name : List NumberedArea → NumberedArea → Bool
+is_first_of_name areas a =
+    option_map_or (λ first. first.number == a.number) (namesake a areas) false
 
 -- a new area with the first old namesake
 abbrev pub pair_of : List NumberedArea → NumberedArea → AreaPair
-pair_of olds a = record { old = namesake a olds; new = a }
+pair_of olds new = record { old = namesake new olds; new = new }
 
 -- the pairs of the first new area of each name
 abbrev pub pairs : List NumberedArea → List NumberedArea → List AreaPair
-pairs olds news = flat_map (λ a. only_if (is_reached news a) (pair_of olds a)) news
+pairs olds news = flat_map (λ new. only_if (is_first_of_name news new) (pair_of olds new)) news
 
 abbrev pub is_same_size : AreaPair → Bool
-is_same_size p = option_map_or (λ old. old.area.size == p.new.area.size) p.old false
+is_same_size pair = option_map_or (λ old. old.area.size == pair.new.area.size) pair.old false
+
+-- both areas lie in images of these lengths
+abbrev pub lie_inside : Both ℕ → NumberedArea → NumberedArea → Bool
+lie_inside lens old new = nat_le (area_end old.area) lens.old && nat_le (area_end new.area) lens.new
 
 -- both areas as regions, if both lie in their images
 abbrev pub regions_of : Both ℕ → AreaPair → Option (Both Range)
-regions_of lens p = option_and_then (λ old. then_some
-    (nat_le (area_end old.area) lens.old && nat_le (area_end p.new.area) lens.new)
-    (record { old = range_of old; new = range_of p.new })) p.old
+regions_of lens pair = option_and_then (λ old. then_some (lie_inside lens old pair.new)
+    (record { old = range_of old; new = range_of pair.new })) pair.old
 
 abbrev pub same_size_regions : Both ℕ → AreaPair → Option (Both Range)
-same_size_regions lens p = if is_same_size p then regions_of lens p else None
+same_size_regions lens pair = if is_same_size pair then regions_of lens pair else None
 
--- Inner regions hold a block of outer regions: they are smaller, the shift is equal, and they
--- contain the whole block.
+-- both pairs have the same distance from the old region to the new one
+abbrev pub has_same_shift : Both Range → Both Range → Bool
+has_same_shift outer inner =
+    inner.old.start + outer.new.start == outer.old.start + inner.new.start
+
+-- the inner range contains the whole block of the outer range
+abbrev pub contains_block : Range → ℕ → Range → Bool
+contains_block outer number inner = nat_le inner.start (outer.start + 4096 * number)
+    && nat_le (outer.start + min (4096 * number + 4096) outer.size) (inner.start + inner.size)
+
+-- smaller regions with the same shift contain the block of the outer regions
 abbrev pub has_block : Both Range → ℕ → Both Range → Bool
 has_block outer number inner = nat_lt inner.new.size outer.new.size
-    && ((inner.old.start + outer.new.start == outer.old.start + inner.new.start)
-    && (nat_le inner.new.start (outer.new.start + 4096 * number)
-    && nat_le (outer.new.start + min (4096 * number + 4096) outer.new.size)
-    (inner.new.start + inner.new.size)))
+    && (has_same_shift outer inner && contains_block outer.new number inner.new)
 
 -- a pair of one size holds the block
 abbrev pub is_held : Both ℕ → List AreaPair → Both Range → ℕ → Bool
 is_held lens pairs outer number = list_any
-    (λ p. option_map_or (has_block outer number) (same_size_regions lens p) false) pairs
+    (λ pair. option_map_or (has_block outer number) (same_size_regions lens pair) false) pairs
 
 -- ---- the limit of compared bytes
 
 -- the compared regions, of at most `left` bytes
 abbrev pub compared : ℕ → Option (Both Range) → Option (Both Range)
-compared left regions = option_and_then (λ r. then_some (nat_le r.old.size left) r) regions
+compared left regions =
+    option_and_then (λ both. then_some (nat_le both.old.size left) both) regions
+
+-- the bytes of the compared regions
+abbrev pub compared_size : ℕ → Option (Both Range) → ℕ
+compared_size left regions = option_map_or (λ both. both.old.size) (compared left regions) 0
 
 -- the remaining bytes for comparisons
 abbrev pub left_after : ℕ → Option (Both Range) → ℕ
-left_after left regions = left - option_map_or (λ r. r.old.size) (compared left regions) 0
+left_after left regions = left - compared_size left regions
 
--- the changes by the regions of each pair, which have at most `left` bytes
+-- the changes of pairs in order, with `left` bytes for comparisons: a pair has the given regions,
+-- and its changes depend on the compared ones
 abbrev pub changes_by : {C : Type 0} → (AreaPair → Option (Both Range))
     → (AreaPair → Option (Both Range) → List C) → ℕ → List AreaPair → List C
-changes_by regions changes left all = flat_map (λ c. c) (scan (λ n p. left_after n (regions p))
-    (λ n p. changes p (compared n (regions p))) left all)
+changes_by regions changes left [] = []
+changes_by regions changes left (pair ∷ later) = changes pair (compared left (regions pair))
+    ++ changes_by regions changes (left_after left (regions pair)) later
 
 -- ---- changes of areas
 
@@ -117,34 +134,42 @@ abbrev pub area_change : NumberedArea → AreaDifference → AreaChange
 area_change a what = record { area = a; what = what }
 
 abbrev pub entry_differences : Option NumberedArea → NumberedArea → List AreaDifference
-entry_differences None b = Added ∷ []
-entry_differences (Some a) b = if_changed a.area.offset b.area.offset MovedFrom
-    ++ if_changed a.area.size b.area.size ResizedFrom
-    ++ if_changed a.area.flags b.area.flags FlagsFrom
+entry_differences None new = Added ∷ []
+entry_differences (Some old) new = if_changed old.area.offset new.area.offset MovedFrom
+    ++ if_changed old.area.size new.area.size ResizedFrom
+    ++ if_changed old.area.flags new.area.flags FlagsFrom
 
+-- the blocks with this number of both regions differ
 abbrev pub is_difference : List ℕ → List ℕ → Both Range → ℕ → Bool
-is_difference x y r number = differs (bytes_in r.old x) (bytes_in r.new y) number
+is_difference x y regions number = differs (bytes_in regions.old x) (bytes_in regions.new y) number
 
 module _ (x y : List ℕ) (pairs : List AreaPair) where
   -- the blocks differ, and no smaller pair holds them
   abbrev pub is_own_difference : Both Range → ℕ → Bool
-  is_own_difference r n = is_difference x y r n && not (is_held (lengths_of x y) pairs r n)
+  is_own_difference regions number =
+      is_difference x y regions number && not (is_held (lengths_of x y) pairs regions number)
 
   -- the difference of an area's bytes, by the compared regions
   abbrev pub content_differences : AreaPair → Option (Both Range) → List AreaDifference
-  content_differences p None = only_if (is_same_size p) NotCompared
-  content_differences p (Some r) = let end = blocks_of r.old.size in
-      let blocks = count_below (is_difference x y r) end in
-      only_if (nat_lt 0 blocks) (Differs blocks (count_below (is_own_difference r) end))
+  content_differences pair None = only_if (is_same_size pair) NotCompared
+  content_differences pair (Some regions) = let end = blocks_of regions.old.size in
+      let blocks = count_below (is_difference x y regions) end in
+      only_if (nat_lt 0 blocks) (Differs blocks (count_below (is_own_difference regions) end))
+
+  -- the changes of an area, by the compared regions
+  abbrev pub pair_changes : AreaPair → Option (Both Range) → List AreaChange
+  pair_changes pair regions = map (area_change pair.new)
+      (entry_differences pair.old pair.new ++ content_differences pair regions)
 
   -- the changes of some pairs, with `left` bytes for comparisons
   abbrev pub area_changes_in : ℕ → List AreaPair → List AreaChange
-  area_changes_in left some = changes_by (same_size_regions (lengths_of x y)) (λ p r. map
-      (area_change p.new) (entry_differences p.old p.new ++ content_differences p r)) left some
+  area_changes_in left some =
+      changes_by (same_size_regions (lengths_of x y)) pair_changes left some
 
 -- the removal of an old area
 abbrev pub gone_of : List NumberedArea → List NumberedArea → NumberedArea → List AreaChange
-gone_of olds news a = only_if (is_reached olds a && is_none (namesake a news)) (area_change a Gone)
+gone_of olds news old =
+    only_if (is_first_of_name olds old && is_none (namesake old news)) (area_change old Gone)
 
 -- The changes from image x to image y: of new areas, then of old areas. The compared areas have at
 -- most 8 times the bytes of y.

@@ -28,11 +28,12 @@ listed_in x = option_map_or (λ fault. []) (shape_fault x) (map (λ (c : Compone
     (components x))
 
 abbrev pub first_of : List ℕ → List Listed → Option Listed
-first_of name all = find (λ l. bytes_eq name l.name) all
+first_of name all = find (λ listed. bytes_eq name listed.name) all
 
 -- the component is the first of its name
 abbrev pub is_first_of : List Listed → Listed → Bool
-is_first_of all l = option_map_or (λ first. first.cell.at == l.cell.at) (first_of l.name all) false
+is_first_of all listed =
+    option_map_or (λ first. first.cell.at == listed.cell.at) (first_of listed.name all) false
 
 -- the bytes between name and content
 abbrev pub attributes_at : List ℕ → Cell → List ℕ
@@ -46,18 +47,25 @@ difference x y old new = if not (old.head.kind == new.head.kind) then Some «Typ
     else then_some (not (bytes_eq (attributes_at x old) (attributes_at y new))) Attributes))
 
 abbrev pub component_change : Listed → ComponentDifference → ComponentChange
-component_change l what = record { at = l.cell.at; name = l.name; what = what }
+component_change listed what =
+    record { at = listed.cell.at; name = listed.name; what = what }
+
+-- the differences between an old component and a new one
+abbrev pub differences : List ℕ → List ℕ → Cell → Cell → List ComponentDifference
+differences x y old new =
+    option_to_list (difference x y old new) ++ if_changed old.at new.at MovedFrom
 
 -- the changes of a new component from its first old namesake, if no namesake precedes it
 abbrev pub new_changes : List ℕ → List ℕ → List Listed → List Listed → Listed → List ComponentChange
-new_changes x y olds news l = if is_first_of news l then map (component_change l)
-    (option_map_or (λ old. option_to_list (difference x y old.cell l.cell)
-    ++ if_changed old.cell.at l.cell.at MovedFrom) (first_of l.name olds) (Added ∷ [])) else []
+new_changes x y olds news new = if is_first_of news new then map (component_change new)
+    (option_map_or (λ old. differences x y old.cell new.cell) (first_of new.name olds) (Added ∷ []))
+    else []
 
 -- the removal of an old component without a new namesake
 abbrev pub removal_of : List Listed → List Listed → Listed → List ComponentChange
-removal_of olds news l =
-    only_if (is_none (first_of l.name news) && is_first_of olds l) (component_change l Removed)
+removal_of olds news old =
+    only_if (is_none (first_of old.name news) && is_first_of olds old)
+    (component_change old Removed)
 
 -- changes in the order of the new region, then removals in the order of the old region
 unfoldable pub changes_between : List ℕ → List ℕ → List Listed → List Listed → List ComponentChange

@@ -1,6 +1,5 @@
 -- Changes of components in two images. This project defines their choice and order.
-use Rattle.std.specs.Prelude.{ℕ, List, [], ◌∷◌, length, map, is_some}
-use Rattle.std.specs.Option.{option_map_or}
+use Rattle.std.specs.Prelude.{ℕ, List, [], ◌∷◌, length, map, is_some, Option, Some, None}
 use Rattle.flash_device.specs.Regions.{Range, bytes_in}
 use Rattle.check_findings.specs.declared.areas.NumberedArea.{NumberedArea}
 use Rattle.check_findings.specs.declared.image.finding.ImageFinding.{ImageFinding}
@@ -18,13 +17,17 @@ use Rattle.check_changes.specs.Images.{lengths_of}
 abbrev pub listed_regions : Both Listing → Both Range
 listed_regions lists = record { old = lists.old.region; new = lists.new.region }
 
+-- the changes of the components of an area, by the compared regions; none without a namesake
+abbrev pub region_change : List ℕ → List ℕ → AreaPair → Option (Both Range) → List RegionChange
+region_change x y pair (Some regions) = Compared pair.new
+    (component_changes (bytes_in regions.old x) (bytes_in regions.new y)) ∷ []
+region_change x y pair None = only_if (is_some pair.old) (NotCompared pair.new)
+
 -- the changes of components of some areas from old namesakes, with `left` bytes for comparisons
 abbrev pub region_changes_in : ℕ → List ℕ → List ℕ → List NumberedArea → List NumberedArea
     → List RegionChange
 region_changes_in left x y olds areas = changes_by (regions_of (lengths_of x y))
-    (λ (p : AreaPair) regions. option_map_or (λ (r : Both Range).
-    Compared p.new (component_changes (bytes_in r.old x) (bytes_in r.new y)) ∷ [])
-    regions (only_if (is_some p.old) (NotCompared p.new))) left (map (pair_of olds) areas)
+    (region_change x y) left (map (pair_of olds) areas)
 
 -- The changes from image x with these areas to image y with these findings. The compared areas of x
 -- have at most as many bytes as x.

@@ -3,7 +3,7 @@ ghost use Rattle.std.specs.Prelude.{◌≡◌, IfOk};
 ghost use Rattle.std.proofs.Props.{props};
 ghost use Rattle.check_findings.specs.Areas.{Notes};
 ghost use Rattle.check_findings.specs.MapFindings.{namesake};
-ghost use Rattle.check_changes.specs.Areas.{is_reached};
+ghost use Rattle.check_changes.specs.Areas.{is_first_of_name};
 
 use crate::images::Both;
 use check_findings::{AreaNames, NumberedArea};
@@ -36,7 +36,7 @@ impl<'a> NamedAreas<'a> {
     }
 
     pub fn is_first(&self, area: &'a NumberedArea) -> bool
-        ensures { result ≡ is_reached self.now.all.now area.now }
+        ensures { result ≡ is_first_of_name self.now.all.now area.now }
     {
         self.namesake(area)
             .is_some_and(|first| first.number == area.number)

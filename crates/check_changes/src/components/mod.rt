@@ -1,10 +1,10 @@
 //! Compares the components of two CBFS regions.
 
 mod change;
-mod changes;
 mod comparison;
 mod first;
 mod listing;
+mod region_comparison;
 
 pub use change::{ComponentChange, ComponentDifference};
-pub use changes::component_changes;
+pub use region_comparison::component_changes;

@@ -4,7 +4,7 @@ use Rattle.check_changes.specs.Components.{new_changes}
 use Rattle.check_changes.proofs.AreaLemmas.ChangeSteps.{flat_map-all, flat_map-more}
 use Rattle.check_changes.proofs.ComponentLemmas.ChangeLemmas.{reads_all, reads_more, spans_part}
 use Rattle.check_changes.proofs.ImageLemmas.{both-handed, both-within, OnBoth-before}
-use Rattle.check_changes.proofs.components.changes.push_changes.Goals as goal
+use Rattle.check_changes.proofs.components.region_comparison.push_changes.Goals as goal
 
 pub returns-in_err-push_changes_of-clause-after : goal.returns-in_err-push_changes_of-clause-after
 returns-in_err-push_changes_of-clause-after g c =

@@ -5,7 +5,7 @@ use Rattle.check_changes.specs.Components.{spans}
 use Rattle.check_changes.specs.Regions.{listed_regions}
 use Rattle.check_changes.specs.Images.{OnBothIn}
 use Rattle.check_changes.proofs.ImageLemmas.{HasReadBoth}
-use Rattle.check_changes.proofs.components.changes.push_changes.Given as goal
+use Rattle.check_changes.proofs.components.region_comparison.push_changes.Given as goal
 
 abbrev pub invariant-loop-listed : goal.invariant-loop-listed
 invariant-loop-listed g l =

@@ -1,7 +1,7 @@
 use Rattle.std.proofs.Common.{◌≡◌, ◌++◌, drop}
 use Rattle.std.specs.List.{flat_map}
 use Rattle.check_changes.specs.Components.{removal_of}
-use Rattle.check_changes.proofs.components.changes.push_removed.Given as goal
+use Rattle.check_changes.proofs.components.region_comparison.push_removed.Given as goal
 
 abbrev pub invariant-loop-listed : goal.invariant-loop-listed
 invariant-loop-listed l =

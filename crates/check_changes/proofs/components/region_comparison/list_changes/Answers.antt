@@ -1,7 +1,7 @@
 use Rattle.check_changes.specs.Components.{changes_between}
 use Rattle.check_changes.proofs.AreaLemmas.ChangeSteps.{pushed-both}
 use Rattle.check_changes.proofs.ImageLemmas.{both-handed}
-use Rattle.check_changes.proofs.components.changes.list_changes.Goals as goal
+use Rattle.check_changes.proofs.components.region_comparison.list_changes.Goals as goal
 
 pub returns-clause-changes : goal.returns-clause-changes
 unfolding changes_between
