@@ -698,14 +698,17 @@ mistakes() {
 }
 
 # walk HEADING: each step of this walk of docs/DEVELOPING.md is a source file that has the names of the step, and the
-# definition files of the step are cited by that file, and by no file of an earlier step
+# definition files of the step are cited by that file, and by no file of an earlier step; no step is a file of an earlier one
 walk() {
     local line source word count=0 names=0
     : > cited
+    : > sources
     while IFS= read -r line; do
         count=$((count + 1))
         source=$(sed -n 's/^[0-9]*\. `\([^`]*\)`: .*/\1/p' <<< "$line")
         [ -n "$source" ] && [ -f "$top/crates/$source" ] || fail "claims: DEVELOPING.md names ${source:-no file}, which isn't there"
+        ! grep -qxF -e "$source" sources || fail "claims: DEVELOPING.md names $source in two steps"
+        echo "$source" >> sources
         while read -r word; do
             names=$((names + 1))
             grep -qw -e "$word" "$top/crates/$source" || fail "claims: DEVELOPING.md names $word, which $source doesn't have"
