@@ -1,0 +1,5 @@
+pub mod Parts
+pub mod Fillings
+mod DescriptorLemmas
+mod PartitionTableLemmas
+mod ResetVectorLemmas
