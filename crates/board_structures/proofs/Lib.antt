@@ -3,3 +3,4 @@ pub mod Fillings
 mod DescriptorLemmas
 mod PartitionTableLemmas
 mod ResetVectorLemmas
+mod Rules

@@ -4,3 +4,4 @@ pub mod Descriptors
 pub mod PackedKeys
 pub mod PartitionTables
 pub mod ResetVectors
+pub mod Samples

@@ -3,7 +3,9 @@
 
 mod descriptor;
 mod filling;
+mod laws;
 mod magic;
+mod numbers;
 mod packed_key;
 mod partition_table;
 mod reset_vector;
@@ -13,6 +15,14 @@ pub use descriptor::{
     read_descriptor,
 };
 pub use filling::each_byte_is;
+pub use laws::{
+    areas_without_difference_are_their_regions, sound_descriptors_have_a_signature,
+    sound_partition_tables_have_a_marker, sound_reset_vectors_have_code,
+};
+pub use numbers::{
+    descriptors_have_their_states, moved_areas_are_differences, partition_tables_have_their_states,
+    regions_have_their_ranges, reset_vectors_have_their_states,
+};
 pub use packed_key::{KeyFault, KeyLength, PackedKey};
 pub use partition_table::{PartitionTable, read_partition_table};
 pub use reset_vector::{ResetVector, read_reset_vector};

@@ -1,0 +1,45 @@
+//! The rules of sound structures, as contracts of functions without effect.
+ghost use Rattle.std.specs.Prelude.{◌≡◌, ◌≢◌, ◌⊎◌, ◌+◌, ◌*◌, ◌≤◌, ℕ, List, length, slice_range, true, false, None, Some};
+ghost use Rattle.std.specs.List.{find};
+ghost use Rattle.flash_format.specs.Flashmap.{is_area};
+ghost use Rattle.flash_format.specs.declared.flashmap.Area.{Area};
+ghost use Rattle.board_structures.specs.Descriptors as descriptors;
+ghost use Rattle.board_structures.specs.Descriptors.{area_name_of, base_of, descriptor_in, difference_in, limit_of};
+ghost use Rattle.board_structures.specs.Filling.{each_byte_is};
+ghost use Rattle.board_structures.specs.PartitionTables as tables;
+ghost use Rattle.board_structures.specs.PartitionTables.{partition_table_in};
+ghost use Rattle.board_structures.specs.ResetVectors as vectors;
+ghost use Rattle.board_structures.specs.ResetVectors.{code_in, reset_vector_in};
+ghost use Rattle.board_structures.specs.declared.descriptor.DescriptorRegion.{DescriptorRegion};
+ghost use Rattle.board_structures.specs.declared.descriptor.RegionTable.{RegionTable};
+
+/// A descriptor that isn't bad is blank, or has its signature at 16 or at 0 and at least 4096 bytes.
+pub fn sound_descriptors_have_a_signature()
+    ensures { (x : List ℕ) → descriptors.is_bad (descriptor_in x) ≡ false
+        → (each_byte_is 0xff x ≡ true) ⊎ ((4096 ≤ length x)
+        × ((slice_range x 16 20 ≡ descriptors.signature)
+        ⊎ (slice_range x 0 4 ≡ descriptors.signature))) }
+{}
+
+/// A used region without a difference begins and ends where its area does.
+pub fn areas_without_difference_are_their_regions()
+    ensures { (region : DescriptorRegion) (table : RegionTable) (areas : List Area) (a : Area)
+        → difference_in region table areas ≡ None → base_of region table ≤ limit_of region table
+        → find (is_area (area_name_of region)) areas ≡ Some a
+        → (a.offset ≡ 4096 * base_of region table)
+        × (a.offset + a.size ≡ 4096 * (limit_of region table + 1)) }
+{}
+
+/// An area of the Management Engine that isn't bad is blank, or has the marker at 16 or at 0.
+pub fn sound_partition_tables_have_a_marker()
+    ensures { (x : List ℕ) → tables.is_bad (partition_table_in x) ≡ false
+        → (each_byte_is 0xff x ≡ true) ⊎ (slice_range x 16 20 ≡ tables.marker)
+        ⊎ (slice_range x 0 4 ≡ tables.marker) }
+{}
+
+/// A reset vector that isn't bad has a byte that isn't 0xff, and one that isn't 0x00.
+pub fn sound_reset_vectors_have_code()
+    ensures { (image : List ℕ) → vectors.is_bad (reset_vector_in image) ≡ false
+        → (16 ≤ length image) × (each_byte_is 0xff (code_in image) ≡ false)
+        × (each_byte_is 0x00 (code_in image) ≡ false) }
+{}

@@ -1,0 +1,58 @@
+//! The states of literal structures, in numbers. Definitions without content would prove none of
+//! these.
+ghost use Rattle.std.specs.Prelude.{◌≡◌, [], ◌∷◌, ◌++◌, replicate, Some, None};
+ghost use lib.Chars.{codes};
+ghost use Rattle.board_structures.specs.Descriptors.{descriptor_in, difference_in, range_of};
+ghost use Rattle.board_structures.specs.PartitionTables.{partition_table_in};
+ghost use Rattle.board_structures.specs.ResetVectors.{reset_vector_in};
+ghost use Rattle.board_structures.specs.Samples.{area_with, old_me, small_descriptor, small_end, small_me, small_table};
+ghost use Rattle.board_structures.specs.declared.descriptor.Descriptor.TheVariants as descriptors;
+ghost use Rattle.board_structures.specs.declared.descriptor.DescriptorRegion.TheVariants.{Bios, Gbe, Me};
+ghost use Rattle.board_structures.specs.declared.partition_table.PartitionTable.TheVariants as tables;
+ghost use Rattle.board_structures.specs.declared.reset_vector.ResetVector.TheVariants as vectors;
+
+/// A literal descriptor, a blank one, one without a signature and one that is too short.
+pub fn descriptors_have_their_states()
+    ensures described { descriptor_in small_descriptor ≡ descriptors.Described small_table }
+    ensures blank { descriptor_in (replicate 4096 0xff) ≡ descriptors.Blank }
+    ensures no_signature { descriptor_in (replicate 4096 0x00) ≡ descriptors.NoSignature }
+    ensures cut_off { descriptor_in (replicate 16 0xff ++ 0x5a ∷ 0xa5 ∷ 0xf0 ∷ 0x0f ∷ [])
+        ≡ descriptors.CutOff }
+{}
+
+/// The regions of the literal descriptor in bytes.
+pub fn regions_have_their_ranges()
+    ensures bios { range_of Bios small_table
+        ≡ Some (record { offset = 0x200000; size = 0xe00000 }) }
+    ensures me { range_of Me small_table ≡ Some (record { offset = 0x1000; size = 0x1ff000 }) }
+    ensures gbe { range_of Gbe small_table ≡ None }
+{}
+
+/// The area of the Management Engine in its place, too short, and without an area.
+pub fn moved_areas_are_differences()
+    ensures same { difference_in Me small_table (area_with (codes "SI_ME") 27 0x1000 0x1ff000 ∷ [])
+        ≡ None }
+    ensures short { difference_in Me small_table (area_with (codes "SI_ME") 27 0x1000 0x1fe000 ∷ [])
+        ≡ Some (record {
+          region = Me;
+          described = record { offset = 0x1000; size = 0x1ff000 };
+          area = record { offset = 0x1000; size = 0x1fe000 };
+        }) }
+    ensures none { difference_in Me small_table [] ≡ None }
+{}
+
+/// Literal areas of the Management Engine.
+pub fn partition_tables_have_their_states()
+    ensures newer { partition_table_in small_me ≡ tables.Present 16 }
+    ensures older { partition_table_in old_me ≡ tables.Present 0 }
+    ensures blank { partition_table_in (replicate 32 0xff) ≡ tables.Blank }
+    ensures missing { partition_table_in (0x00 ∷ replicate 31 0xff) ≡ tables.Missing }
+{}
+
+/// Literal ends of images.
+pub fn reset_vectors_have_their_states()
+    ensures code { reset_vector_in small_end ≡ vectors.Code }
+    ensures erased { reset_vector_in (replicate 12 0xff ++ replicate 4 0x00) ≡ vectors.Erased }
+    ensures cleared { reset_vector_in (replicate 12 0x00 ++ replicate 4 0xff) ≡ vectors.Cleared }
+    ensures cut_off { reset_vector_in (replicate 15 0x90) ≡ vectors.CutOff }
+{}
