@@ -4,3 +4,4 @@ mod DescriptorLemmas
 mod PartitionTableLemmas
 mod ResetVectorLemmas
 mod Rules
+mod GbbLemmas

@@ -37,3 +37,11 @@ page_read r start n m old mid bytes lies read is_start is shown h =
     ∙ ap (λ i. slice_range i start (start + n)) (read.device.unchanged h)
     ∙ ap (λ at. slice_range old.device.content at (at + n)) is_start
     ∙ page_in old.device.content r n lies.inside is
+
+-- a fact of the content after reads is one of the content before them
+pub told_after : {F : Type 0} {n : ℕ} {old mid : Pages F} → HasRead n 0 old mid → (P : List ℕ → Type 0) → (IsTrue mid.device.honest → P mid.device.content) → IsTrue old.device.honest → P old.device.content
+told_after read P shown h = rw (read.device.unchanged h) at (shown (honest_still read.device.calls.same_honesty h))
+
+-- n bytes at an offset of an area, by their offset in the image
+pub part_read : (image bytes : List ℕ) (r : Range) (place at n : ℕ) → place ≡ r.start + at → at + n ≤ r.size → bytes ≡ slice_range image place (place + n) → bytes ≡ slice_range (bytes_in r image) at (at + n)
+part_read image bytes r place at n is fits read = read ∙ ap (λ p. slice_range image p (p + n)) is ∙ part_in image r at n fits

@@ -3,6 +3,7 @@
 
 mod descriptor;
 mod filling;
+mod gbb;
 mod laws;
 mod magic;
 mod numbers;
@@ -15,6 +16,7 @@ pub use descriptor::{
     read_descriptor,
 };
 pub use filling::each_byte_is;
+pub use gbb::{Gbb, GbbFault, GbbField, GbbKeyFault, read_gbb};
 pub use laws::{
     areas_without_difference_are_their_regions, sound_descriptors_have_a_signature,
     sound_partition_tables_have_a_marker, sound_reset_vectors_have_code,
