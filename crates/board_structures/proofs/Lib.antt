@@ -5,3 +5,4 @@ mod PartitionTableLemmas
 mod ResetVectorLemmas
 mod Rules
 mod GbbLemmas
+mod SlotLemmas

@@ -5,4 +5,5 @@ pub mod PackedKeys
 pub mod GoogleBinaryBlocks
 pub mod PartitionTables
 pub mod ResetVectors
+pub mod SignedSlots
 pub mod Samples

@@ -10,6 +10,7 @@ mod numbers;
 mod packed_key;
 mod partition_table;
 mod reset_vector;
+mod signed_slot;
 
 pub use descriptor::{
     AreaDifference, Descriptor, DescriptorRegion, FlashRange, RegionTable, area_difference,
@@ -28,3 +29,4 @@ pub use numbers::{
 pub use packed_key::{KeyFault, KeyLength, PackedKey};
 pub use partition_table::{PartitionTable, read_partition_table};
 pub use reset_vector::{ResetVector, read_reset_vector};
+pub use signed_slot::{SignedSlot, SlotBody, SlotFault, SlotSignature, read_signed_slot};
