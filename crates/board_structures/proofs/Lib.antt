@@ -6,3 +6,4 @@ mod ResetVectorLemmas
 mod Rules
 mod GbbLemmas
 mod SlotLemmas
+mod HeaderLemmas

@@ -6,4 +6,5 @@ pub mod GoogleBinaryBlocks
 pub mod PartitionTables
 pub mod ResetVectors
 pub mod SignedSlots
+pub mod MasterHeaders
 pub mod Samples

@@ -6,6 +6,7 @@ mod filling;
 mod gbb;
 mod laws;
 mod magic;
+mod master_header;
 mod numbers;
 mod packed_key;
 mod partition_table;
@@ -22,6 +23,7 @@ pub use laws::{
     areas_without_difference_are_their_regions, sound_descriptors_have_a_signature,
     sound_partition_tables_have_a_marker, sound_reset_vectors_have_code,
 };
+pub use master_header::{HeaderFault, MasterHeader, read_master_header};
 pub use numbers::{
     descriptors_have_their_states, moved_areas_are_differences, partition_tables_have_their_states,
     regions_have_their_ranges, reset_vectors_have_their_states,
