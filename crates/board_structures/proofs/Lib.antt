@@ -7,3 +7,4 @@ mod Rules
 mod GbbLemmas
 mod SlotLemmas
 mod HeaderLemmas
+mod BlockRules

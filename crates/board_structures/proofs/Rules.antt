@@ -1,6 +1,6 @@
 -- The rules of sound structures.
-use Rattle.std.proofs.Common.{◌≡◌, ◌⊎◌, ◌∙◌, ℕ, ◌+◌, ◌-◌, ◌*◌, ◌≤◌, inl, inr, Bool, true, false, List, length, take, drop, Option, Some, None, sym, ap, refl, arith, length-take}
-use Rattle.std.specs.Prelude.{slice_range, nat_lt, ◌==◌, nat_eq}
+use Rattle.std.proofs.Common.{◌≡◌, ◌⊎◌, ◌∙◌, ℕ, ◌+◌, ◌-◌, ◌*◌, ◌≤◌, inl, inr, Bool, true, false, List, length, take, drop, Some, None, sym, ap, refl, arith, length-take}
+use Rattle.std.specs.Prelude.{slice_range, nat_lt}
 use Rattle.std.specs.List.{find}
 use Rattle.std.proofs.lemmas.Bool.{eqb-true, le-ltb, ltb-false, and_parts}
 use Rattle.std.proofs.lemmas.List.{take-take, drop-take}
@@ -21,15 +21,18 @@ use Rattle.board_structures.specs.ResetVectors.{code_in, reset_vector_in, state_
 use Rattle.board_structures.specs.PartitionTables as tables
 use Rattle.board_structures.specs.PartitionTables.{partition_table_in, table_of_page, marker}
 
--- a magic in the first page is in the area
-pub magic_there : (x magic : List ℕ) (at : ℕ) → at + length magic ≤ 4096 → has_magic_at at magic (first_page x) ≡ true → slice_range x at (at + length magic) ≡ magic
-magic_there x magic at fits has =
+-- a magic in the first bytes is in the area
+pub magic_in_front : (x magic : List ℕ) (at front : ℕ) → at + length magic ≤ front → has_magic_at at magic (take front x) ≡ true → slice_range x at (at + length magic) ≡ magic
+magic_in_front x magic at front fits has =
     let n = length magic in
-    let page : 4096 ≡ at + (4096 - at) = omega (arith, fits) in
+    let split : front ≡ at + (front - at) = omega (arith, fits) in
     slice_range_is x at n
-    ∙ sym (take-take n (4096 - at) (drop at x) (omega (arith, fits)))
-    ∙ ap (take n) (sym (drop-take at (4096 - at) x) ∙ ap (λ k. drop at (take k x)) (sym page))
-    ∙ sym ((bytes_eq-Decides magic (take n (drop at (first_page x)))).0 has)
+    ∙ sym (take-take n (front - at) (drop at x) (omega (arith, fits)))
+    ∙ ap (take n) (sym (drop-take at (front - at) x) ∙ ap (λ k. drop at (take k x)) (sym split))
+    ∙ sym ((bytes_eq-Decides magic (take n (drop at (take front x)))).0 has)
+
+pub magic_there : (x magic : List ℕ) (at : ℕ) → at + length magic ≤ 4096 → has_magic_at at magic (first_page x) ≡ true → slice_range x at (at + length magic) ≡ magic
+magic_there x magic at fits has = magic_in_front x magic at 4096 fits has
 
 -- by whether a test holds
 pub by_bool : (b : Bool) (P : Type 0) → (b ≡ true → P) → (b ≡ false → P) → P

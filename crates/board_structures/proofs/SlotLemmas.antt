@@ -1,6 +1,6 @@
 -- The state of a signed slot.
 use Rattle.std.proofs.Common.{◌≡◌, ◌∙◌, ℕ, ◌+◌, ◌-◌, ◌≤◌, Bool, true, false, List, length, take, Option, Some, None, Ok, Err, refl, sym, ap, arith}
-use Rattle.std.specs.Prelude.{slice_range, Result, IfOk, nat_lt, if◌then◌else◌}
+use Rattle.std.specs.Prelude.{slice_range, Result, IfOk, if◌then◌else◌}
 use Rattle.std.specs.Option.{option_map_or}
 use Rattle.std.proofs.lemmas.Bool.{le-ltb}
 use Rattle.flash_device.specs.Regions.{Range, LiesIn, bytes_in}

@@ -1,7 +1,7 @@
 -- vboot's Google Binary Block, in the area GBB (`struct vb2_gbb_header`), little-endian: the hardware
 -- id and the keys from which the firmware verifies the slots. This project's rules: the order of the
 -- checks.
-use Rattle.std.specs.Prelude.{ℕ, ◌+◌, Bool, true, false, ◌&&◌, ◌||◌, not, List, [], length, take, drop, slice_range, Option, Some, None, Result, Ok, Err, min, nat_eq, nat_lt, nat_le, ◌==◌, if◌then◌else◌, option_map}
+use Rattle.std.specs.Prelude.{ℕ, ◌+◌, Bool, true, false, ◌||◌, List, length, take, slice_range, Option, Some, None, Result, Ok, Err, min, nat_lt, ◌==◌, if◌then◌else◌, option_map}
 use Rattle.std.specs.List.{position}
 use Rattle.std.specs.Option.{option_map_or, option_or}
 use Rattle.std.specs.Str.{bytes_eq}
@@ -22,7 +22,6 @@ use Rattle.board_structures.specs.declared.gbb.GbbFault.{GbbFault}
 use Rattle.board_structures.specs.declared.gbb.GbbFault.TheVariants as faults
 use Rattle.board_structures.specs.declared.gbb.FieldPlace.{FieldPlace}
 use Rattle.board_structures.specs.declared.gbb.GbbHeader.{GbbHeader}
-use Rattle.board_structures.specs.declared.gbb.GbbKeyFault.{GbbKeyFault}
 
 -- ---- the layout; a place is an offset in the area and a size, of 4 bytes each
 --

@@ -7,4 +7,5 @@ pub mod PartitionTables
 pub mod ResetVectors
 pub mod SignedSlots
 pub mod MasterHeaders
+pub mod Laws
 pub mod Samples

@@ -1,6 +1,6 @@
 -- The master header of CBFS, the content of a component of type 2 in the area COREBOOT, big-endian
 -- (`struct cbfs_header`).
-use Rattle.std.specs.Prelude.{ℕ, ◌+◌, ◌-◌, ◌^◌, Bool, true, false, List, length, slice_range, Option, Some, None, nat_lt, ◌==◌, if◌then◌else◌}
+use Rattle.std.specs.Prelude.{ℕ, ◌+◌, ◌-◌, ◌^◌, Bool, false, List, length, slice_range, Option, Some, None, nat_lt, ◌==◌, if◌then◌else◌}
 use Rattle.std.specs.Option.{option_map_or, option_or}
 use lib.Chars.{codes}
 use Rattle.byteorder.specs.Endian.{little_number}

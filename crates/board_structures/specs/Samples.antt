@@ -1,6 +1,7 @@
 -- Literal structures, as bytes of the file.
 use Rattle.std.specs.Prelude.{ℕ, List, [], ◌∷◌, ◌++◌, replicate}
 use lib.Chars.{codes}
+use Rattle.byteorder.specs.Endian.{little_bytes}
 use Rattle.flash_format.specs.declared.flashmap.Area.{Area}
 use Rattle.board_structures.specs.declared.descriptor.RegionTable.{RegionTable}
 
@@ -40,3 +41,30 @@ old_me = codes "$FPT" ++ replicate 28 0
 unfoldable pub small_end : List ℕ
 small_end = 0x90 ∷ 0x90 ∷ 0xe9 ∷ 0x5b ∷ 0xfe ∷ 0x00 ∷ 0x00 ∷ 0x00 ∷ 0x00 ∷ 0x00 ∷ 0x00 ∷ 0x00
     ∷ 0x38 ∷ 0xff ∷ 0xff ∷ 0xff ∷ []
+
+-- ---- vboot
+
+-- a number of 4 bytes, low byte first
+abbrev pub u32 : ℕ → List ℕ
+u32 n = little_bytes 4 n
+
+-- a key of RSA with 1024 bits and SHA-1, of zeros
+abbrev pub small_key : List ℕ
+small_key = u32 32 ++ u32 0 ++ u32 264 ++ u32 0 ++ u32 0 ++ u32 0 ++ u32 1 ++ u32 0
+    ++ replicate 264 0
+
+-- A block of the minor version 1, which has no digest, with the hardware id `TEST 1` at 128, and keys
+-- at 144 and 440.
+unfoldable pub small_block : List ℕ
+small_block = codes "$GBB" ++ (1 ∷ 0 ∷ 1 ∷ 0 ∷ []) ++ u32 128 ++ u32 0x39
+    ++ u32 128 ++ u32 16 ++ u32 144 ++ u32 296 ++ u32 440 ++ u32 0 ++ u32 440 ++ u32 296
+    ++ replicate 80 0
+    ++ codes "TEST 1" ++ replicate 10 0 ++ small_key ++ small_key
+
+-- ---- CBFS
+
+-- an area of 64 bytes from 0x100 on, with the header at its start
+unfoldable pub small_header_area : List ℕ
+small_header_area = codes "ORBC1112" ++ (0 ∷ 0 ∷ 1 ∷ 0x40 ∷ 0 ∷ 0 ∷ 0 ∷ 0
+    ∷ 0 ∷ 0 ∷ 0 ∷ 0x40 ∷ 0 ∷ 0 ∷ 1 ∷ 0 ∷ []) ++ replicate 8 0 ++ replicate 28 0xff
+    ++ (0xc0 ∷ 0xff ∷ 0xff ∷ 0xff ∷ [])

@@ -1,17 +1,23 @@
 //! The rules of sound structures, as contracts of functions without effect.
-ghost use Rattle.std.specs.Prelude.{◌≡◌, ◌≢◌, ◌⊎◌, ◌+◌, ◌*◌, ◌≤◌, ℕ, List, length, slice_range, true, false, None, Some};
+ghost use Rattle.std.specs.Prelude.{◌≡◌, ◌≢◌, ◌⊎◌, ◌+◌, ◌*◌, ◌≤◌, ℕ, List, length, slice_range, take, true, false, None, Some};
 ghost use Rattle.std.specs.List.{find};
 ghost use Rattle.flash_format.specs.Flashmap.{is_area};
 ghost use Rattle.flash_format.specs.declared.flashmap.Area.{Area};
 ghost use Rattle.board_structures.specs.Descriptors as descriptors;
 ghost use Rattle.board_structures.specs.Descriptors.{area_name_of, base_of, descriptor_in, difference_in, limit_of};
 ghost use Rattle.board_structures.specs.Filling.{each_byte_is};
+ghost use Rattle.board_structures.specs.GoogleBinaryBlocks as blocks;
+ghost use Rattle.board_structures.specs.GoogleBinaryBlocks.{gbb_in, header_of, text_fault};
+ghost use Rattle.board_structures.specs.Laws.{HasDigest, IsUsableBlock, IsUsableKey};
+ghost use Rattle.board_structures.specs.PackedKeys.{key_fault};
 ghost use Rattle.board_structures.specs.PartitionTables as tables;
 ghost use Rattle.board_structures.specs.PartitionTables.{partition_table_in};
 ghost use Rattle.board_structures.specs.ResetVectors as vectors;
 ghost use Rattle.board_structures.specs.ResetVectors.{code_in, reset_vector_in};
 ghost use Rattle.board_structures.specs.declared.descriptor.DescriptorRegion.{DescriptorRegion};
 ghost use Rattle.board_structures.specs.declared.descriptor.RegionTable.{RegionTable};
+ghost use Rattle.board_structures.specs.declared.gbb.GbbHeader.{GbbHeader};
+ghost use Rattle.board_structures.specs.declared.packed_key.PackedKey.{PackedKey};
 
 /// A descriptor that isn't bad is blank, or has its signature at 16 or at 0 and at least 4096 bytes.
 pub fn sound_descriptors_have_a_signature()
@@ -42,4 +48,20 @@ pub fn sound_reset_vectors_have_code()
     ensures { (image : List ℕ) → vectors.is_bad (reset_vector_in image) ≡ false
         → (16 ≤ length image) × (each_byte_is 0xff (code_in image) ≡ false)
         × (each_byte_is 0x00 (code_in image) ≡ false) }
+{}
+
+/// vboot accepts a key without a fault.
+pub fn keys_without_fault_are_usable()
+    ensures { (room : ℕ) (key : PackedKey) → key_fault room key ≡ None → IsUsableKey room key }
+{}
+
+/// A hardware id without a fault has its digest.
+pub fn hardware_ids_without_fault_have_their_digest()
+    ensures { (h : GbbHeader) (field : List ℕ) → text_fault h field ≡ None → HasDigest h field }
+{}
+
+/// A Google Binary Block that isn't bad is blank, or vboot can use it.
+pub fn sound_blocks_are_usable()
+    ensures { (x : List ℕ) → blocks.is_bad (gbb_in x) ≡ false
+        → (each_byte_is 0xff x ≡ true) ⊎ IsUsableBlock (header_of (take 128 x)) x }
 {}

@@ -20,13 +20,15 @@ pub use descriptor::{
 pub use filling::each_byte_is;
 pub use gbb::{Gbb, GbbFault, GbbField, GbbKeyFault, read_gbb};
 pub use laws::{
-    areas_without_difference_are_their_regions, sound_descriptors_have_a_signature,
+    areas_without_difference_are_their_regions, hardware_ids_without_fault_have_their_digest,
+    keys_without_fault_are_usable, sound_blocks_are_usable, sound_descriptors_have_a_signature,
     sound_partition_tables_have_a_marker, sound_reset_vectors_have_code,
 };
 pub use master_header::{HeaderFault, MasterHeader, read_master_header};
 pub use numbers::{
-    descriptors_have_their_states, moved_areas_are_differences, partition_tables_have_their_states,
-    regions_have_their_ranges, reset_vectors_have_their_states,
+    blocks_have_their_states, descriptors_have_their_states, master_headers_have_their_states,
+    moved_areas_are_differences, partition_tables_have_their_states, regions_have_their_ranges,
+    reset_vectors_have_their_states,
 };
 pub use packed_key::{KeyFault, KeyLength, PackedKey};
 pub use partition_table::{PartitionTable, read_partition_table};

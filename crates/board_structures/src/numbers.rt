@@ -1,13 +1,20 @@
 //! The states of literal structures, in numbers. Definitions without content would prove none of
 //! these.
-ghost use Rattle.std.specs.Prelude.{◌≡◌, [], ◌∷◌, ◌++◌, replicate, Some, None};
+ghost use Rattle.std.specs.Prelude.{◌≡◌, [], ◌∷◌, ◌++◌, drop, replicate, take, Some, None};
 ghost use lib.Chars.{codes};
 ghost use Rattle.board_structures.specs.Descriptors.{descriptor_in, difference_in, range_of};
+ghost use Rattle.board_structures.specs.GoogleBinaryBlocks.{gbb_in};
+ghost use Rattle.board_structures.specs.MasterHeaders.{master_header_in};
 ghost use Rattle.board_structures.specs.PartitionTables.{partition_table_in};
 ghost use Rattle.board_structures.specs.ResetVectors.{reset_vector_in};
-ghost use Rattle.board_structures.specs.Samples.{area_with, old_me, small_descriptor, small_end, small_me, small_table};
+ghost use Rattle.board_structures.specs.Samples.{area_with, old_me, small_block, small_descriptor, small_end, small_header_area, small_me, small_table};
 ghost use Rattle.board_structures.specs.declared.descriptor.Descriptor.TheVariants as descriptors;
 ghost use Rattle.board_structures.specs.declared.descriptor.DescriptorRegion.TheVariants.{Bios, Gbe, Me};
+ghost use Rattle.board_structures.specs.declared.gbb.Gbb.TheVariants as blocks;
+ghost use Rattle.board_structures.specs.declared.gbb.GbbFault.TheVariants as block_faults;
+ghost use Rattle.board_structures.specs.declared.gbb.GbbField.TheVariants.{RecoveryKey};
+ghost use Rattle.board_structures.specs.declared.master_header.HeaderFault.TheVariants as header_faults;
+ghost use Rattle.board_structures.specs.declared.master_header.MasterHeader.TheVariants as headers;
 ghost use Rattle.board_structures.specs.declared.partition_table.PartitionTable.TheVariants as tables;
 ghost use Rattle.board_structures.specs.declared.reset_vector.ResetVector.TheVariants as vectors;
 
@@ -55,4 +62,26 @@ pub fn reset_vectors_have_their_states()
     ensures erased { reset_vector_in (replicate 12 0xff ++ replicate 4 0x00) ≡ vectors.Erased }
     ensures cleared { reset_vector_in (replicate 12 0x00 ++ replicate 4 0xff) ≡ vectors.Cleared }
     ensures cut_off { reset_vector_in (replicate 15 0x90) ≡ vectors.CutOff }
+{}
+
+/// A literal block, a blank one, one that is too short, and one with another first byte.
+pub fn blocks_have_their_states()
+    ensures sound { gbb_in small_block ≡ blocks.Sound 0x39 }
+    ensures blank { gbb_in (replicate 128 0xff) ≡ blocks.Blank }
+    ensures cut_off { gbb_in (take 127 small_block) ≡ blocks.Broken block_faults.CutOff }
+    ensures no_signature { gbb_in (0x00 ∷ drop 1 small_block)
+        ≡ blocks.Broken block_faults.NoSignature }
+    ensures recovery_key { gbb_in (take 735 small_block)
+        ≡ blocks.Broken (block_faults.FieldOutside RecoveryKey) }
+    ensures no_terminator { gbb_in (take 128 small_block ++ replicate 16 0x55
+        ++ drop 144 small_block) ≡ blocks.Broken block_faults.NoTerminator }
+{}
+
+/// A literal master header, in its place and in an area with another start.
+pub fn master_headers_have_their_states()
+    ensures sound { master_header_in 0x100 0 small_header_area ≡ headers.Sound }
+    ensures moved { master_header_in 0x200 0 small_header_area
+        ≡ headers.Broken (header_faults.Start 0x100) }
+    ensures pointer { master_header_in 0x100 0 (take 60 small_header_area ++ replicate 4 0xff)
+        ≡ headers.Broken (header_faults.Pointer 0xffffffff) }
 {}

@@ -1,0 +1,40 @@
+-- The rules of sound structures, in the terms of their formats.
+use Rattle.std.specs.Prelude.{◌≡◌, ℕ, ◌+◌, ◌≤◌, List, length, take, slice_range, Some, None}
+use Rattle.std.specs.List.{position}
+use Rattle.flash_format.specs.Entry.{is_nul}
+use Rattle.board_structures.specs.GoogleBinaryBlocks as blocks
+use Rattle.board_structures.specs.GoogleBinaryBlocks.{digest_of, hardware_id_fault, header_of, key_fault_at}
+use Rattle.board_structures.specs.PackedKeys.{key_len}
+use Rattle.board_structures.specs.declared.gbb.FieldPlace.{FieldPlace}
+use Rattle.board_structures.specs.declared.gbb.GbbHeader.{GbbHeader}
+use Rattle.board_structures.specs.declared.packed_key.PackedKey.{PackedKey}
+
+-- vboot accepts a key in a structure of `room` bytes
+pub record IsUsableKey (room : ℕ) (key : PackedKey) : Type 0 where
+  pub length : key_len key.algorithm ≡ Some key.size
+  pub inside : key.offset + key.size ≤ room
+
+-- a field begins after the header, and ends inside an area of this size
+pub record LiesAfterHeader (size : ℕ) (place : FieldPlace) : Type 0 where
+  pub after : 128 ≤ place.offset
+  pub inside : place.offset + place.size ≤ size
+
+-- the text in a field has a NUL, and its digest is stored from minor version 2 on
+pub record HasDigest (h : GbbHeader) (field : List ℕ) : Type 0 where
+  pub end : ℕ
+  pub first : position is_nul field ≡ Some end
+  pub stored : 2 ≤ h.minor → digest_of (take end field) ≡ h.digest
+
+-- vboot can use the block with this header
+pub record IsUsableBlock (h : GbbHeader) (x : List ℕ) : Type 0 where
+  pub long : 128 ≤ length x
+  pub signature : slice_range x 0 4 ≡ blocks.signature
+  pub major : h.major ≡ 1
+  pub header : h.len ≡ 128
+  pub hardware_id : LiesAfterHeader (length x) h.hardware_id
+  pub root_key : LiesAfterHeader (length x) h.root_key
+  pub bitmap : LiesAfterHeader (length x) h.bitmap
+  pub recovery_key : LiesAfterHeader (length x) h.recovery_key
+  pub text : hardware_id_fault h x ≡ None
+  pub root : key_fault_at h.root_key x ≡ None
+  pub recovery : key_fault_at h.recovery_key x ≡ None
