@@ -626,7 +626,7 @@ class Promises(unittest.TestCase):
         definition = re.search(r"^call_limit device = (\d+) \* length device.content \+ (\d+)$",
                                text_of("crates/flash_device/specs/Device.antt"), re.MULTILINE)
         one = f"at most {definition[1]}n + {definition[2]} device calls"
-        clauses = words_of_document("crates/check_report/src/change.rt")
+        clauses = words_of_document("crates/check_report/src/change_inspection.rt")
         old = re.search(r"\.new / (\d+) \+ (\d+)\)", clauses)
         new = re.search(r"\((\d+) \* \(lengths images\.old\)\.new \+ (\d+)\)", clauses)
         two = f"it makes at most m + n/{old[1]} + {old[2]} calls of the old image and "

@@ -6,7 +6,7 @@ mod request;
 mod texts;
 
 pub use check_line::{CheckLine, Invocation, LineFault, read_check};
-use check_report::Written;
+use check_report::WrittenReport;
 pub use check_report::{Inspection, ReportFault, Request, inspect_change, inspect_image};
 use flash_store::{FileFlash, Output, Paged, RepeatingSink};
 use refusal::{Refusal, status_of};
@@ -50,7 +50,7 @@ fn check<'a>(rt: &HostRuntime, line: &CheckLine<'a>) -> Result<bool, Refusal<'a>
     let request = request_of(line);
     let inspection = inspect(rt, line, request)?;
     let out = Output::new(rt.alloc(), RepeatingSink::new(io::writer(rt)));
-    let Written { mut out, is_bad } = inspection.write(rt.alloc(), request, out);
+    let WrittenReport { mut out, is_bad } = inspection.write(rt.alloc(), request, out);
     let is_bad = is_bad?;
     out.flush().map_err(|_| Refusal::Output)?;
     Ok(is_bad)

@@ -17,8 +17,8 @@ use Rattle.check_report.specs.declared.request.Files.{Files}
 use Rattle.check_report.specs.declared.rows.kinds.Counts.{Counts}
 use Rattle.check_report.specs.declared.rows.form.Form.{Form}
 use Rattle.check_report.specs.declared.rows.form.Form.TheVariants as forms
-use Rattle.check_report.specs.Fields.{Line, SeenField, line_json, line_text, members}
-use Rattle.check_report.specs.Reports.{count_fields, document, ending, first_fields, follows_after, heading, in_form, json_report, lines_field, member_tokens, part, parts, start_tokens, text_report}
+use Rattle.check_report.specs.Fields.{Line, SeenField, field, line_json, line_text, members}
+use Rattle.check_report.specs.Reports.{count_fields, document, ending, first_fields, follows_after, heading, in_form, json_report, lines_value, member_tokens, part, parts, start_tokens, text_report}
 use Rattle.check_report.specs.Rows.{summary}
 use Rattle.check_report.proofs.Tokens.{fields_tokens, object_tokens}
 
@@ -107,7 +107,7 @@ whole forms.Json files list rows counts =
     let first : List SeenField = first_fields files list in
     let rest : List Token = flat_map member_tokens (count_fields counts) ++ end_object ∷ [] in
     let tokens : json_tokens (document files list rows counts) ≡ (start_tokens first (codes "rows") ++ lines_tokens rows) ++ (end_array ∷ rest) =
-    object_tokens (first ++ lines_field (codes "rows") rows ∷ count_fields counts) ∙ fields_tokens first (count_fields counts) (codes "rows") rows (end_object ∷ []) in
+    object_tokens (first ++ field "rows" (lines_value rows) ∷ count_fields counts) ∙ fields_tokens first (count_fields counts) (codes "rows") rows (end_object ∷ []) in
     regroup (print (start_tokens first (codes "rows"))) (parts forms.Json false rows) (print (end_array ∷ rest)) line_feed
     ∙ ap (λ l. l ++ line_feed) (sym (array_text first (codes "rows") rows rest) ∙ sym (ap print tokens))
 

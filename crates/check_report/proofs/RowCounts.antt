@@ -9,11 +9,8 @@ use Rattle.std.proofs.lemmas.List.Sums.{sum_by-append, sum_by-cons}
 use Rattle.std.proofs.lemmas.Slice.Eq.{bytes_eq-Decides}
 use Rattle.std.proofs.Math.Seq.{drop-cons}
 use Rattle.check_report.specs.declared.rows.kinds.Kind.{Kind}
-use Rattle.check_report.specs.Rows.{SeenKind, SeenRow, has_verdict, is_like, kind_in, kinds_of, rows_by, seen_kind, verdict_word}
+use Rattle.check_report.specs.Rows.{SeenKind, SeenRow, is_like, is_of, kind_in, kinds_of, rows_by, seen_kind, verdict_word}
 use Rattle.check_findings.specs.Lists.{only_if}
-
-abbrev pub is_of : SeenKind → SeenRow → Bool
-is_of kind row = has_verdict kind.verdict row && bytes_eq kind.code row.code
 
 -- the number of rows of the row's kind
 abbrev pub count_in : List SeenKind → SeenRow → ℕ

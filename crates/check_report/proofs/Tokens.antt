@@ -10,17 +10,17 @@ use Rattle.json.specs.Json.{Json, array, member, object}
 use Rattle.json.specs.Token.{Token, begin_object, begin_array, end_array, end_object, key}
 use Rattle.json.specs.Tree.{json_tokens, items_tokens, members_tokens}
 use Rattle.check_report.specs.Fields.{Line, SeenField, items, line_json, members, name_json, number_json}
-use Rattle.check_report.specs.Reports.{lines_field, member_tokens, start_tokens}
+use Rattle.check_report.specs.Reports.{lines_value, member_tokens, start_tokens}
 
 members_tokens-members : (fs : List SeenField) → members_tokens (members fs) ≡ flat_map member_tokens fs ++ end_object ∷ []
 members_tokens-members [] = refl
-members_tokens-members (f ∷ fs) = go f.1.json (members_tokens-members fs)
+members_tokens-members (f ∷ fs) = go f.value.json (members_tokens-members fs)
   where
     go : (o : Option Json) → members_tokens (members fs) ≡ flat_map member_tokens fs ++ end_object ∷ []
-        → members_tokens (option_map_or (λ j. member f.0 j (members fs)) o (members fs))
-        ≡ (option_map_or (λ j. key f.0 ∷ json_tokens j) o [] ++ flat_map member_tokens fs) ++ end_object ∷ []
+        → members_tokens (option_map_or (λ j. member f.key j (members fs)) o (members fs))
+        ≡ (option_map_or (λ j. key f.key ∷ json_tokens j) o [] ++ flat_map member_tokens fs) ++ end_object ∷ []
     go None rest = rest
-    go (Some j) rest = ap (λ ts. key f.0 ∷ (json_tokens j ++ ts)) rest ∙ ap (λ ts. key f.0 ∷ ts) (sym (append_assoc (json_tokens j) _ _))
+    go (Some j) rest = ap (λ ts. key f.key ∷ (json_tokens j ++ ts)) rest ∙ ap (λ ts. key f.key ∷ ts) (sym (append_assoc (json_tokens j) _ _))
 
 pub object_tokens : (fs : List SeenField) → json_tokens (object (members fs)) ≡ begin_object ∷ (flat_map member_tokens fs ++ end_object ∷ [])
 object_tokens fs = ap (λ ts. begin_object ∷ ts) (members_tokens-members fs)
@@ -35,11 +35,11 @@ regroup f j l e k a z = simp append_assoc
 -- fields with an array between
 pub fields_tokens : (first last : List SeenField) (name : List ℕ) (lines : List Line) (e : List Token)
     → let js = flat_map json_tokens (map line_json lines) in
-    (begin_object ∷ flat_map member_tokens (first ++ lines_field name lines ∷ last)) ++ e
+    (begin_object ∷ flat_map member_tokens (first ++ record { key = name; value = lines_value lines } ∷ last)) ++ e
     ≡ (start_tokens first name ++ js) ++ ((end_array ∷ flat_map member_tokens last) ++ e)
 fields_tokens first last name lines e =
     let js : List Token = flat_map json_tokens (map line_json lines) in
-    ap (λ ts. begin_object ∷ (ts ++ e)) (flat_map-append member_tokens first (lines_field name lines ∷ last)
+    ap (λ ts. begin_object ∷ (ts ++ e)) (flat_map-append member_tokens first (record { key = name; value = lines_value lines } ∷ last)
     ∙ ap (λ ts. flat_map member_tokens first ++ ((key name ∷ begin_array ∷ ts) ++ flat_map member_tokens last)) (items_tokens-items (map line_json lines)))
     ∙ ap (λ ts. begin_object ∷ ts) (regroup (flat_map member_tokens first) js (flat_map member_tokens last) e (key name) begin_array end_array)
 

@@ -6,6 +6,7 @@ use Rattle.std.specs.Option.{option_map_or}
 use Rattle.std.specs.Fmt.{decimal}
 use Rattle.std.specs.Str.{is_utf8}
 use lib.Chars.{codes}
+use Prim.Native.String.{String}
 use Rattle.json.specs.Json.{Json, number, string, array, object, Items, no_items, item, Members}
 use Rattle.json.specs.Json.{no_members, member}
 use Rattle.flash_format.specs.Texts.{hexadecimal, printed_name, tab, line_feed}
@@ -30,7 +31,7 @@ number_json n = number (decimal n)
 
 abbrev pub items : List Json → Items
 items [] = no_items
-items (j ∷ js) = item j (items js)
+items (json ∷ rest) = item json (items rest)
 
 -- a name: a string if UTF-8, otherwise an array of bytes
 abbrev pub name_json : List ℕ → Json
@@ -51,20 +52,25 @@ seen_value (values.Hexadecimal n) = text_value (hexadecimal n)
 
 -- ---- fields
 
+-- a value with its JSON key
 abbrev pub SeenField : Type 0
-SeenField = List ℕ × SeenValue
+SeenField = record { key : List ℕ; value : SeenValue }
+
+abbrev pub field : String → SeenValue → SeenField
+field key value = record { key = codes key; value = value }
 
 abbrev pub seen_field : Bor (List ℕ) × Value → SeenField
-seen_field field = (field.0.now, seen_value field.1)
+seen_field field = record { key = field.0.now; value = seen_value field.1 }
 
 -- a tab and the field's text, if any
 abbrev pub field_text : SeenField → List ℕ
-field_text field = option_map_or (λ text. tab ++ text) field.1.text []
+field_text field = option_map_or (λ text. tab ++ text) field.value.text []
 
 -- the fields with a JSON value
 abbrev pub members : List SeenField → Members
 members [] = no_members
-members (f ∷ fs) = option_map_or (λ j. member f.0 j (members fs)) f.1.json (members fs)
+members (field ∷ fields) = option_map_or (λ json. member field.key json (members fields))
+    field.value.json (members fields)
 
 -- a line: the first field in text, and the other fields
 abbrev pub Line : Type 0

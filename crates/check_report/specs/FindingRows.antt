@@ -47,7 +47,7 @@ use Rattle.check_report.specs.Fields.{SeenValue, name_value, seen_value}
 use Rattle.check_report.specs.declared.rows.row.Verdict.TheVariants.{Bad, Remark}
 use Rattle.check_report.specs.Rows.{SeenRow, area_name, at_component, of_area}
 use Rattle.check_report.specs.Rows.{of_component, row, row_at, row_of, with_count}
-use Rattle.check_report.specs.Rows.{in_area, with_field, with_number, with_other}
+use Rattle.check_report.specs.Rows.{in_area, with_number, with_other}
 
 -- ---- the flash map; positions count from the image's start
 
@@ -143,7 +143,7 @@ region_rows asked rules area findings = flat_map (λ finding. option_map_or (λ 
 
 -- the row of a name without an area
 abbrev pub missing_row : SeenValue → SeenRow
-missing_row name = with_field "area" name (row Bad "no-area" "no such area")
+missing_row name = record (row Bad "no-area" "no such area") { area = name }
 
 -- by the given area names; an area that isn't checked is bad if its name is expected
 abbrev pub rows_of : Asked → List (Bor (List ℕ)) → ImageFinding → List SeenRow

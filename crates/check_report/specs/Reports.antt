@@ -15,7 +15,8 @@ use Rattle.check_findings.specs.declared.region.finding.RegionFinding.TheVariant
 use Rattle.check_findings.specs.declared.image.finding.ImageFinding.{ImageFinding}
 use Rattle.check_findings.specs.declared.image.finding.ImageFinding.TheVariants.{Region}
 use Rattle.check_report.specs.declared.rows.field.Value.TheVariants.{Count, Offset, Absent}
-use Rattle.check_report.specs.Fields.{Line, SeenField, name_value, seen_value, text_value}
+use Rattle.check_report.specs.Fields.{Line, SeenField, SeenValue, field, name_value, seen_value}
+use Rattle.check_report.specs.Fields.{text_value}
 use Rattle.check_report.specs.Fields.{line_text, items, json_value, line_json, members}
 use Rattle.check_report.specs.Rows.{SeenRow, area_name, counts_of, report_lines, summary}
 use Rattle.check_report.specs.Rows.{names_in}
@@ -47,23 +48,27 @@ use Rattle.check_changes.specs.Areas.{different_blocks}
 use Rattle.check_changes.specs.Regions.{region_changes}
 
 abbrev pub count_fields : Counts → List SeenField
-count_fields c = (codes "bad", seen_value (Count c.bad))
-    ∷ (codes "remarks", seen_value (Count c.remarks))
-    ∷ (codes "changes", seen_value (Count c.changes)) ∷ []
+count_fields counts =
+    field "bad" (seen_value (Count counts.bad))
+    ∷ field "remarks" (seen_value (Count counts.remarks))
+    ∷ field "changes" (seen_value (Count counts.changes))
+    ∷ []
 
-abbrev pub lines_field : List ℕ → List Line → SeenField
-lines_field name lines = (name, json_value (array (items (map line_json lines))))
+-- in JSON, an array with an object for each line
+abbrev pub lines_value : List Line → SeenValue
+lines_value lines = json_value (array (items (map line_json lines)))
 
 -- the fields before the rows
 abbrev pub first_fields : Files → Option (List Line) → List SeenField
-first_fields files list = (codes "format", seen_value (Count 1))
-    ∷ (codes "image", text_value files.image.now)
-    ∷ (codes "old", option_map_or text_value (option_copied files.old) (seen_value Absent))
-    ∷ option_map_or (λ lines. lines_field (codes "components") lines ∷ []) list []
+first_fields files list =
+    field "format" (seen_value (Count 1))
+    ∷ field "image" (text_value files.image.now)
+    ∷ field "old" (option_map_or text_value (option_copied files.old) (seen_value Absent))
+    ∷ option_map_or (λ lines. field "components" (lines_value lines) ∷ []) list []
 
 abbrev pub document : Files → Option (List Line) → List Line → Counts → Json
 document files list rows counts = object (members
-    (first_fields files list ++ lines_field (codes "rows") rows ∷ count_fields counts))
+    (first_fields files list ++ field "rows" (lines_value rows) ∷ count_fields counts))
 
 -- the report as text: the list on request, the rows and the counts
 abbrev pub text_report : Option (List Line) → List Line → Counts → List ℕ
@@ -87,11 +92,13 @@ part form follows text tokens = in_form form text (print_from follows tokens)
 
 -- the tokens of a field with a JSON value
 abbrev pub member_tokens : SeenField → List Token
-member_tokens field = option_map_or (λ j. key field.0 ∷ json_tokens j) field.1.json []
+member_tokens field =
+    option_map_or (λ json. key field.key ∷ json_tokens json) field.value.json []
 
 -- an object up to its first array
 abbrev pub start_tokens : List SeenField → List ℕ → List Token
-start_tokens fs name = begin_object ∷ flat_map member_tokens fs ++ key name ∷ begin_array ∷ []
+start_tokens fields name =
+    begin_object ∷ flat_map member_tokens fields ++ key name ∷ begin_array ∷ []
 
 -- the part before the rows
 abbrev pub heading : Form → Files → Option (List Line) → List ℕ
@@ -114,12 +121,15 @@ ending form counts = part form false (summary counts)
 -- ---- the choice of components and rows
 
 abbrev pub component_fields : List ℕ → ℕ → List ℕ → Content → List SeenField
-component_fields area at name content = (codes "area", name_value area)
-    ∷ (codes "component", name_value name) ∷ (codes "position", seen_value (Offset at))
-    ∷ (codes "type", text_value (printed_type content.kind))
-    ∷ (codes "length", seen_value (Count content.len))
-    ∷ (codes "compression", text_value (printed_compression content.compression))
-    ∷ (codes "hash", text_value (hash_words content.hash).1) ∷ []
+component_fields area at name content =
+    field "area" (name_value area)
+    ∷ field "component" (name_value name)
+    ∷ field "position" (seen_value (Offset at))
+    ∷ field "type" (text_value (printed_type content.kind))
+    ∷ field "length" (seen_value (Count content.len))
+    ∷ field "compression" (text_value (printed_compression content.compression))
+    ∷ field "hash" (text_value (hash_words content.hash).1)
+    ∷ []
 
 abbrev pub component_lines : List ℕ → RegionFinding → List Line
 component_lines area (Component at name shadowed content) =

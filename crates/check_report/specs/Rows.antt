@@ -17,51 +17,60 @@ use Rattle.check_report.specs.declared.rows.row.Verdict.{Verdict}
 use Rattle.check_report.specs.declared.rows.row.Verdict.TheVariants as verdicts
 use Rattle.check_report.specs.declared.rows.row.Row.{Row}
 use Rattle.check_report.specs.declared.rows.kinds.Counts.{Counts}
-use Rattle.check_report.specs.Fields.{Line, SeenValue, json_value, name_value}
+use Rattle.check_report.specs.Fields.{Line, SeenField, SeenValue, field, json_value, name_value}
 use Rattle.check_report.specs.Fields.{seen_value, text_value}
-use Rattle.check_report.specs.Fields.{SeenField}
 
 abbrev pub verdict_word : Verdict → List ℕ
 verdict_word verdicts.Bad = codes "bad"
 verdict_word verdicts.Remark = codes "remark"
 verdict_word verdicts.Change = codes "change"
 
--- a row: its verdict, its code and the fields after them
+-- a row, with its values as both forms print them
 pub record SeenRow : Type 0 where
   pub verdict : Verdict
   pub code : List ℕ
-  pub fields : List SeenField
+  pub area : SeenValue
+  pub component : SeenValue
+  pub position : SeenValue
+  pub what : List ℕ
+  pub detail : SeenValue
+  pub other : SeenValue
 
--- the fields of a row of the whole image
-abbrev pub plain_fields : List ℕ → List SeenField
-plain_fields what = (codes "area", seen_value Dash) ∷ (codes "component", seen_value Dash)
-    ∷ (codes "position", seen_value Dash) ∷ (codes "what", text_value what)
-    ∷ (codes "value", seen_value Absent) ∷ (codes "other", seen_value Absent) ∷ []
+abbrev pub seen_row : Row → SeenRow
+seen_row row = record {
+  verdict = row.verdict;
+  code = row.code.now;
+  area = seen_value row.area;
+  component = seen_value row.component;
+  position = seen_value row.position;
+  what = row.what.now;
+  detail = seen_value row.detail;
+  other = seen_value row.other;
+}
 
--- a row of the whole image
+-- a row of the whole image: it has no area, no component and no position
 abbrev pub row_of : Verdict → List ℕ → List ℕ → SeenRow
-row_of verdict code what = record { verdict = verdict; code = code; fields = plain_fields what }
+row_of verdict code what = record {
+  verdict = verdict;
+  code = code;
+  area = seen_value Dash;
+  component = seen_value Dash;
+  position = seen_value Dash;
+  what = what;
+  detail = seen_value Absent;
+  other = seen_value Absent;
+}
 
 abbrev pub row : Verdict → String → String → SeenRow
 row verdict code what = row_of verdict (codes code) (codes what)
 
--- the row with another value of a field
-abbrev pub with_field : String → SeenValue → SeenRow → SeenRow
-with_field key value r =
-    record r { fields = map (λ f. (f.0, if bytes_eq f.0 (codes key) then value else f.1)) r.fields }
-
-abbrev pub seen_row : Row → SeenRow
-seen_row row = with_field "area" (seen_value row.area)
-    (with_field "component" (seen_value row.component)
-    (with_field "position" (seen_value row.position)
-    (with_field "value" (seen_value row.detail) (with_field "other" (seen_value row.other)
-    (row_of row.verdict row.code.now row.what.now)))))
+-- ---- the row with another value of a field
 
 abbrev pub row_at : ℕ → SeenRow → SeenRow
-row_at position row = with_field "position" (seen_value (Offset position)) row
+row_at position row = record row { position = seen_value (Offset position) }
 
 abbrev pub in_area : List ℕ → SeenRow → SeenRow
-in_area name row = with_field "area" (name_value name) row
+in_area name row = record row { area = name_value name }
 
 abbrev pub area_name : NumberedArea → List ℕ
 area_name a = text_of a.area.name
@@ -71,26 +80,41 @@ abbrev pub of_area : NumberedArea → SeenRow → SeenRow
 of_area a row = row_at a.area.offset (in_area (area_name a) row)
 
 abbrev pub of_component : List ℕ → List ℕ → SeenRow → SeenRow
-of_component area name row = in_area area (with_field "component" (name_value name) row)
+of_component area name row = record row { area = name_value area; component = name_value name }
 
 abbrev pub at_component : List ℕ → ℕ → List ℕ → SeenRow → SeenRow
 at_component area at name row = row_at at (of_component area name row)
 
+-- with a decimal number
 abbrev pub with_count : ℕ → SeenRow → SeenRow
-with_count n row = with_field "value" (seen_value (Count n)) row
+with_count n row = record row { detail = seen_value (Count n) }
 
+-- with a hexadecimal number
 abbrev pub with_number : ℕ → SeenRow → SeenRow
-with_number n row = with_field "value" (seen_value (Offset n)) row
+with_number n row = record row { detail = seen_value (Offset n) }
 
+-- with the name of a second area
 abbrev pub with_other : NumberedArea → SeenRow → SeenRow
-with_other a row = with_field "other" (name_value (area_name a)) row
+with_other a row = record row { other = name_value (area_name a) }
+
+-- ---- the line of a row
 
 abbrev pub row_fields : SeenRow → List SeenField
-row_fields row = (codes "verdict", json_value (string (verdict_word row.verdict)))
-    ∷ (codes "code", json_value (string row.code)) ∷ row.fields
+row_fields row =
+    field "verdict" (json_value (string (verdict_word row.verdict)))
+    ∷ field "code" (json_value (string row.code))
+    ∷ field "area" row.area
+    ∷ field "component" row.component
+    ∷ field "position" row.position
+    ∷ field "what" (text_value row.what)
+    ∷ field "value" row.detail
+    ∷ field "other" row.other
+    ∷ []
 
 abbrev pub row_line : SeenRow → Line
 row_line row = record { head = verdict_word row.verdict; fields = row_fields row }
+
+-- ---- counts
 
 abbrev pub has_verdict : Verdict → SeenRow → Bool
 has_verdict verdict row = bytes_eq (verdict_word verdict) (verdict_word row.verdict)
@@ -109,6 +133,7 @@ summary counts = decimal counts.bad ++ codes " bad, " ++ decimal counts.remarks
 
 -- ---- at most 16 rows of a kind, which is a verdict and a code
 
+-- the rows are of one kind
 abbrev pub is_like : SeenRow → SeenRow → Bool
 is_like row other = has_verdict row.verdict other && bytes_eq row.code other.code
 
@@ -129,6 +154,10 @@ SeenKind = record { verdict : Verdict; code : List ℕ; count : ℕ }
 abbrev pub seen_kind : Kind → SeenKind
 seen_kind kind = record { verdict = kind.verdict; code = kind.code.now; count = kind.count }
 
+abbrev pub is_of : SeenKind → SeenRow → Bool
+is_of kind row = has_verdict kind.verdict row && bytes_eq kind.code row.code
+
+-- the kind of a row, with the number of its rows
 abbrev pub kind_in : List SeenRow → SeenRow → SeenKind
 kind_in rows r = record { verdict = r.verdict; code = r.code; count = count_by (is_like r) rows }
 

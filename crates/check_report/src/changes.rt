@@ -90,6 +90,8 @@ pub fn add_anchor_change<W: Sink + Drop>(
     }
 }
 
+/// Adds the rows of changed areas, in order. Changes of the `kept` areas and removals of the `vital`
+/// areas are bad. Returns `Output` if the sink failed, and `Memory` if an allocation failed.
 pub fn add_area_changes<W: Sink + Drop>(
     rows: &mut RowWriter<W>,
     kept: &KnownNames<'_>,
@@ -144,6 +146,8 @@ fn add_component_changes<W: Sink + Drop>(
     Ok(())
 }
 
+/// Adds the rows of changed components of each area, in order. Changes in the `kept` areas are bad.
+/// Errors are as in `add_area_changes`.
 pub fn add_region_changes<W: Sink + Drop>(
     rows: &mut RowWriter<W>,
     kept: &KnownNames<'_>,

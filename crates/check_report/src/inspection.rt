@@ -12,10 +12,10 @@ ghost use Rattle.check_report.specs.Effects.{Adds, Prints, by_sink};
 use crate::changes::{
     add_anchor_change, add_area_changes, add_image_changes, add_map_changes, add_region_changes,
 };
+use crate::component_list::list_components;
 use crate::fault::WriteFault;
 use crate::findings::{add_findings, add_needs};
 use crate::kept::add_missing;
-use crate::list::list_components;
 use crate::names::{KnownNames, kept_names, with_areas};
 use crate::request::Request;
 use crate::rows::{Printer, RowWriter};
@@ -94,7 +94,7 @@ fn add_changes<W: Sink + Drop>(
 
 /// A sink after a report, and the result.
 #[derive(Drop)]
-pub struct Written<W> {
+pub struct WrittenReport<W> {
     pub out: W,
     /// Whether a row is bad. After a fault the sink has a proper prefix of the report.
     pub is_bad: Result<bool, WriteFault>,
@@ -137,7 +137,12 @@ impl Inspection {
     /// Writes the report row by row, after the list of components on request. Returns the sink, and
     /// whether a row is bad, or a fault: `Output` only if the sink failed, `Memory` if an
     /// allocation failed. After a fault, the sink received a proper prefix of the report.
-    pub fn write<W: Sink + Drop>(&self, alloc: Global, request: Request<'_>, out: W) -> Written<W>
+    pub fn write<W: Sink + Drop>(
+        &self,
+        alloc: Global,
+        request: Request<'_>,
+        out: W,
+    ) -> WrittenReport<W>
         ensures bad { Returns result.is_bad (has_bad (inspection_rows request.entry self.now)) }
         ensures text { OnOk result.is_bad (Appends (W.contents out) (W.contents result.out)
             (report request.entry self.now)) }
@@ -147,7 +152,7 @@ impl Inspection {
     {
         let mut printer = Printer::new(alloc, request.form, out);
         if let Err(fault) = self.print_heading(request, &mut printer) {
-            return Written {
+            return WrittenReport {
                 out: printer.out,
                 is_bad: Err(fault),
             };
@@ -157,7 +162,7 @@ impl Inspection {
             Ok(()) => rows.finish(),
             Err(fault) => Err(fault),
         };
-        Written {
+        WrittenReport {
             out: rows.printer.out,
             is_bad,
         }

@@ -14,6 +14,7 @@ use crate::rows::{RowWriter, Value, Verdict};
 use check_findings::NumberedArea;
 use flash_device::Sink;
 
+/// Returns the verdict of a change: bad in an area that must not change.
 pub fn change_verdict(is_kept: bool) -> Verdict
     ensures { result ≡ (if is_kept then Bad else Change) }
 {

@@ -6,26 +6,26 @@
 
 mod anchor;
 mod areas;
-mod change;
+mod change_inspection;
 mod changes;
+mod component_list;
 mod fault;
 mod findings;
-mod image;
+mod image_inspection;
 mod inspection;
 mod kept;
 mod laws;
-mod list;
 mod names;
 mod region;
 mod request;
 mod rows;
 
-pub use change::inspect_change;
+pub use change_inspection::inspect_change;
 pub use check_changes::Images;
 pub use check_findings::{Need, NeededPlace};
 pub use fault::{ReportFault, WriteFault};
-pub use image::inspect_image;
-pub use inspection::{Changes, Comparison, Inspection, OldImage, Written};
+pub use image_inspection::inspect_image;
+pub use inspection::{Changes, Comparison, Inspection, OldImage, WrittenReport};
 pub use laws::rows_tell_what_is_bad;
 pub use request::{Asked, Files, Request};
 pub use rows::Form;

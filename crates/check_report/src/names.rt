@@ -21,6 +21,7 @@ pub struct KnownNames<'a> {
 }
 
 impl<'a> KnownNames<'a> {
+    /// Returns a table of these names, or an error if an allocation failed.
     pub fn of(alloc: Global, names: Vec<&'a [u8]>) -> Result<KnownNames<'a>, AllocError>
         ensures { IfOk result (λ known. known.names.items ≡ names.entry.items) }
     {
@@ -37,6 +38,7 @@ impl<'a> KnownNames<'a> {
     }
 }
 
+/// Returns the area names of the needs, in order, or an error if an allocation failed.
 pub fn need_areas<'a>(alloc: Global, needs: &[Need<'a>]) -> Result<Vec<&'a [u8]>, AllocError>
     ensures { IfOk result (λ names. names_in names.items ≡ map (λ n. n.area.now) needs.now) }
 {

@@ -148,6 +148,8 @@ fn plain_row<'a>(finding: &RegionFinding) -> Option<Row<'a>>
     Some(row)
 }
 
+/// Adds the rows of an area's findings, in order. Positions count from the start of the area, in
+/// bytes. Returns `Output` if the sink failed, and `Memory` if an allocation failed.
 pub fn add_region<W: Sink + Drop>(
     rows: &mut RowWriter<W>,
     asked: Asked,

@@ -5,7 +5,7 @@ use crate::report::reports::request;
 use crate::rows::support::{A_AND_416, PRINT, WITH_A, board};
 use crate::support::{device_from, equal, filled, image_with, write_over};
 use cbfs_commands::{Command, Refusal};
-use check_report::{Files, Form, Inspection, Request, WriteFault, Written};
+use check_report::{Files, Form, Inspection, Request, WriteFault, WrittenReport};
 use flash_store::{MemSource, Output, Paged, RepeatingSink, put_all};
 use fmap_compiler::ReadText;
 use std::io::{self, ErrorKind, Write};
@@ -409,7 +409,7 @@ fn reports_once(rt: &(impl Abort + AllocGlobal), manner: Manner) -> bool {
         changes: None,
     };
     let out = output(rt, REPORT, manner, false);
-    let Written { out, is_bad } = inspection.write(rt.alloc(), request(&[], Form::Text), out);
+    let WrittenReport { out, is_bad } = inspection.write(rt.alloc(), request(&[], Form::Text), out);
     equal(rt, &(is_bad == Err(WriteFault::Memory)), &false);
     ends(rt, is_bad.is_ok(), out)
 }
@@ -453,7 +453,7 @@ fn reports_text(rt: &(impl Abort + AllocGlobal), text: &[u8], manner: Manner) ->
         ..request(&[], Form::Json)
     };
     let out = output(rt, text, manner, false);
-    let Written { out, is_bad } = inspection.write(rt.alloc(), request, out);
+    let WrittenReport { out, is_bad } = inspection.write(rt.alloc(), request, out);
     equal(rt, &(is_bad == Err(WriteFault::Memory)), &false);
     ends(rt, is_bad.is_ok(), out)
 }

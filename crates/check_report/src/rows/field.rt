@@ -3,6 +3,7 @@ ghost use Rattle.std.specs.Prelude.{◌≡◌};
 ghost use Rattle.std.specs.Option.{option_map_or};
 ghost use Rattle.check_report.specs.declared.rows.field.Value.TheVariants as values;
 
+/// The value of a field, with its text and its JSON.
 #[derive(Clone, Copy)]
 pub enum Value<'a> {
     /// Nothing in text or JSON.

@@ -1,6 +1,6 @@
 //! Kinds of rows. A kind is a verdict and a code.
 ghost use Rattle.std.specs.Prelude.{◌≡◌, ◌+◌, ◌++◌, ◌∷◌, [], List, count_by, map, IfOk};
-ghost use Rattle.check_report.specs.Rows.{SeenRow, counts_of, is_like, kinds_of, row_of};
+ghost use Rattle.check_report.specs.Rows.{SeenRow, counts_of, is_like, is_of, kinds_of};
 ghost use Rattle.check_report.specs.Rows.{seen_kind, seen_row};
 ghost use Rattle.check_report.specs.Fields.{seen_field};
 ghost use Rattle.check_report.specs.Reports.{count_fields};
@@ -34,13 +34,14 @@ fn next(count: u64) -> Result<u64, AllocError>
 }
 
 fn is_of(kind: &Kind, row: &Row) -> bool
-    ensures { result ≡ is_like (row_of kind.now.verdict kind.now.code.now []) (seen_row row.now) }
+    ensures { result ≡ is_of (seen_kind kind.now) (seen_row row.now) }
 {
     kind.verdict.word() == row.verdict.word() && kind.code == row.code
 }
 
-/// Counts a row. Returns the number of earlier rows of its kind.
-pub fn count_row(kinds: &mut Vec<Kind>, row: &Row) -> Result<u64, AllocError>
+/// Counts a row in the table of kinds. Returns the number of earlier rows of its kind, or an error
+/// if an allocation failed.
+pub fn count_by_kind(kinds: &mut Vec<Kind>, row: &Row) -> Result<u64, AllocError>
     ensures { IfOk result (λ n. (rows : List SeenRow) → map seen_kind kinds.old.items
         ≡ kinds_of rows → (n ≡ count_by (is_like (seen_row row.now)) rows)
         × (map seen_kind kinds.new.items ≡ kinds_of (rows ++ seen_row row.now ∷ []))) }
@@ -61,6 +62,7 @@ pub fn count_row(kinds: &mut Vec<Kind>, row: &Row) -> Result<u64, AllocError>
 }
 
 impl Counts {
+    /// Returns the numbers as the last fields of the JSON document.
     pub fn fields(self) -> [Field<'static>; 3]
         ensures { map seen_field result ≡ count_fields self }
     {
@@ -71,6 +73,7 @@ impl Counts {
         ]
     }
 
+    /// Returns the numbers after another row, or an error above 2^64 - 1 rows.
     pub fn with(mut self, row: &Row) -> Result<Counts, AllocError>
         ensures { IfOk result (λ counts. (rows : List SeenRow) → self ≡ counts_of rows
             → counts ≡ counts_of (rows ++ seen_row row.now ∷ [])) }

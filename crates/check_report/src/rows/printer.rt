@@ -27,6 +27,7 @@ pub struct Printer<W: Sink + Drop> {
 }
 
 impl<W: Sink + Drop> Printer<W> {
+    /// Returns a printer that has printed nothing.
     pub fn new(alloc: Global, form: Form, out: W) -> Printer<W>
         ensures out { result.out ≡ out }
         ensures form { result.form ≡ form }
@@ -51,6 +52,8 @@ impl<W: Sink + Drop> Printer<W> {
         }
     }
 
+    /// Prints a line: in text `head` and the fields, in JSON an object of the fields. After an
+    /// error, a prefix of the line is printed.
     pub fn line(&mut self, head: &str, fields: &[Field<'_>]) -> Result<(), WriteFault>
         ensures { PrintsLines W.Sink result self.old self.new (seen_line head.now fields.now ∷ []) }
     {
@@ -75,6 +78,8 @@ impl<W: Sink + Drop> Printer<W> {
         }
     }
 
+    /// Prints the end of the report: the numbers of rows by verdict. After an error, a part of the
+    /// end is missing.
     pub fn end(&mut self, counts: Counts) -> Result<(), WriteFault>
         ensures prints { Prints W.Sink result self.old self.new
             (ending self.old.form counts) self.old.follows }

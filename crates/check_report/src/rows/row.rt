@@ -18,6 +18,7 @@ pub enum Verdict {
 }
 
 impl Verdict {
+    /// Returns the word that begins a row as text, and is its verdict in JSON.
     pub fn word(self) -> &'static str
         ensures { result.now ≡ verdict_word self }
     {
@@ -28,6 +29,7 @@ impl Verdict {
         }
     }
 
+    /// Returns the verdict of a finding.
     pub fn of_finding(is_bad: bool) -> Verdict
         ensures { result ≡ (if is_bad then Bad else Remark) }
     {
@@ -51,6 +53,7 @@ impl Verdict {
     }
 }
 
+/// A row of a report: a finding, an unmet need or a change.
 #[derive(Clone, Copy)]
 pub struct Row<'a> {
     pub verdict: Verdict,
@@ -62,14 +65,15 @@ pub struct Row<'a> {
     pub code: &'static str,
     /// A text without tabs and line feeds.
     pub what: &'static str,
-    /// The number after the text, if any.
+    /// A count or an offset after the text, if any.
     pub detail: Value<'a>,
     /// The name of a second area.
     pub other: Value<'a>,
 }
 
 impl<'a> Row<'a> {
-    /// Returns the fields after the verdict.
+    /// Returns all fields, in their order in text and JSON. The verdict has no text here: a line in
+    /// text begins with it.
     pub fn fields(&self) -> [Field<'a>; 8]
         ensures { map seen_field result ≡ row_fields (seen_row self.now) }
     {
@@ -93,6 +97,7 @@ impl<'a> Row<'a> {
         self
     }
 
+    /// Sets the name of the area.
     pub fn in_area(mut self, name: &'a [u8]) -> Row<'a>
         ensures { seen_row result ≡ rows.in_area name.now (seen_row self.entry) }
     {
@@ -108,6 +113,7 @@ impl<'a> Row<'a> {
             .at(u64::from(area.area.offset))
     }
 
+    /// Sets the names of the area and of the component.
     pub fn of_component(mut self, area: &'a [u8], name: &'a [u8]) -> Row<'a>
         ensures { seen_row result ≡ rows.of_component area.now name.now (seen_row self.entry) }
     {
@@ -122,6 +128,7 @@ impl<'a> Row<'a> {
         self.of_component(area, name).at(at)
     }
 
+    /// Sets the number after the text, printed in decimal.
     pub fn count(mut self, count: u64) -> Row<'a>
         ensures { seen_row result ≡ rows.with_count count (seen_row self.entry) }
     {
@@ -129,6 +136,7 @@ impl<'a> Row<'a> {
         self
     }
 
+    /// Sets the number after the text, printed in hexadecimal.
     pub fn number(mut self, number: u64) -> Row<'a>
         ensures { seen_row result ≡ rows.with_number number (seen_row self.entry) }
     {
@@ -136,6 +144,7 @@ impl<'a> Row<'a> {
         self
     }
 
+    /// Sets the second area, by its name.
     pub fn other(mut self, area: &'a NumberedArea) -> Row<'a>
         ensures { seen_row result ≡ rows.with_other area.now (seen_row self.entry) }
     {

@@ -12,6 +12,7 @@ use flash_format::{hexadecimal, printed_byte};
 use itoa::Buffer;
 use std::alloc::{AllocError, Global};
 
+/// Appends a part to a text. Returns an error if an allocation failed.
 pub fn push(text: &mut Vec<u8>, part: &[u8]) -> Result<(), AllocError>
     ensures { OnOk result (text.new.items ≡ text.old.items ++ part.now) }
 {
@@ -51,6 +52,8 @@ fn push_field(text: &mut Vec<u8>, field: Field<'_>) -> Result<(), AllocError>
     }
 }
 
+/// Returns a line as text: `head`, then a tab and the text of each field that has one. Returns an
+/// error if an allocation failed.
 pub fn line(alloc: Global, head: &str, fields: &[Field<'_>]) -> Result<Vec<u8>, AllocError>
     ensures { Lists result (line_text (seen_line head.now fields.now)) }
 {

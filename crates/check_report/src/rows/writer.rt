@@ -6,7 +6,7 @@ ghost use Rattle.check_report.specs.Rows.{more_of, row_line, seen_kind, seen_row
 ghost use Rattle.check_report.specs.Effects.{Adds, Ends, HasWritten, PrintsLines};
 
 use crate::fault::WriteFault;
-use crate::rows::kinds::{Counts, Kind, count_row};
+use crate::rows::kinds::{Counts, Kind, count_by_kind};
 use crate::rows::printer::Printer;
 use crate::rows::row::Row;
 use flash_device::Sink;
@@ -56,6 +56,7 @@ impl<W: Sink + Drop> Printer<W> {
 }
 
 impl<W: Sink + Drop> RowWriter<W> {
+    /// Returns a writer without rows. A verbose writer prints all rows of a kind.
     pub fn new(alloc: Global, printer: Printer<W>, is_verbose: bool) -> RowWriter<W>
         ensures sound { printer.follows ≡ false → HasWritten W.Sink printer is_verbose [] result }
         ensures printer { result.printer ≡ printer }
@@ -72,16 +73,18 @@ impl<W: Sink + Drop> RowWriter<W> {
         }
     }
 
-    /// Adds a row, and prints it unless 16 rows of its kind precede it.
+    /// Adds a row, and prints it unless 16 rows of its kind precede it. Returns `Output` if the sink
+    /// failed, and `Memory` if an allocation failed.
     pub fn add(&mut self, row: Row<'_>) -> Result<(), WriteFault>
         ensures { Adds W.Sink result self.old self.new (seen_row row.entry ∷ []) }
     {
-        let before = count_row(&mut self.kinds, &row)?;
+        let before = count_by_kind(&mut self.kinds, &row)?;
         self.counts = self.counts.with(&row)?;
         let is_shown = self.is_verbose || before < MOST;
         self.printer.row_if(is_shown, &row)
     }
 
+    /// Adds a row if the condition holds, like `add`.
     pub fn add_if(&mut self, is_there: bool, row: Row<'_>) -> Result<(), WriteFault>
         ensures { Adds W.Sink result self.old self.new (only_if is_there (seen_row row.entry)) }
     {

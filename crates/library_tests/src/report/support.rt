@@ -2,7 +2,7 @@
 use crate::report::reports::request;
 use crate::support::{Failing, equal, failing};
 use check_findings::ImageFinding;
-use check_report::{Form, Inspection, Request, Written};
+use check_report::{Form, Inspection, Request, WrittenReport};
 use flash_device::WriteSink;
 use std::hash::RandomState;
 use std::process::Abort;
@@ -51,7 +51,7 @@ pub fn text_of(
         ..request(&[], form)
     };
     let sink = WriteSink::new(Vec::new(rt.alloc()));
-    let Written { out, is_bad } = inspection.write(rt.alloc(), request, sink);
+    let WrittenReport { out, is_bad } = inspection.write(rt.alloc(), request, sink);
     let _ = is_bad.expect(rt, "memory");
     out.into_inner()
 }

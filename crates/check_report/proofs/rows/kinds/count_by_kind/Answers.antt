@@ -2,7 +2,7 @@ use Rattle.std.proofs.Common.{◌≡◌, ◌∙◌, ◌<◌, ◌≤◌, length, 
 use Rattle.std.proofs.lemmas.List.{get_or_default}
 use Rattle.check_report.specs.Rows.{seen_row}
 use Rattle.check_report.proofs.RowCounts.{found, none_passed, passed_more}
-use Rattle.check_report.proofs.rows.kinds.count_row.Goals as goal
+use Rattle.check_report.proofs.rows.kinds.count_by_kind.Goals as goal
 
 pub loop-i-preserved : goal.loop-i-preserved
 loop-i-preserved c =

@@ -1,8 +1,8 @@
 use Rattle.std.proofs.Common.{◌≡◌, [], rules}
 use Rattle.check_report.specs.Reports.{component_lines}
 use Rattle.check_report.proofs.PrinterEffects.{prints_failed, prints_none, prints_stopped, prints_then}
-use Rattle.check_report.proofs.list.list_area.Goals as goal
-use Rattle.check_report.proofs.list.list_area.Goals.{in-Component+in_ok-line, in_default}
+use Rattle.check_report.proofs.component_list.list_area.Goals as goal
+use Rattle.check_report.proofs.component_list.list_area.Goals.{in-Component+in_ok-line, in_default}
 
 pub loop-finding-init : goal.loop-finding-init
 loop-finding-init g c = prints_none g.W.Sink _

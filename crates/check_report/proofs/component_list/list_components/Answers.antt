@@ -1,8 +1,8 @@
 use Rattle.std.proofs.Common.{◌≡◌, [], rules}
 use Rattle.check_report.specs.Reports.{components_in}
 use Rattle.check_report.proofs.PrinterEffects.{prints_failed, prints_none, prints_stopped, prints_then}
-use Rattle.check_report.proofs.list.list_components.Goals as goal
-use Rattle.check_report.proofs.list.list_components.Goals.{in-Region+in_ok-list_area, in_default}
+use Rattle.check_report.proofs.component_list.list_components.Goals as goal
+use Rattle.check_report.proofs.component_list.list_components.Goals.{in-Region+in_ok-list_area, in_default}
 
 pub loop-finding-init : goal.loop-finding-init
 loop-finding-init g c = prints_none g.W.Sink _

@@ -2,12 +2,12 @@ use Rattle.std.proofs.Common.{◌≡◌, ◌∙◌, ℕ, List, Result, Ok, Err, 
 use Rattle.std.specs.Prelude.{IfOk}
 use Rattle.flash_map.specs.Fmap.{found_in}
 use Rattle.check_findings.specs.Anchors.{IsAnchorCheck, image_anchor}
-use Rattle.check_findings.specs.declared.anchor.check.CheckedAnchor.{CheckedAnchor}
+use Rattle.check_findings.specs.declared.anchor.checked_anchor.CheckedAnchor.{CheckedAnchor}
 use Rattle.check_findings.specs.declared.fault.CheckFault.{CheckFault}
 use Rattle.flash_device.proofs.DeviceLemmas.{honest_still}
 use Rattle.check_findings.specs.ImageFindings.{cbfs_areas}
 use Rattle.check_findings.specs.Areas.{image_areas}
-use Rattle.check_report.proofs.change.inspect_change.Goals as goal
+use Rattle.check_report.proofs.change_inspection.inspect_change.Goals as goal
 
 -- the anchor alone
 anchor_of : (image : List ℕ) (result : Result CheckedAnchor CheckFault) → IfOk result (IsAnchorCheck image) → IfOk result (λ checked. checked.anchor ≡ image_anchor image)

@@ -2,7 +2,7 @@ use Rattle.std.proofs.Common.{Ok, take}
 use Rattle.std.specs.List.{flat_map}
 use Rattle.check_report.specs.Reports.{components_in}
 use Rattle.check_report.specs.Effects.{PrintsLines}
-use Rattle.check_report.proofs.list.list_components.Given as goal
+use Rattle.check_report.proofs.component_list.list_components.Given as goal
 
 abbrev pub invariant-loop-finding : goal.invariant-loop-finding
 invariant-loop-finding g l = PrintsLines g.W.Sink (Ok tt) l.initial.printer l.printer
