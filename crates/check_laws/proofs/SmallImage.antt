@@ -1,5 +1,5 @@
 -- The literal image: its map and areas, and its findings.
-use Rattle.std.proofs.Common.{◌≡◌, ℕ, true, false, List, [], ◌∷◌, length, Some, None, refl, ◌∙◌}
+use Rattle.std.proofs.Common.{◌≡◌, ◌≤◌, ◌*◌, arith, ℕ, true, false, List, [], ◌∷◌, length, Some, None, refl, ◌∙◌}
 use Rattle.std.specs.List.{list_any}
 use Rattle.std.specs.Str.{chars, is_utf8}
 use lib.Chars.{codes}
@@ -15,7 +15,7 @@ use Rattle.cbfs_walk.specs.Search.{component_in}
 use Rattle.cbfs_anchor.specs.Places.{place_in}
 use Rattle.check_findings.specs.Anchors.{anchor_findings, image_anchor}
 use Rattle.check_findings.specs.Areas.{image_areas}
-use Rattle.check_findings.specs.ImageFindings.{bytes_of, image_findings, region_areas}
+use Rattle.check_findings.specs.ImageFindings.{areas_to_check, bytes_of, image_findings, region_areas, sum_sizes}
 use Rattle.check_findings.specs.MapFindings.{map_findings}
 use Rattle.check_findings.specs.RegionFindings.{cells_findings, region_findings, tail_findings, walk_findings}
 use Rattle.check_findings.specs.Verdicts.{is_bad}
@@ -38,6 +38,14 @@ no_bad_finding = refl
 pub one_region : region_areas (image_findings small_image [] []) ≡ coreboot_area ∷ []
 unfolding image_findings anchor_findings image_anchor place_in component_in components_from image_areas map_findings map_from is_map has_signature is_valid_head fmap_head_of areas_from area_of is_utf8 chars lib.Utf8.encode region_findings walk_findings cells_findings tail_findings cut_after entry head_of head_at extent_of attributes_after attr_head_of small_image small_map small_region component_cell free_cell
 one_region = refl
+
+pub one_to_check : areas_to_check small_image [] [] ≡ coreboot_area ∷ []
+unfolding image_findings anchor_findings image_anchor place_in component_in components_from image_areas map_findings map_from is_map has_signature is_valid_head fmap_head_of areas_from area_of is_utf8 chars lib.Utf8.encode region_findings walk_findings cells_findings tail_findings cut_after entry head_of head_at extent_of attributes_after attr_head_of small_image small_map small_region component_cell free_cell
+one_to_check = refl
+
+pub few_bytes : sum_sizes (coreboot_area ∷ []) ≤ 2 * length small_image
+unfolding small_image small_map small_region component_cell free_cell
+few_bytes = omega arith
 
 pub its_region : bytes_of small_image coreboot_area ≡ small_region
 unfolding small_image small_map small_region component_cell free_cell

@@ -13,6 +13,7 @@ pub use laws::{
 pub use needs::{a_content_ends_with_its_area, needs_are_met_by_position};
 pub use numbers::{
     a_clean_map_is_sound, a_fit_image_is_whole, a_fit_region_is_whole, a_need_is_there,
-    a_region_has_one_component, an_erased_tail_is_blank, an_unshadowed_component_is_found,
+    a_region_has_one_component, a_small_image_is_checked, an_erased_tail_is_blank,
+    an_unshadowed_component_is_found,
 };
 pub use reports::{a_bad_row_is_shown, a_damaged_entry_has_a_bad_row, a_difference_is_reported};

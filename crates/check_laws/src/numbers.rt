@@ -9,7 +9,7 @@ ghost use Rattle.check_findings.specs.RegionFindings.{component_content};
 ghost use Rattle.std.specs.List.{find};
 ghost use Rattle.flash_map.specs.Regions.{region_of};
 ghost use Rattle.check_findings.specs.Areas.{has_name, map_areas};
-ghost use Rattle.check_findings.specs.ImageFindings.{bytes_of};
+ghost use Rattle.check_findings.specs.ImageFindings.{bytes_of, image_findings, region_areas};
 ghost use Rattle.check_findings.specs.MapFindings.{holds_map};
 ghost use Rattle.check_findings.specs.declared.image.needs.Need.{Need};
 ghost use Rattle.check_findings.specs.declared.image.needs.NeededPlace.TheVariants.{At};
@@ -17,7 +17,8 @@ ghost use Rattle.check_laws.specs.Samples.{coreboot_area, small_found, small_ima
 
 use check_findings::{
     blank_tails_are_known, clean_maps_are_sound, counts_are_of_the_entries, fit_images_are_whole,
-    fit_regions_are_whole, needs_are_there, unshadowed_components_are_found,
+    fit_regions_are_whole, needs_are_there, two_image_lengths_are_checked,
+    unshadowed_components_are_found,
 };
 
 /// `fit_regions_are_whole` at a region of 128 bytes: a search finds its component, with 4 bytes
@@ -71,6 +72,13 @@ pub fn a_fit_image_is_whole()
         (λ found. IsSomeAnd found (λ c. (component_content c).start ≡ 28)) }
 {
     fit_images_are_whole();
+}
+
+/// `two_image_lengths_are_checked` at this image: its area COREBOOT, of 128 bytes, is checked.
+pub fn a_small_image_is_checked()
+    ensures { region_areas (image_findings small_image [] []) ≡ coreboot_area ∷ [] }
+{
+    two_image_lengths_are_checked();
 }
 
 /// `needs_are_there` at this image: `COREBOOT:a@28` is met, so a search finds the component, with
