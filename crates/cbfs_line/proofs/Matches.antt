@@ -2,7 +2,8 @@
 use Rattle.std.proofs.Common.{◌≡◌, ℕ, true, List, [], Option, Some, None, refl, sym, ap, ◌∙◌, subst, inl, inr}
 use Rattle.std.specs.Option.{option_map}
 use Rattle.clap.proofs.OnLiterals.{clap_on_literals}
-use Rattle.clap.specs.Words.{HasKind, IsAmong, Kinds, Row, is_simple, is_simple_and_free, kind_of}
+use Rattle.clap.specs.Words.{App, HasKind, IsAmong, Kinds, Row, fault_of, is_simple, is_simple_and_free, kind_of}
+use Rattle.clap.specs.declared.error.kind.ErrorKind.{ErrorKind}
 use Rattle.clap.specs.declared.error.Error.{Error}
 use Rattle.clap.specs.declared.error.kind.ErrorKind.TheVariants.{OutOfMemory}
 use Rattle.cbfs_line.specs.Subcommands.{command_line}
@@ -38,3 +39,16 @@ simple_shape = refl
 pub faultless : (kinds : Kinds) (e : Error) → HasKind kinds e → kinds ≡ [] → kind_of e ≡ OutOfMemory
 faultless kinds e (inl memory) none = memory
 faultless kinds e (inr among) none = absurd (subst (λ (k : Kinds). IsAmong (kind_of e) k) none among)
+
+-- a property of the faults of an equal command
+pub by_faults : (P : Kinds → Type 0) (a : App) (words : List (List ℕ)) → a ≡ command_line
+    → (is_simple_and_free a ≡ true → P (fault_of a words)) → P (fault_of command_line words)
+by_faults P a words shape holds =
+    subst (λ (a : App). P (fault_of a words)) shape
+    (holds (ap (λ (a : App). is_simple_and_free a) shape ∙ simple))
+
+-- another kind than that of an allocation failure is one of the faults
+pub among_unless_memory : (kinds : Kinds) (e : Error) (k : ErrorKind) → k ≡ kind_of e → HasKind kinds e
+    → (k ≡ OutOfMemory → ⊥) → IsAmong k kinds
+among_unless_memory kinds e k is (inl memory) not = absurd (not (is ∙ memory))
+among_unless_memory kinds e k is (inr among) not = subst (λ (k : ErrorKind). IsAmong k kinds) (sym is) among

@@ -1,5 +1,5 @@
 -- The command line by clap's definition, and its command.
-use Rattle.std.specs.Prelude.{ℕ, Bool, false, List, [], ◌∷◌, length, ◌==◌, ◌||◌, nat_lt}
+use Rattle.std.specs.Prelude.{◌≡◌, ℕ, Bool, false, List, [], ◌∷◌, length, ◌==◌, ◌||◌, nat_lt}
 use Rattle.std.specs.Prelude.{Option, Some, None, Result, Ok, Err, option_map, option_and_then}
 use Rattle.std.specs.Prelude.{find, unwrap_or, if◌then◌else◌}
 use Rattle.std.specs.List.{list_any, slice_split}
@@ -8,7 +8,8 @@ use Rattle.std.specs.Result.{result_map_both}
 use Rattle.std.specs.Str.{bytes_eq}
 use Prim.Native.String.{String}
 use lib.Chars.{codes}
-use Rattle.clap.specs.Words.{Row, first_of}
+use Rattle.clap.specs.Words.{IsAmong, Row, fault_of, first_of}
+use Rattle.clap.specs.declared.error.kind.ErrorKind.{ErrorKind}
 use Rattle.clap.specs.Words as clap
 use Rattle.cbfs_line.specs.Subcommands.{command_line}
 use Rattle.flash_format.specs.Numbers.{number_of}
@@ -38,6 +39,11 @@ with_image image found = record { image = image; subcommand = found.0; options =
 abbrev pub texts_of : List (List ℕ) → Option Texts
 texts_of [] = None
 texts_of (image ∷ rest) = option_map (with_image image) (clap.subcommand_of command_line rest)
+
+-- clap accepts the arguments after IMAGE, or may refuse them with the kind
+abbrev pub IsKindFor : List (List ℕ) → Option ErrorKind → Type 0
+IsKindFor words None = fault_of command_line words ≡ []
+IsKindFor words (Some kind) = IsAmong kind (fault_of command_line words)
 
 -- if `-v` is present
 abbrev pub verbose_by : Option (List ℕ) → Bool
@@ -104,3 +110,12 @@ module _ (t : Texts) where
 
 abbrev pub request_answer : Result Command Refusal → Result Request Refusal
 request_answer answer = result_map_both request_of (λ refusal. refusal) answer
+
+-- ---- the arguments after the program's name, from the definitions above
+
+-- the command of accepted arguments
+abbrev pub command_in : List (List ℕ) → Result Request Refusal
+command_in [] = Err refusals.Usage
+command_in (image ∷ rest) = if length (fault_of command_line rest) == 0
+    then option_map_or command_of (texts_of (image ∷ rest)) (Err refusals.Usage)
+    else Err refusals.Usage

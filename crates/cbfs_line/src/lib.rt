@@ -4,4 +4,4 @@
 mod line;
 mod words;
 
-pub use line::{Line, read_line};
+pub use line::{Line, read_line, refused_kind};

@@ -6,7 +6,7 @@ ghost use Rattle.std.specs.List.{slice_split};
 ghost use Rattle.std.specs.Option.{option_map_or};
 ghost use Rattle.clap.specs.Words.{fault_of, first_of, has_subcommand, subcommand_rows_of};
 ghost use Rattle.cbfs_line.specs.Subcommands.{command_line};
-ghost use Rattle.cbfs_line.specs.CommandLine.{addition, command_of, creation_of, hash_by};
+ghost use Rattle.cbfs_line.specs.CommandLine.{IsKindFor, addition, command_of, creation_of, hash_by};
 ghost use Rattle.cbfs_line.specs.CommandLine.{request_answer, spot_by};
 ghost use Rattle.cbfs_line.specs.CommandLine.{region_named, text, texts_of, verbose_by, with_file, with_image};
 
@@ -17,7 +17,7 @@ use cbfs_requests::{Command, MOST_REGIONS, Refusal};
 use clap::ArgMatches;
 use clap::error::ErrorKind;
 use flash_format::{Algorithm, read_number, type_number};
-use std::alloc::Global;
+use std::alloc::{AllocError, Global};
 use std::marker::Model;
 
 /// The default region.
@@ -59,7 +59,15 @@ impl<'a> Line<'a> {
         self.option("file")
     }
 
-    fn option(&self, id: &str) -> Option<&'a str>
+    /// Returns the name of the subcommand, the second argument.
+    pub fn subcommand(&self) -> &'a str
+        ensures { result.now ≡ self.now.subcommand }
+    {
+        self.subcommand
+    }
+
+    /// Returns the value of the option with this id in `specs/Subcommands.antt`.
+    pub fn option(&self, id: &str) -> Option<&'a str>
         ensures { option_map (λ t. t.now) result ≡ first_of id.now self.now.options }
     {
         self.options.get_str(id)
@@ -109,7 +117,7 @@ impl<'a> Line<'a> {
     }
 
     /// Returns the value of `-r`, or the default.
-    fn regions(&self) -> &'a str
+    pub fn regions(&self) -> &'a str
         ensures { result.now ≡ region_named self.now }
     {
         self.option("region").unwrap_or(DEFAULT_REGION)
@@ -209,6 +217,22 @@ fn line_of<'a>(image: &'a str, mut matches: ArgMatches<'a>) -> Line<'a>
         image,
         subcommand,
         options,
+    }
+}
+
+/// Returns the kind of clap's error for the arguments after IMAGE, or None if clap accepts them.
+pub fn refused_kind<'a>(
+    alloc: Global,
+    words: &'a [&'a str],
+) -> Result<Option<ErrorKind>, AllocError>
+    ensures { IfOk result (IsKindFor (map (λ w. w.now) words.entry.now)) }
+{
+    match whole_command(alloc)?.try_get_matches_from(words) {
+        Ok(_matches) => Ok(None),
+        Err(error) => match error.kind() {
+            ErrorKind::OutOfMemory => Err(AllocError),
+            kind => Ok(Some(kind)),
+        },
     }
 }
 

@@ -14,21 +14,18 @@ struct TableOption {
     id: &'static str,
     letter: char,
     action: ArgAction,
-    required: bool,
 }
 
 const REGION: TableOption = TableOption {
     id: "region",
     letter: 'r',
     action: ArgAction::Set,
-    required: false,
 };
 
 const FILE: TableOption = TableOption {
     id: "file",
     letter: 'f',
     action: ArgAction::Set,
-    required: true,
 };
 
 /// The flash map of a new image.
@@ -36,49 +33,42 @@ const MAP: TableOption = TableOption {
     id: "file",
     letter: 'M',
     action: ArgAction::Set,
-    required: true,
 };
 
 const NAME: TableOption = TableOption {
     id: "name",
     letter: 'n',
     action: ArgAction::Set,
-    required: true,
 };
 
 const TYPE: TableOption = TableOption {
     id: "type",
     letter: 't',
     action: ArgAction::Set,
-    required: true,
 };
 
 const ALIGNMENT: TableOption = TableOption {
     id: "alignment",
     letter: 'a',
     action: ArgAction::Set,
-    required: false,
 };
 
 const BASE: TableOption = TableOption {
     id: "base",
     letter: 'b',
     action: ArgAction::Set,
-    required: false,
 };
 
 const HASH: TableOption = TableOption {
     id: "hash",
     letter: 'A',
     action: ArgAction::Set,
-    required: false,
 };
 
 const VERBOSE: TableOption = TableOption {
     id: "verbose",
     letter: 'v',
     action: ArgAction::SetTrue,
-    required: false,
 };
 
 /// A subcommand's name and options.
@@ -104,7 +94,7 @@ fn with_option<'a>(
     ensures { IfOk result (λ c. IsLocal c (with_option (app_of command.entry) option)) }
 {
     let arg = Arg::new(alloc, option.id).short(option.letter);
-    command.arg(arg.action(option.action).required(option.required))
+    command.arg(arg.action(option.action))
 }
 
 fn with_options<'a>(
