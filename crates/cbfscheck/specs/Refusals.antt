@@ -3,7 +3,8 @@ use Rattle.std.specs.Prelude.{ℕ, Bool, List, ◌++◌, Result, Ok, Err, if◌t
 use Rattle.std.specs.Borrow.{Bor}
 use Rattle.std.specs.declared.io.ErrorKind.TheVariants as kinds
 use lib.Chars.{codes}
-use Rattle.check_line.specs.Shown.{fault_text, shown}
+use Rattle.check_line.specs.Shown.{fault_text}
+use Rattle.quoted_text.specs.Shown.{shown}
 use Rattle.check_line.specs.declared.fault.LineFault.{LineFault}
 use Rattle.check_line.specs.declared.fault.LineFault.TheVariants as lines
 use Rattle.check_line.specs.declared.line.CheckLine.{CheckLine}

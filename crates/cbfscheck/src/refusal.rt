@@ -5,9 +5,10 @@ ghost use Rattle.cbfscheck.specs.Refusals.{image_text, message, of_line, of_open
 ghost use Rattle.cbfscheck.specs.Refusals.{of_writing, path_text, refusal_text, status_of};
 ghost use Rattle.cbfscheck.specs.declared.refusal.Refusal.TheVariants.{Memory};
 
-use check_line::{CheckLine, LineFault, push_shown};
+use check_line::{CheckLine, LineFault};
 use check_report::{ReportFault, WriteFault};
 use flash_store::OpenFault;
+use quoted_text::push_shown;
 use std::alloc::{AllocError, Global};
 use std::io::ErrorKind;
 

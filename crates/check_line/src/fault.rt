@@ -4,7 +4,7 @@ ghost use Rattle.std.specs.Prelude.{◌≡◌, ◌++◌, OnOk};
 ghost use Rattle.check_line.specs.Shown.{fault_text, mistake_text, word_text};
 ghost use Rattle.check_line.specs.declared.fault.LineFault.TheVariants.{Memory};
 
-use crate::shown::push_shown;
+use quoted_text::push_shown;
 use std::alloc::AllocError;
 
 /// The mistake of an argument or an option's value.

@@ -6,11 +6,9 @@ mod laws;
 mod line;
 mod need;
 mod reading;
-mod shown;
 mod words;
 
 pub use fault::{LineFault, WordFault};
 pub use laws::needs_are_split;
 pub use line::{CheckLine, Invocation};
 pub use reading::read_check;
-pub use shown::push_shown;

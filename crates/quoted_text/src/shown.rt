@@ -3,7 +3,7 @@
 ghost use Rattle.std.specs.Prelude.{◌≡◌, ◌++◌, OnOk};
 ghost use Rattle.std.specs.List.{list_any};
 ghost use Rattle.flash_format.specs.Texts.{printed_name};
-ghost use Rattle.check_line.specs.Shown.{is_hidden, is_within, shown, shown_char};
+ghost use Rattle.quoted_text.specs.Shown.{is_hidden, is_within, shown, shown_char};
 
 use flash_format::printed_byte;
 use std::alloc::AllocError;

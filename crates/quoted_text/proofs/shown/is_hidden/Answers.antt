@@ -1,6 +1,6 @@
 use Rattle.std.proofs.Common.{rules}
-use Rattle.check_line.specs.Shown.{is_hidden}
-use Rattle.check_line.proofs.shown.is_hidden.Goals as goal
+use Rattle.quoted_text.specs.Shown.{is_hidden}
+use Rattle.quoted_text.proofs.shown.is_hidden.Goals as goal
 
 pub returns : goal.returns
 unfolding is_hidden

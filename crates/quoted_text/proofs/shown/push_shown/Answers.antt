@@ -1,8 +1,8 @@
 use Rattle.std.proofs.Common.{◌++◌, ◌∙◌, ap, flat_map, map-id, sym}
 use Rattle.std.proofs.lemmas.Iterator.{YieldsList-from_chars}
 use Rattle.std.proofs.lemmas.Iterator.Consumers.{YieldsList-end}
-use Rattle.check_line.specs.Shown.{shown_char}
-use Rattle.check_line.proofs.shown.push_shown.Goals as goal
+use Rattle.quoted_text.specs.Shown.{shown_char}
+use Rattle.quoted_text.proofs.shown.push_shown.Goals as goal
 
 pub returns : goal.returns
 returns c =

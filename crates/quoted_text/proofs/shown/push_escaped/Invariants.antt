@@ -1,6 +1,6 @@
 use Rattle.std.proofs.Common.{◌≡◌, ◌++◌, take}
 use Rattle.flash_format.specs.Texts.{printed_name}
-use Rattle.check_line.proofs.shown.push_escaped.Given as goal
+use Rattle.quoted_text.proofs.shown.push_escaped.Given as goal
 
 abbrev pub invariant-loop-byte : goal.invariant-loop-byte
 invariant-loop-byte l =
