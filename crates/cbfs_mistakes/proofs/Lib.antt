@@ -1,0 +1,3 @@
+mod Causes
+mod Named
+mod Refused

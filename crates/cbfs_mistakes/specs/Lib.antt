@@ -1,0 +1,7 @@
+pub mod Explanations
+pub mod Lines
+pub mod Messages
+pub mod Mistakes
+pub mod Subjects
+pub mod Synopses
+pub mod WrongWords

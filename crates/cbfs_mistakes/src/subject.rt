@@ -1,0 +1,46 @@
+//! The line that names the region, component or file of a refusal.
+
+ghost use Rattle.std.specs.Prelude.{◌≡◌, ◌++◌, OnOk};
+ghost use Rattle.cbfs_mistakes.specs.Subjects.{name_given, region_text, subject};
+
+use crate::message::{push_between, push_named};
+use cbfs_line::Line;
+use cbfs_requests::Refusal;
+use std::alloc::AllocError;
+
+fn region_text(line: &Line<'_>) -> &'static str
+    ensures { result.now ≡ region_text line.now }
+{
+    match line.subcommand() {
+        "create" => "cbfstool: one of these is no area of the flash map: ",
+        _ => "cbfstool: the flash map has no area ",
+    }
+}
+
+fn name_of<'a>(line: &Line<'a>) -> &'a str
+    ensures { result.now ≡ name_given line.now }
+{
+    line.option("name").unwrap_or("")
+}
+
+/// Appends the line that names what a refusal of the command is about: the image that cannot be
+/// opened, read or written, the file that cannot be read, the region that the flash map does not
+/// have, or the component that the region does not have, or has already. Other refusals have none.
+pub fn push_subject(out: &mut Vec<u8>, line: &Line<'_>, refusal: Refusal) -> Result<(), AllocError>
+    ensures { OnOk result (out.new.items ≡ out.old.items ++ subject line.now refusal) }
+{
+    let (region, name) = (line.regions(), name_of(line));
+    match refusal {
+        Refusal::Device => {
+            push_between(out, "cbfstool: fault of the image ", line.image(), "\n")
+        }
+        Refusal::Source => {
+            let file = line.file().unwrap_or("");
+            push_between(out, "cbfstool: fault of the file ", file, "\n")
+        }
+        Refusal::NoRegion => push_between(out, region_text(line), region, "\n"),
+        Refusal::NotFound => push_named(out, region, " has no component ", name),
+        Refusal::Exists => push_named(out, region, " has a component ", name),
+        _ => Ok(()),
+    }
+}
