@@ -1,4 +1,3 @@
-pub mod Explanations
 pub mod Lines
 pub mod Messages
 pub mod Mistakes

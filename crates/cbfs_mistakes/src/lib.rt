@@ -1,7 +1,6 @@
 //! The mistake of a command line that cbfstool refuses, and the lines that explain it.
 #![tactic(auto)]
 
-mod condition;
 mod laws;
 mod line;
 mod message;
@@ -10,7 +9,6 @@ mod search;
 mod subject;
 mod synopsis;
 
-pub use condition::is_explained;
 pub use laws::commands_are_those_of_clap;
 pub use message::push_explanation;
 pub use mistake::{MissingOptions, Mistake, NumberOption, WordFault};

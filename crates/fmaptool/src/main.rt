@@ -6,11 +6,11 @@ mod session;
 use flash_store::program_words;
 pub use fmap_compiler::{Refusal, run};
 use fmap_steps::{Explanation, Failure, failure_of_words, read_words, status_of, steps_of};
+use quoted_text::is_explained;
 use session::Session;
 use std::env;
 use std::io::IsTerminal;
 use std::process::ExitCode;
-use terminal_text::is_explained;
 
 /// A failure, with its explanation.
 #[derive(Drop)]

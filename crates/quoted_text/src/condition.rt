@@ -2,7 +2,7 @@
 
 ghost use Rattle.std.specs.Prelude.{◌≡◌};
 ghost use Rattle.std.specs.Option.{option_copied};
-ghost use Rattle.cbfs_mistakes.specs.Explanations.{is_explained};
+ghost use Rattle.quoted_text.specs.Explanations.{is_explained};
 
 /// Returns true if the lines after a refusal are printed: standard error is a terminal, or the
 /// variable `CBFSTOOL_EXPLAIN` of the environment is `1`.
