@@ -7,7 +7,7 @@ use Rattle.flash_device.specs.Pages.{Pages, HasAnswered, HasSeen}
 use Rattle.flash_device.specs.Regions.{Range, LiesOn}
 use Rattle.flash_device.proofs.DeviceLemmas.{refusals-ok}
 use Rattle.flash_device.proofs.WindowLemmas.{HasRead-none, HasRead-then, HasRead-at_most, HasRead-within, ahead_covers, covered}
-use Rattle.cbfs_walk.specs.Walks.{IsLoad, Passes, ReadsIn, reads_over}
+use Rattle.cbfs_walk.specs.Walks.{ArePaid, IsLoad, Passes, ReadsIn, reads_over}
 
 pub IfOk-to : {E : Type 0} (result : Result ℕ E) (v w : ℕ) → v ≡ w → IfOk result (λ x. x ≡ v) → IfOk result (λ x. x ≡ w)
 IfOk-to result v w same told = grind (arith, common_steps)
@@ -47,7 +47,7 @@ Passes-seen {F} {T} {E} {r} {at} {n} {old} {new} {result} lies inside short seen
 pub Passes-then : {F : Type 0} {r : Range} {at p q next end last refused : ℕ} {old mid new : Pages F} → Passes r p q 0 old mid → Passes r next end refused mid new
     → at ≤ p → q ≤ next → end ≤ last → Passes r at last refused old new
 Passes-then {F} {r} {at} {p} {q} {next} {end} {last} {refused} {old} {mid} {new} first second low order high =
-    let Spent = (new.device.calls ≤ old.device.calls) ⊎ ((s : ℕ) × (m : ℕ) × IsLoad old (r.start + at) s m × (3840 * new.device.calls + s ≤ 3840 * old.device.calls + r.start + last + 3840)) in
+    let Spent = (new.device.calls ≤ old.device.calls) ⊎ ArePaid old new (r.start + at) (r.start + last + 3840) in
     let before = λ (s m : ℕ) (load : IsLoad mid (r.start + next) s m). first.paid refl s m (omega (arith, load.0, order), load.1, load.2, load.3) in
     let spent : Spent = ⊎_elim
     (λ few. ⊎_elim (λ none. inl (omega (arith, few, none))) (λ s. inr (s.0, s.1, (omega (arith, s.2.0, low), s.2.1, s.2.2, s.2.3), omega (arith, few, s.3, order, high, second.order))) first.spent)

@@ -18,22 +18,28 @@ use Rattle.cbfs_walk.specs.declared.walk.WalkFault.TheVariants as faults
 abbrev pub reads_over : ℕ → ℕ
 reads_over n = 1 + n / 3840
 
--- a read of n bytes at q, from `at` on, which needs a call
+-- a read of `len` bytes at `place`, not before `from`, which needs a call
 abbrev pub IsLoad : {F : Type 0} → Pages F → ℕ → ℕ → ℕ → Type 0
-IsLoad p at q n = (at ≤ q) × (n ≤ 256) × (q + n ≤ length p.device.content) × (Covers p.held q n → ⊥)
+IsLoad pages from place len = (from ≤ place) × (len ≤ 256)
+    × (place + len ≤ length pages.device.content) × (Covers pages.held place len → ⊥)
+
+-- The calls between two states are paid up to an offset: each call takes 3840 bytes of the distance
+-- from a load of the first state, not before `from`, to this offset.
+abbrev pub ArePaid : {F : Type 0} → Pages F → Pages F → ℕ → ℕ → Type 0
+ArePaid old new from reach = (place : ℕ) × (len : ℕ) × IsLoad old from place len
+    × (3840 * new.device.calls + place ≤ 3840 * old.device.calls + reach)
 
 -- Ordered reads between two positions of a region, with the number of faults. A call loads at least
--- 3840 bytes for later reads. So the distance between a load before these reads and a load after
--- them covers the calls (`paid`). Otherwise it covers all calls except the last one (`spent`).
-pub record Passes {F : Type 0} (r : Range) (at end refused : ℕ) (old new : Pages F) : Type 0 where
+-- 3840 bytes for later reads. So the distance to a load after these reads pays for all calls
+-- (`paid`). The distance to their end pays for all calls except the last one (`spent`).
+pub record Passes {F : Type 0} (region : Range) (at end refused : ℕ) (old new : Pages F)
+    : Type 0 where
   pub order : at ≤ end
   pub read : HasRead (reads_over (end - at)) refused old new
-  pub paid : refused ≡ 0 → (q n : ℕ) → IsLoad new (r.start + end) q n
-      → (p : ℕ) × (m : ℕ) × IsLoad old (r.start + at) p m
-      × (3840 * new.device.calls + p ≤ 3840 * old.device.calls + q)
+  pub paid : refused ≡ 0 → (place len : ℕ) → IsLoad new (region.start + end) place len
+      → ArePaid old new (region.start + at) place
   pub spent : (new.device.calls ≤ old.device.calls)
-      ⊎ ((p : ℕ) × (m : ℕ) × IsLoad old (r.start + at) p m
-      × (3840 * new.device.calls + p ≤ 3840 * old.device.calls + r.start + end + 3840))
+      ⊎ ArePaid old new (region.start + at) (region.start + end + 3840)
 
 -- such reads by a call that fails if a read fails; on an honest device, a success's value is what
 -- `Is` says of the region's bytes

@@ -30,7 +30,8 @@ pub enum Step {
     End,
 }
 
-/// The reason for a missing cell, with the printed number.
+/// The reason for a missing cell. The number in parentheses is the number that cbfstool prints for
+/// the error.
 #[derive(Clone, Copy, Debug, PartialEq, Eq)]
 pub enum WalkFault {
     /// Device I/O error (1). The next call repeats the position.
