@@ -17,6 +17,7 @@ pub const ROW_LEN: usize = 1152;
 /// The buffer of a row. A listing reuses a single buffer, because creation would zero it.
 pub type Row = ArrayVec<u8, ROW_LEN>;
 
+/// Appends a number in decimal. The caller leaves room for 40 bytes.
 pub fn push_decimal(row: &mut Row, n: u32)
     requires { array_vec_len row.old + 40 ≤ ROW_LEN }
     ensures { Pushes row.old (decimal n) 40 row.new }

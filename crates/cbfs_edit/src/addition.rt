@@ -54,11 +54,12 @@ impl From<Algorithm> for HashChoice {
     }
 }
 
-/// A component's position, relative to the region's start.
+/// A component's position: offsets from the region's start, in bytes.
 #[derive(Clone, Copy, Debug, PartialEq, Eq)]
 pub struct Placed {
-    /// A multiple of 64.
+    /// The offset of the component's header, a multiple of 64.
     pub header: u64,
+    /// The offset of the content's first byte.
     pub content: u64,
 }
 
@@ -171,6 +172,15 @@ fn attribute_len(hash: HashChoice) -> usize
 /// region's start, first damaged entry, existing name, no space. Only a device or source fault can
 /// leave a change. After a source fault, the components are the same as before. After a device
 /// fault, they are the same, or include the complete new component, if the source is honest.
+///
+/// For example, this adds a raw component (0x50) with a SHA-256 digest to the region COREBOOT of an
+/// image in `paged`:
+///
+/// ```text
+/// let coreboot = region(&mut paged, b"COREBOOT")?;
+/// let hash = HashChoice::Sha256;
+/// let placed = add(&mut paged, coreboot, b"config", 0x50, hash, Spot::First, &mut source)?;
+/// ```
 pub fn add<F: Flash, S: Source>(
     paged: &mut Paged<F>,
     region: Region,

@@ -7,6 +7,7 @@ usage: cbfscheck [OPTIONS] IMAGE
        cbfscheck --help | --version
 ";
 
+/// The output of `--version`.
 pub const VERSION: &str = "cbfscheck 2.2\n";
 
 /// The text of `--help`.

@@ -6,6 +6,7 @@ usage: cbfsseal [-v] [--allow-unhashed] IMAGE
        cbfsseal --help | --version
 ";
 
+/// The output of `--version`.
 pub const VERSION: &str = "cbfsseal 2.2\n";
 
 /// The text of `--help`.

@@ -33,6 +33,7 @@ pub struct Session<'r, 'w> {
 }
 
 impl<'r, 'w> Session<'r, 'w> {
+    /// Returns a session without open files, or the refusal of the command's arguments.
     pub fn new(rt: &'r HostRuntime, line: &Line<'w>) -> Result<Session<'r, 'w>, Refusal> {
         Ok(Session {
             rt,

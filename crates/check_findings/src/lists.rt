@@ -5,8 +5,10 @@ ghost use Rattle.check_findings.specs.Lists.{Gains, only_if};
 use std::alloc::AllocError;
 use std::marker::Model;
 
+/// A success, or an allocation failure.
 pub type Pushed = Result<(), AllocError>;
 
+/// Appends an element. Returns an error if an allocation failed; the list is then unspecified.
 pub fn push<T: Drop>(list: &mut Vec<T>, element: T) -> Pushed
     ensures { Gains list.old list.new result (element ∷ []) }
 {
@@ -14,6 +16,7 @@ pub fn push<T: Drop>(list: &mut Vec<T>, element: T) -> Pushed
     Ok(())
 }
 
+/// Appends an element if the condition holds, like `push`.
 pub fn push_if<T: Drop>(list: &mut Vec<T>, condition: bool, element: T) -> Pushed
     ensures { Gains list.old list.new result (only_if condition element) }
 {

@@ -19,6 +19,7 @@ pub struct Session<'r, 'w> {
 }
 
 impl<'r, 'w> Session<'r, 'w> {
+    /// Returns a session without open files.
     pub fn new(rt: &'r HostRuntime, invocation: Invocation<'w>) -> Session<'r, 'w> {
         Session {
             rt,
@@ -30,6 +31,7 @@ impl<'r, 'w> Session<'r, 'w> {
         }
     }
 
+    /// Takes a step of the request.
     pub fn take(&mut self, step: Step) -> Result<(), Failure> {
         match step {
             Step::PrintUsage => self.print_usage(step),

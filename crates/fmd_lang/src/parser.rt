@@ -36,7 +36,15 @@ struct Token<'t> {
     value: Option<u32>,
 }
 
-/// Returns the tree of a text, or the first fault.
+/// Returns the tree of a descriptor, or the first fault: of the text's length, of a word, or of the
+/// grammar in docs/FORMAT.md. Returns `Memory` if an allocation failed.
+///
+/// For example, this returns a section BIOS of 4 MiB with two parts:
+///
+/// ```text
+/// let text = b"BIOS@0xffc00000 4M { FMAP 4K COREBOOT(CBFS) }";
+/// let bios = parse(alloc, text)?;
+/// ```
 #[tactic(auto, unfolding(crate::specs::Faults::first_fault))]
 pub fn parse(alloc: Global, text: &[u8]) -> Result<Section, FmdFault>
     ensures tree { IfOk result (λ t. IsSection (view t) (words text.now)) }

@@ -9,6 +9,7 @@ use crate::fault::ChangeFault;
 use crate::images::{Images, RegionPair};
 use flash_device::{Flash, PIECE};
 
+/// Returns the number of blocks of 4096 bytes in `len` bytes; the last block may be shorter.
 pub fn blocks_of(len: u64) -> u64
     requires { len ≤ 2 ^ 32 }
     ensures { result ≡ blocks_of len }
@@ -24,6 +25,9 @@ pub struct Differing {
     pub own: u32,
 }
 
+/// Compares the first `len` blocks of two regions. Returns how many blocks differ, and how many of
+/// them no smaller pair of areas holds. Returns `OldDevice` or `NewDevice` if that device refused a
+/// read.
 pub fn different_in<F: Flash, G: Flash>(
     images: &mut Images<F, G>,
     regions: &RegionPair,

@@ -21,6 +21,7 @@ pub struct NamedAreas<'a> {
 pub type NamedBoth<'a> = Both<NamedAreas<'a>>;
 
 impl<'a> NamedAreas<'a> {
+    /// Returns these areas with an index of their names, or an error if an allocation failed.
     pub fn of(alloc: Global, all: &'a [NumberedArea]) -> Result<NamedAreas<'a>, AllocError>
         ensures { IfOk result (λ areas. areas.all.now ≡ all.now) }
     {
@@ -35,6 +36,7 @@ impl<'a> NamedAreas<'a> {
         self.names.get(area.area.text())
     }
 
+    /// Returns whether the area is the first of its name.
     pub fn is_first(&self, area: &'a NumberedArea) -> bool
         ensures { result ≡ is_first_of_name self.now.all.now area.now }
     {

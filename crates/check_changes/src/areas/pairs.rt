@@ -33,6 +33,7 @@ impl AreaPair {
         Some(RegionPair { old, new })
     }
 
+    /// Returns whether both areas have the same number of bytes. Returns false without an old area.
     pub fn is_same_size(&self) -> bool
         ensures { result ≡ is_same_size self.now }
     {

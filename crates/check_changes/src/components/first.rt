@@ -33,6 +33,7 @@ impl<'a> Listing<'a> {
         self.first.get(listed.name.as_slice()).copied()
     }
 
+    /// Returns whether the component is the first of its name.
     pub fn is_first(&self, listed: &'a Listed) -> bool
         ensures { result ≡ is_first_of self.now.all.now listed.now }
     {

@@ -24,6 +24,7 @@ pub struct Listed {
 }
 
 impl Listed {
+    /// Returns a copy of the name, or an error if an allocation failed.
     pub fn copied_name(&self, alloc: Global) -> Result<Name, AllocError>
         ensures { IfOk result (λ name. name ≡ self.now.name) }
     {

@@ -22,6 +22,7 @@ use flash_device::Flash;
 use std::alloc::{AllocError, Global};
 use std::hash::RandomState;
 
+/// The components of both regions.
 pub type Listings<'a> = Both<Listing<'a>>;
 
 fn push_change(

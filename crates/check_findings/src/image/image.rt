@@ -139,6 +139,13 @@ pub struct CheckedImage {
 /// sum of sizes would exceed two image lengths.
 ///
 /// Returns `Device` exactly if the device refused a read, and `Memory` if an allocation failed.
+///
+/// For example, this checks an image in `paged`, with the area FW_MAIN_A:
+///
+/// ```text
+/// let keys = RandomState::new(rt)?;
+/// let checked = check_image(alloc, keys, &mut paged, &[b"FW_MAIN_A"], &[])?;
+/// ```
 pub fn check_image<F: Flash>(
     alloc: Global,
     keys: RandomState,

@@ -3,6 +3,7 @@
 use crate::areas::NumberedArea;
 use flash_map::FoundMap;
 
+/// The findings of a flash map, in order.
 pub type MapFindings = Vec<MapFinding>;
 
 /// A finding of a flash map.

@@ -12,6 +12,8 @@ use crate::names::AreaNames;
 use std::alloc::{AllocError, Global};
 use std::collections::BTreeMap;
 
+/// Appends a finding for each area with the name of an earlier area. Returns an error if an
+/// allocation failed.
 pub fn push_name_findings(
     alloc: Global,
     findings: &mut MapFindings,

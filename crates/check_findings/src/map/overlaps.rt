@@ -13,6 +13,8 @@ use flash_format::Area;
 /// The limit of pairwise comparisons. All 65535 areas of a map would take seconds.
 const MOST_COMPARED: usize = 4096;
 
+/// Appends for each area the first area that overlaps it without nesting, or a single finding above
+/// 4096 areas. Returns an error if an allocation failed.
 pub fn push_overlap_findings(findings: &mut MapFindings, areas: &[NumberedArea]) -> Pushed
     ensures { Gains findings.old findings.new result (overlap_findings areas.now) }
 {

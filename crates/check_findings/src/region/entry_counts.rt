@@ -30,6 +30,7 @@ impl EntryCounts {
     ghost use Rattle.check_findings.specs.RegionFindings.{counts_after, count_findings};
     ghost use Rattle.check_findings.specs.RegionFindings.{entry_counts, usable_room};
 
+    /// Returns the counts before the first entry of a region of `size` bytes.
     pub fn new(size: u64) -> EntryCounts
         ensures { result ≡ entry_counts size [] }
     {
@@ -49,6 +50,7 @@ impl EntryCounts {
         self.room.max(usable)
     }
 
+    /// Returns the counts after another entry.
     pub fn with(self, cell: &Cell) -> EntryCounts
         requires before { (self.components ≤ self.at) × (self.free ≤ self.at) }
         requires small { self.at + cell.now.span < 2 ^ 32 }
