@@ -21,15 +21,15 @@ use Rattle.board_structures.proofs.Rules.{by_bool, magic_in_front}
 
 -- ---- options
 
-or_none : {E : Type 0} (a b : Option E) → option_or a b ≡ None → (a ≡ None) × (b ≡ None)
+pub or_none : {E : Type 0} (a b : Option E) → option_or a b ≡ None → (a ≡ None) × (b ≡ None)
 or_none None b none = (refl, none)
 or_none (Some e) b none = absurd cc
 
-map_none : {E T : Type 0} (f : E → T) (a : Option E) → option_map f a ≡ None → a ≡ None
+pub map_none : {E T : Type 0} (f : E → T) (a : Option E) → option_map f a ≡ None → a ≡ None
 map_none f None none = refl
 map_none f (Some e) none = absurd cc
 
-by_option : {E : Type 0} (a : Option E) (P : Type 0) → ((e : E) → a ≡ Some e → P) → (a ≡ None → P) → P
+pub by_option : {E : Type 0} (a : Option E) (P : Type 0) → ((e : E) → a ≡ Some e → P) → (a ≡ None → P) → P
 by_option None P found missing = missing refl
 by_option (Some e) P found missing = found e refl
 

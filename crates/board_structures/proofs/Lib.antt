@@ -8,3 +8,4 @@ mod GbbLemmas
 mod SlotLemmas
 mod HeaderLemmas
 mod BlockRules
+mod SlotRules

@@ -1,12 +1,20 @@
 -- The rules of sound structures, in the terms of their formats.
-use Rattle.std.specs.Prelude.{◌≡◌, ℕ, ◌+◌, ◌≤◌, List, length, take, slice_range, Some, None}
+use Rattle.std.specs.Prelude.{◌≡◌, ◌⊎◌, ℕ, ◌+◌, ◌-◌, ◌^◌, ◌≤◌, List, length, take, slice_range, Some, None}
 use Rattle.std.specs.List.{position}
 use Rattle.flash_format.specs.Entry.{is_nul}
 use Rattle.board_structures.specs.GoogleBinaryBlocks as blocks
 use Rattle.board_structures.specs.GoogleBinaryBlocks.{digest_of, hardware_id_fault, header_of, key_fault_at}
+use Rattle.board_structures.specs.MasterHeaders as headers
+use Rattle.board_structures.specs.MasterHeaders.{pointer_in}
 use Rattle.board_structures.specs.PackedKeys.{key_len}
+use Rattle.board_structures.specs.SignedSlots as slots
+use Rattle.board_structures.specs.SignedSlots.{checksum_of, preamble_of}
 use Rattle.board_structures.specs.declared.gbb.FieldPlace.{FieldPlace}
 use Rattle.board_structures.specs.declared.gbb.GbbHeader.{GbbHeader}
+use Rattle.board_structures.specs.declared.master_header.HeaderFields.{HeaderFields}
+use Rattle.board_structures.specs.declared.signed_slot.Keyblock.{Keyblock}
+use Rattle.board_structures.specs.declared.signed_slot.Preamble.{Preamble}
+use Rattle.board_structures.specs.declared.signed_slot.SlotBody.{SlotBody}
 use Rattle.board_structures.specs.declared.packed_key.PackedKey.{PackedKey}
 
 -- vboot accepts a key in a structure of `room` bytes
@@ -38,3 +46,31 @@ pub record IsUsableBlock (h : GbbHeader) (x : List ℕ) : Type 0 where
   pub text : hardware_id_fault h x ≡ None
   pub root : key_fault_at h.root_key x ≡ None
   pub recovery : key_fault_at h.recovery_key x ≡ None
+
+-- a preamble in `room` bytes, which signs all components of the body, or no length of it
+pub record CoversBody (body : SlotBody) (room : ℕ) (p : Preamble) : Type 0 where
+  pub major : p.major ≡ 2
+  pub long : 104 ≤ p.len
+  pub inside : p.len ≤ room
+  pub covers : (p.body.signed ≡ 0) ⊎ ((body.end ≤ p.body.signed) × (p.body.signed ≤ body.size))
+
+-- a slot whose keyblock has its checksum, and whose preamble covers the body
+pub record IsCoveredSlot (body : SlotBody) (k : Keyblock) (x : List ℕ) : Type 0 where
+  pub magic : slice_range x 0 8 ≡ slots.magic
+  pub major : k.major ≡ 2
+  pub long : 112 ≤ k.len
+  pub inside : k.len ≤ length x
+  pub data_key : IsUsableKey (k.len - 80) k.data_key
+  pub checksum : slice_range x (48 + k.checksum.offset) (48 + k.checksum.offset + 64)
+      ≡ checksum_of (take k.checksum.signed x)
+  pub preamble : CoversBody body (length x - k.len)
+      (preamble_of (slice_range x k.len (k.len + 104)))
+
+-- a header and a pointer to it that are those of an area with this start
+pub record IsHeaderOfArea (start at : ℕ) (h : HeaderFields) (x : List ℕ) : Type 0 where
+  pub fits : at + 32 ≤ length x
+  pub version : h.version ≡ headers.version
+  pub begin : h.start ≡ start
+  pub end : h.end ≡ start + length x
+  pub alignment : h.alignment ≡ 64
+  pub pointer : pointer_in x + length x ≡ at + 2 ^ 32

@@ -8,16 +8,21 @@ ghost use Rattle.board_structures.specs.Descriptors.{area_name_of, base_of, desc
 ghost use Rattle.board_structures.specs.Filling.{each_byte_is};
 ghost use Rattle.board_structures.specs.GoogleBinaryBlocks as blocks;
 ghost use Rattle.board_structures.specs.GoogleBinaryBlocks.{gbb_in, header_of, text_fault};
-ghost use Rattle.board_structures.specs.Laws.{HasDigest, IsUsableBlock, IsUsableKey};
+ghost use Rattle.board_structures.specs.Laws.{HasDigest, IsCoveredSlot, IsHeaderOfArea, IsUsableBlock, IsUsableKey};
+ghost use Rattle.board_structures.specs.MasterHeaders.{fields_of, master_header_in};
 ghost use Rattle.board_structures.specs.PackedKeys.{key_fault};
 ghost use Rattle.board_structures.specs.PartitionTables as tables;
 ghost use Rattle.board_structures.specs.PartitionTables.{partition_table_in};
 ghost use Rattle.board_structures.specs.ResetVectors as vectors;
 ghost use Rattle.board_structures.specs.ResetVectors.{code_in, reset_vector_in};
+ghost use Rattle.board_structures.specs.SignedSlots as slots;
+ghost use Rattle.board_structures.specs.SignedSlots.{keyblock_of, signed_slot_in};
 ghost use Rattle.board_structures.specs.declared.descriptor.DescriptorRegion.{DescriptorRegion};
 ghost use Rattle.board_structures.specs.declared.descriptor.RegionTable.{RegionTable};
 ghost use Rattle.board_structures.specs.declared.gbb.GbbHeader.{GbbHeader};
+ghost use Rattle.board_structures.specs.declared.master_header.MasterHeader.TheVariants as headers;
 ghost use Rattle.board_structures.specs.declared.packed_key.PackedKey.{PackedKey};
+ghost use Rattle.board_structures.specs.declared.signed_slot.SlotBody.{SlotBody};
 
 /// A descriptor that isn't bad is blank, or has its signature at 16 or at 0 and at least 4096 bytes.
 pub fn sound_descriptors_have_a_signature()
@@ -64,4 +69,18 @@ pub fn hardware_ids_without_fault_have_their_digest()
 pub fn sound_blocks_are_usable()
     ensures { (x : List ℕ) → blocks.is_bad (gbb_in x) ≡ false
         → (each_byte_is 0xff x ≡ true) ⊎ IsUsableBlock (header_of (take 128 x)) x }
+{}
+
+/// A slot that isn't bad is erased or cleared, or its keyblock has its checksum and its signed bytes
+/// cover the body.
+pub fn signed_slots_are_covered()
+    ensures { (body : SlotBody) (x : List ℕ) → slots.is_bad (signed_slot_in body x) ≡ false
+        → (each_byte_is 0xff x ≡ true) ⊎ (each_byte_is 0x00 x ≡ true)
+        ⊎ IsCoveredSlot body (keyblock_of (take 112 x)) x }
+{}
+
+/// A sound master header has the start and the end of its area, and the pointer leads to it.
+pub fn sound_headers_are_of_their_area()
+    ensures { (start at : ℕ) (x : List ℕ) → master_header_in start at x ≡ headers.Sound
+        → IsHeaderOfArea start at (fields_of (slice_range x at (at + 32))) x }
 {}

@@ -21,7 +21,8 @@ pub use filling::each_byte_is;
 pub use gbb::{Gbb, GbbFault, GbbField, GbbKeyFault, read_gbb};
 pub use laws::{
     areas_without_difference_are_their_regions, hardware_ids_without_fault_have_their_digest,
-    keys_without_fault_are_usable, sound_blocks_are_usable, sound_descriptors_have_a_signature,
+    keys_without_fault_are_usable, signed_slots_are_covered, sound_blocks_are_usable,
+    sound_descriptors_have_a_signature, sound_headers_are_of_their_area,
     sound_partition_tables_have_a_marker, sound_reset_vectors_have_code,
 };
 pub use master_header::{HeaderFault, MasterHeader, read_master_header};
