@@ -130,31 +130,6 @@ def flashmap(size, areas, name=b"F"):
     return head + b"".join(struct.pack("<II32sH", at, n, area, 0) for area, at, n in areas)
 
 
-def components(region):
-    """The components of a region, by the public format: each a place, a name, a type and all its bytes.
-
-    The end is the place where the entries end, and why they end there.
-    """
-    found, at = [], 0
-    while at + 24 <= len(region) and region[at : at + 8] == b"LARCHIVE":
-        length, kind, attributes, offset = struct.unpack(">IIII", region[at + 8 : at + 24])
-        if offset < 24 or at + offset + length > len(region):
-            return found, (at, "damaged")
-        span = -(-(offset + length) // 64) * 64
-        cell = region[at : at + span]
-        if kind not in FREE:
-            name = cell[24 : attributes or offset].split(b"\0")[0]
-            found.append((at, name, kind, cell[: offset + length]))
-        at += span
-    return found, (at, "end" if at == len(region) else "tail")
-
-
-def read(path):
-    """The bytes of a file."""
-    with open(path, "rb") as file:
-        return file.read()
-
-
 def write(path, data):
     """Makes a file of these bytes."""
     with open(path, "wb") as file:

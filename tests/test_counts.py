@@ -86,29 +86,5 @@ class Skips(unittest.TestCase):
         self.assertEqual(rows, ["to be skipped: a part of checks/one (absent is missing)"])
 
 
-class Growths(unittest.TestCase):
-    """each_growth of checks/common.sh refuses each growth of memory, except if UNPROVED is set."""
-
-    def growths(self, **environment):
-        """Runs each_growth on a program that takes no memory, and returns status and message."""
-        folder = Folder({"tool": "#!/bin/sh\necho printed\n"})
-        self.addCleanup(folder.remove)
-        (folder.path / "tool").chmod(0o755)
-        script = f'cd {TOP} && . checks/common.sh && cd "$OLDPWD" && checks={TOP}/checks'
-        script += ' name=tool tool=./tool && count_in . && each_growth 1 printed && echo went on'
-        return folder.run(["bash", "-c", script], environment=environment)
-
-    @unittest.skipUnless(shutil.which("cc"), "cc is not installed")
-    def test_a_proved_build_is_tried(self):
-        run = self.growths(UNPROVED="")
-        self.assertEqual((run.status, run.output), (1, b""))
-        self.assertIn(b"growth", run.message)
-
-    def test_an_unproved_build_is_not(self):
-        run = self.growths(UNPROVED="yes")
-        self.assertEqual((run.status, run.output), (0, b"went on\n"))
-        self.assertIn(b"each growth of memory NOT TRIED", run.message)
-
-
 if __name__ == "__main__":
     unittest.main()

@@ -165,7 +165,7 @@ COMMIT = constant("crates/flash_device/src/flash.rt", "COMMIT_LENGTH")
 SEALED = constant("crates/cbfs_anchor/src/demand.rt", "LONGEST_METADATA")
 OUTPUT = constant("crates/flash_store/src/output.rt", "BLOCK")
 TRIES = constant("crates/flash_store/src/transfer.rt", "TRIES")
-MEMORY = in_test("checks/check_limits", r"MEMORY, BASE, .* = (\d+) \* 10 \*\* 6, \d+ \*")
+MEMORY = in_test("tests/test_limits.py", r"MEMORY_FOR_MIB = (\d+)_000_000\n")
 HEAD = constant("crates/flash_format/src/flashmap.rt", "LENGTH")
 ENTRY_HEAD = constant("crates/flash_format/src/head.rt", "LENGTH")
 PROMISED_STACK = in_test("docs/PROMISES.md", r"The stack has room: (\d+) KiB are sufficient")
@@ -366,8 +366,9 @@ LIMITS = [
     ("tests/programs.py", r"^TIME_LIMIT = (\d+)$", 60),
     ("tests/completions.py", r"^ENDLESS, SOON = 60, (\d+)$", 20),
     ("tests/test_pipes.py", r"^COMPONENTS = (\d+)$", 4000),
-    ("checks/check_limits", r"^MEMORY, BASE, .* = 8 \* 10 \*\* 6, 4 \* 10 \*\* 6, (\d+), 4$", 10),
-    ("checks/check_limits", r"^MEMORY, BASE, .* = 8 \* 10 \*\* 6, 4 \* 10 \*\* 6, 10, (\d+)$", 4),
+    ("tests/test_limits.py", r"^MEMORY_FOR_ANY = (\d+)_000_000$", 4),
+    ("tests/test_limits.py", r"^SECONDS = (\d+)$", 10),
+    ("tests/test_limits.py", r"^SECONDS_FOR_TWO = (\d+)$", 4),
 ]
 
 

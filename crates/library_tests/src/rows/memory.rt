@@ -1,5 +1,5 @@
-//! Allocation failures: each test accepts the result, or out of memory without output. The option
-//! `--growths` of `checks/rows` fails each growth of memory in turn.
+//! Allocation failures: each test accepts the result, or out of memory without output.
+//! `tests/test_worked_examples.py` refuses each request for memory in turn.
 use crate::rows::descriptors::{NESTED, NESTED_TABLE};
 use crate::rows::line::is_print;
 use crate::support::{equal, has_all, same_bytes, took_none, writer};
