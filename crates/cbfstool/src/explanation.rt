@@ -1,7 +1,8 @@
 //! Lines on standard error that explain a refusal.
 use cbfs_commands::Refusal;
 use cbfs_line::read_line;
-use cbfs_mistakes::{Mistake, find_mistake, is_explained, push_explanation, push_subject};
+use cbfs_mistakes::{Mistake, find_mistake, push_explanation, push_subject};
+use quoted_text::is_explained;
 use std::alloc::AllocError;
 use std::env;
 use std::io::{IsTerminal, Write};
