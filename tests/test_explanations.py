@@ -1,0 +1,208 @@
+"""The lines that explain a refusal of cbfstool, on a terminal or on request."""
+
+import errno
+import os
+import pty
+import subprocess
+import tty
+import unittest
+
+from tests.programs import ProgramTest, program, words_of
+from tests.samples import Sample
+
+IMAGE = Sample("types").image
+REFUSAL = "cbfstool: bad command line\n"
+USAGES = {
+    "": "COMMAND [OPTIONS]\ncommands: print layout extract add remove read write create",
+    "print": "print [-r REGION] [-v]",
+    "layout": "layout",
+    "extract": "extract [-r REGION] -n NAME -f FILE",
+    "add": "add [-r REGION] -n NAME -f FILE -t TYPE [-a ALIGNMENT | -b OFFSET] [-A HASH]",
+    "remove": "remove [-r REGION] -n NAME",
+    "read": "read [-r REGION] -f FILE",
+    "write": "write [-r REGION] -f FILE",
+    "create": "create -M FLASHMAP [-r REGION[,REGION ...]]",
+}
+NUMBER = "takes a number below 2^32 such as 4096 or 0x1000, not"
+TYPES = (
+    "bootblock, cbfs header, legacy stage, stage, simple elf, fit_payload, optionrom, bootsplash, "
+    "raw, vsa, mbi, microcode, fsp, mrc, cmos_default, spd, mrc_cache, cmos_layout"
+)
+ADD = "image.rom add -n a -f unmade -t raw"
+
+# the arguments, the command whose usage follows, and the explanation
+ROWS = [
+    ("image.rom", "", "no command after the image 'image.rom'"),
+    ("--help", "", "'--help' precedes the command: options follow it"),
+    ("-r COREBOOT print", "", "'-r' precedes the command: options follow it"),
+    ("image.rom --", "--", "no command after the image 'image.rom'"),
+    ("print image.rom", "print", "the image comes before the command: cbfstool image.rom print"),
+    ("extract image.rom -n a -f unmade", "extract",
+     "the image comes before the command: cbfstool image.rom extract"),
+    ("image.rom frobnicate", "", "'frobnicate' is no command"),
+    ("image.rom Print", "", "'Print' is no command"),
+    ("image.rom ''", "", "'' is no command"),
+    ("image.rom -r COREBOOT print", "", "'-r' precedes the command: options follow it"),
+    ("image.rom help", "", "'help' is not supported: see the manual page cbfstool(1)"),
+    ("image.rom --help", "", "'--help' is not supported: see the manual page cbfstool(1)"),
+    ("image.rom print -h", "print", "'-h' is not supported: see the manual page cbfstool(1)"),
+    ("image.rom print --version", "print", "'--version' is no option of this command"),
+    ("image.rom layout -r A", "layout", "'-r' is no option of this command"),
+    ("image.rom remove -n a -f unmade", "remove", "'-f' is no option of this command"),
+    ("image.rom print -c lzma", "print", "'-c' is no option of this command"),
+    (f"{ADD} -c lzma", "add", "'-c' is no option of this command"),
+    ("image.rom print --region COREBOOT", "print", "'--region' is no option of this command"),
+    ("image.rom print -r", "print", "option '-r' has no value"),
+    ("image.rom extract -n -f unmade", "extract", "option '-n' has no value"),
+    ("image.rom print -r A -r B", "print", "option '-r' is given twice"),
+    ("image.rom print -v -v", "print", "option '-v' is given twice"),
+    ("image.rom extract -n a -nb -f unmade", "extract", "option '-nb' is given twice"),
+    ("image.rom print more", "print", "'more' is not expected"),
+    ("image.rom print print", "print", "'print' is not expected"),
+    ("image.rom read", "read", "read needs -f FILE"),
+    ("image.rom read -r ABSENT", "read", "read needs -f FILE"),
+    ("image.rom write -r A", "write", "write needs -f FILE"),
+    ("image.rom remove", "remove", "remove needs -n NAME"),
+    ("image.rom extract", "extract", "extract needs -n NAME -f FILE"),
+    ("image.rom extract -n a", "extract", "extract needs -f FILE"),
+    ("image.rom extract -f unmade", "extract", "extract needs -n NAME"),
+    ("image.rom add", "add", "add needs -n NAME -f FILE -t TYPE"),
+    ("image.rom add -n a -a 4K", "add", "add needs -f FILE -t TYPE"),
+    ("image.rom create", "create", "create needs -M FLASHMAP"),
+    (f"{ADD} -a 4K", "add", f"-a {NUMBER} '4K'"),
+    (f"{ADD} -a 0X10", "add", f"-a {NUMBER} '0X10'"),
+    (f"{ADD} -b=-4096", "add", f"-b {NUMBER} '-4096'"),
+    (f"{ADD} -b -4096", "add", "'-4096' is no option of this command"),
+    (f"{ADD} -b 4294967296", "add", f"-b {NUMBER} '4294967296'"),
+    (f"{ADD} -a 64 -b 0", "add", "-a and -b exclude each other"),
+    (f"{ADD} -a 4K -b 4K", "add", "-a and -b exclude each other"),
+    ("image.rom add -n a -f unmade -t exe", "add",
+     f"-t takes a number below 2^32 or one of these names, not 'exe': {TYPES}"),
+    (f"{ADD} -A sha1", "add", "-A takes sha256 or sha512, not 'sha1'"),
+    (f"{ADD} -A SHA256", "add", "-A takes sha256 or sha512, not 'SHA256'"),
+    ("image.rom create -M unmade -r A,,B", "create", "-r has an empty name in 'A,,B'"),
+    ("image.rom create -M unmade -r ''", "create", "-r has an empty name in ''"),
+    ("image.rom create -M unmade -r A,B,C,D,E,F,G,H,I,J,K,L,M,N,O,P,Q", "create",
+     "-r takes at most 16 names"),
+    (["image.rom", os.fsdecode(b"\xff")], "", "an argument is not UTF-8"),
+    # a control sequence, and a character that changes the direction of others
+    (["image.rom", "\x1b[31mred\n"], "", r"'\x1b[31mred\x0a' is no command"),
+    (["image.rom", "print", "a\u202eb"], "print", r"'a\xe2\x80\xaeb' is not expected"),
+    (["print", "\x1b[2J"], "print",
+     r"the image comes before the command: cbfstool \x1b[2J print"),
+]
+
+# the arguments, the refusal, and the line that names its subject
+SUBJECTS = [
+    ("image.rom print -r coreboot", "no such region",
+     "cbfstool: the flash map has no area 'coreboot'\n"),
+    (["image.rom", "print", "-r", "a\x07"], "no such region",
+     "cbfstool: the flash map has no area 'a\\x07'\n"),
+    ("image.rom remove -n absent", "no such component",
+     "cbfstool: the region 'COREBOOT' has no component 'absent'\n"),
+    ("image.rom add -n t/raw -f source -t raw", "component exists",
+     "cbfstool: the region 'COREBOOT' has a component 't/raw'\n"),
+    ("absent.rom print", "device fault", "cbfstool: fault of the image 'absent.rom'\n"),
+    ("folder print", "device fault", "cbfstool: fault of the image 'folder'\n"),
+    ("image.rom add -n a -f absent -t raw", "source fault",
+     "cbfstool: fault of the file 'absent'\n"),
+    ("source print", "no FMAP", ""),
+    ("image.rom add -n '' -f source -t raw", "bad name", ""),
+]
+
+
+def explained(command, line):
+    """Returns the refusal and the lines that explain it."""
+    usage = USAGES.get(command, USAGES[""])
+    return f"{REFUSAL}cbfstool: {line}\nusage: cbfstool IMAGE {usage}\n"
+
+
+def read_terminal(master):
+    """Returns further bytes of a terminal, or none after the last one."""
+    try:
+        return os.read(master, 65536)
+    except OSError as error:
+        if error.errno != errno.EIO:
+            raise
+        return b""
+
+
+class Explanations(ProgramTest):
+    programs = ("cbfstool",)
+
+    @staticmethod
+    def words(arguments):
+        return ["cbfstool", *words_of(arguments)]
+
+    def refused(self, arguments, message, **environment):
+        return self.check(self.words(arguments), {"image.rom": IMAGE}, 2, message=message,
+                          environment=environment)
+
+    def test_with_the_variable(self):
+        for arguments, command, line in ROWS:
+            with self.subTest(arguments):
+                self.refused(arguments, explained(command, line), CBFSTOOL_EXPLAIN="1")
+
+    def test_without_a_terminal(self):
+        for arguments, _, _ in ROWS:
+            with self.subTest(arguments):
+                self.refused(arguments, REFUSAL)
+
+    def test_other_values_of_the_variable(self):
+        for value in ("", "0", "11", "yes"):
+            with self.subTest(value):
+                self.refused("image.rom frobnicate", REFUSAL, CBFSTOOL_EXPLAIN=value)
+
+    def test_a_long_line(self):
+        line = explained("print", "option '-v' is given twice")
+        self.refused(["image.rom", "print", *["-v"] * 100], line, CBFSTOOL_EXPLAIN="1")
+
+    def test_success(self):
+        for environment in ({}, {"CBFSTOOL_EXPLAIN": "1"}):
+            self.check("cbfstool image.rom print", {"image.rom": IMAGE},
+                       output=Sample("types").listing, environment=environment)
+
+    def test_subjects(self):
+        files = {"image.rom": IMAGE, "source": b"x", "folder/file": b""}
+        for arguments, refusal, line in SUBJECTS:
+            message = f"cbfstool: {refusal}\n"
+            with self.subTest(arguments):
+                self.check(self.words(arguments), files, 1, message=message + line,
+                           environment={"CBFSTOOL_EXPLAIN": "1"})
+                self.check(self.words(arguments), files, 1, message=message)
+
+
+class Terminals(ProgramTest):
+    """Standard error is a pseudo-terminal, and the other streams are pipes."""
+
+    programs = ("cbfstool",)
+
+    def on_terminal(self, words):
+        """Returns the status of a command, its output, and the bytes that the terminal got."""
+        master, slave = pty.openpty()
+        try:
+            tty.setraw(slave)
+            done = subprocess.run(
+                [program("cbfstool"), *words], cwd=self.folder({"image.rom": IMAGE}).path,
+                stdin=subprocess.DEVNULL, stdout=subprocess.PIPE, stderr=slave, check=False,
+            )
+        finally:
+            os.close(slave)
+        message = b"".join(iter(lambda: read_terminal(master), b""))
+        os.close(master)
+        return done.returncode, done.stdout, message.decode()
+
+    def test_bad_command_lines(self):
+        for arguments, command, line in ROWS:
+            with self.subTest(arguments):
+                self.assertEqual(self.on_terminal(words_of(arguments)),
+                                 (2, b"", explained(command, line)))
+
+    def test_other_refusals(self):
+        self.assertEqual(self.on_terminal(["image.rom", "remove", "-n", "absent"]),
+                         (1, b"", "cbfstool: no such component\n"
+                                  "cbfstool: the region 'COREBOOT' has no component 'absent'\n"))
+
+
+if __name__ == "__main__":
+    unittest.main()
