@@ -1,6 +1,6 @@
--- vboot's Google Binary Block, in the area GBB (`struct vb2_gbb_header`), little-endian: the hardware
--- id and the keys from which the firmware verifies the slots. This project's rules: the order of the
--- checks.
+-- vboot's Google Binary Block, in the area GBB (`struct vb2_gbb_header`), little-endian: the
+-- hardware id and the keys from which the firmware verifies the slots. This project's rules: the
+-- order of the checks.
 use Rattle.std.specs.Prelude.{ℕ, ◌+◌, Bool, true, false, ◌||◌, List, length, take, slice_range, Option, Some, None, Result, Ok, Err, min, nat_lt, ◌==◌, if◌then◌else◌, option_map}
 use Rattle.std.specs.List.{position}
 use Rattle.std.specs.Option.{option_map_or, option_or}

@@ -22,8 +22,8 @@ use Rattle.board_structures.specs.declared.master_header.HeaderFields.{HeaderFie
 -- | 16     | 4     | the alignment of components, 64                                    |
 -- | 20     | 4     | the start of the area in the image                                 |
 --
--- The last four bytes of the area are a little-endian number of 32 bits with sign: the offset of the
--- header from the area's end on, below zero.
+-- The last four bytes of the area are a little-endian number of 32 bits with sign: the offset of
+-- the header from the area's end on, below zero.
 
 abbrev pub magic : List ℕ
 magic = codes "ORBC"

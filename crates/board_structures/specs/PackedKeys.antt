@@ -21,8 +21,8 @@ unfoldable pub packed_key_of : List ℕ → PackedKey
 packed_key_of x = record { offset = le 4 0 x; size = le 4 8 x; algorithm = le 4 16 x }
 
 -- The lengths of keys of RSA with 1024, 2048, 4096 and 8192 bits, and with exponent 3 with 2048 and
--- 3072 bits: two numbers of 4 bytes, and two of the modulus's length. Each has three algorithms, with
--- SHA-1, SHA-256 and SHA-512 (`enum vb2_crypto_algorithm`).
+-- 3072 bits: two numbers of 4 bytes, and two of the modulus's length. Each has three algorithms,
+-- with SHA-1, SHA-256 and SHA-512 (`enum vb2_crypto_algorithm`).
 abbrev pub key_lens : List ℕ
 key_lens = 264 ∷ 520 ∷ 1032 ∷ 2056 ∷ 520 ∷ 776 ∷ []
 

@@ -1,4 +1,5 @@
--- The reset vector of x86: the processor's first instruction is 16 bytes before the end of the image.
+-- The reset vector of x86: the processor's first instruction is 16 bytes before the end of the
+-- image.
 use Rattle.std.specs.Prelude.{ℕ, ◌-◌, Bool, true, false, List, length, slice_range, nat_lt, if◌then◌else◌}
 use Rattle.board_structures.specs.Filling.{each_byte_is}
 use Rattle.board_structures.specs.declared.reset_vector.ResetVector.{ResetVector}

@@ -5,8 +5,8 @@ use Rattle.byteorder.specs.Endian.{little_bytes}
 use Rattle.flash_format.specs.declared.flashmap.Area.{Area}
 use Rattle.board_structures.specs.declared.descriptor.RegionTable.{RegionTable}
 
--- The table of a flash of 16 MiB: the descriptor in the first 4 KiB, the Management Engine up to 2 MiB,
--- the BIOS from there on. Unused regions have the base 0x7fff and the limit 0.
+-- The table of a flash of 16 MiB: the descriptor in the first 4 KiB, the Management Engine up to 2
+-- MiB, the BIOS from there on. Unused regions have the base 0x7fff and the limit 0.
 abbrev pub small_entries : List ℕ
 small_entries = 0x00 ∷ 0x00 ∷ 0x00 ∷ 0x00
     ∷ 0x00 ∷ 0x02 ∷ 0xff ∷ 0x0f
@@ -53,8 +53,8 @@ abbrev pub small_key : List ℕ
 small_key = u32 32 ++ u32 0 ++ u32 264 ++ u32 0 ++ u32 0 ++ u32 0 ++ u32 1 ++ u32 0
     ++ replicate 264 0
 
--- A block of the minor version 1, which has no digest, with the hardware id `TEST 1` at 128, and keys
--- at 144 and 440.
+-- A block of the minor version 1, which has no digest, with the hardware id `TEST 1` at 128, and
+-- keys at 144 and 440.
 unfoldable pub small_block : List ℕ
 small_block = codes "$GBB" ++ (1 ∷ 0 ∷ 1 ∷ 0 ∷ []) ++ u32 128 ++ u32 0x39
     ++ u32 128 ++ u32 16 ++ u32 144 ++ u32 296 ++ u32 440 ++ u32 0 ++ u32 440 ++ u32 296

@@ -1,7 +1,7 @@
 -- The signatures of a slot of vboot, in the areas VBLOCK_A and VBLOCK_B (`struct vb2_keyblock` and
--- `struct vb2_fw_preamble`), little-endian. They cover the first bytes of FW_MAIN_A or FW_MAIN_B, the
--- body. Signatures of RSA are not computed. This project's rules: the order of the checks, and that a
--- keyblock signs at most 4096 bytes, which is more than any key of vboot needs.
+-- `struct vb2_fw_preamble`), little-endian. They cover the first bytes of FW_MAIN_A or FW_MAIN_B,
+-- the body. Signatures of RSA are not computed. This project's rules: the order of the checks, and
+-- that a keyblock signs at most 4096 bytes, which is more than any key of vboot needs.
 use Rattle.std.specs.Prelude.{ℕ, ◌+◌, ◌-◌, Bool, true, false, ◌||◌, List, length, take, slice_range, Option, Some, None, Result, Ok, Err, nat_lt, ◌==◌, if◌then◌else◌, option_map}
 use Rattle.std.specs.Option.{option_map_or, option_or}
 use Rattle.std.specs.Str.{bytes_eq}
@@ -104,7 +104,8 @@ keyblock_len_fault size k = if nat_lt k.len keyblock_header_len || nat_lt size k
 
 abbrev pub checksum_len_fault : Keyblock → Option SlotFault
 checksum_len_fault k = if k.checksum.size == 64
-    then (if nat_lt page_len k.checksum.signed then Some (faults.TooLong k.checksum.signed) else None)
+    then (if nat_lt page_len k.checksum.signed then Some (faults.TooLong k.checksum.signed)
+    else None)
     else Some (faults.ChecksumLength k.checksum.size)
 
 abbrev pub data_key_fault : Keyblock → Option SlotFault
@@ -173,7 +174,8 @@ body_state body p = if p.body.signed == 0 then states.BodyNotChecked
 -- of the first 104 bytes
 unfoldable pub preamble_state : SlotBody → ℕ → List ℕ → SignedSlot
 preamble_state body room x =
-    option_map_or states.Broken (preamble_fault room (preamble_of x)) (body_state body (preamble_of x))
+    option_map_or states.Broken (preamble_fault room (preamble_of x))
+    (body_state body (preamble_of x))
 
 -- of the preamble at this offset in the area
 abbrev pub state_at : SlotBody → ℕ → List ℕ → SignedSlot

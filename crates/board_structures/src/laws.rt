@@ -24,7 +24,8 @@ ghost use Rattle.board_structures.specs.declared.master_header.MasterHeader.TheV
 ghost use Rattle.board_structures.specs.declared.packed_key.PackedKey.{PackedKey};
 ghost use Rattle.board_structures.specs.declared.signed_slot.SlotBody.{SlotBody};
 
-/// A descriptor that isn't bad is blank, or has its signature at 16 or at 0 and at least 4096 bytes.
+/// A descriptor that isn't bad is blank, or has its signature at 16 or at 0 and at least 4096
+/// bytes.
 pub fn sound_descriptors_have_a_signature()
     ensures { (x : List ℕ) → descriptors.is_bad (descriptor_in x) ≡ false
         → (each_byte_is 0xff x ≡ true) ⊎ ((4096 ≤ length x)
@@ -71,8 +72,8 @@ pub fn sound_blocks_are_usable()
         → (each_byte_is 0xff x ≡ true) ⊎ IsUsableBlock (header_of (take 128 x)) x }
 {}
 
-/// A slot that isn't bad is erased or cleared, or its keyblock has its checksum and its signed bytes
-/// cover the body.
+/// A slot that isn't bad is erased or cleared, or its keyblock has its checksum and its signed
+/// bytes cover the body.
 pub fn signed_slots_are_covered()
     ensures { (body : SlotBody) (x : List ℕ) → slots.is_bad (signed_slot_in body x) ≡ false
         → (each_byte_is 0xff x ≡ true) ⊎ (each_byte_is 0x00 x ≡ true)

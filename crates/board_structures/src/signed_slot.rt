@@ -361,7 +361,8 @@ fn read_keyblock<F: Flash>(
     requires { LiesOn area paged.old.device }
 
     ensures after { HasAnswered 1 paged.old paged.new result }
-    ensures fits { IfOk result (λ keyblock. IfOk keyblock (λ k. keyblock_fault area.size k ≡ None)) }
+    ensures fits { IfOk result (λ keyblock.
+        IfOk keyblock (λ k. keyblock_fault area.size k ≡ None)) }
     ensures keyblock { ReadsAs paged.old area result keyblock_in }
 {
     let size = area.size();

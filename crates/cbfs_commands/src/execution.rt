@@ -68,8 +68,8 @@ pub fn run_with_map<F: Flash, S: Source, W: Sink>(
 }
 
 /// Runs a command on an image, without allocating memory. The source is the content of `add` and
-/// `write` and the flashmap of `create`; other commands don't read it. The sink receives the output.
-/// Returns the first refusal; `effect` states what each refusal leaves in the image.
+/// `write` and the flashmap of `create`; other commands don't read it. The sink receives the
+/// output. Returns the first refusal; `effect` states what each refusal leaves in the image.
 ///
 /// For example, this prints the cells of the region COREBOOT of an image in `paged`:
 ///

@@ -90,8 +90,9 @@ pub fn add_anchor_change<W: Sink + Drop>(
     }
 }
 
-/// Adds the rows of changed areas, in order. Changes of the `kept` areas and removals of the `vital`
-/// areas are bad. Returns `Output` if the sink failed, and `Memory` if an allocation failed.
+/// Adds the rows of changed areas, in order. Changes of the `kept` areas and removals of the
+/// `vital` areas are bad. Returns `Output` if the sink failed, and `Memory` if an allocation
+/// failed.
 pub fn add_area_changes<W: Sink + Drop>(
     rows: &mut RowWriter<W>,
     kept: &KnownNames<'_>,

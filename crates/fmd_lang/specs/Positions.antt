@@ -14,8 +14,8 @@ use Rattle.fmd_lang.specs.declared.position.Position.{Position}
 abbrev pub is_feed : ℕ → Bool
 is_feed b = nat_eq b 10
 
--- the line with this offset begins at the start: at the start of the text or behind a line feed, and
--- without a line feed between
+-- the line with this offset begins at the start: at the start of the text or behind a line feed,
+-- and without a line feed between
 pub record BeginsLine (text : List ℕ) (at start : ℕ) : Type 0 where
   pub before : start ≤ at
   pub begins : (start ≡ 0) ⊎ (is_feed (slice_index text (start - 1)) ≡ true)

@@ -1,4 +1,5 @@
-//! Texts for a terminal: arguments, paths and names in messages, and whether messages are explained.
+//! Texts for a terminal: arguments, paths and names in messages, and whether messages are
+//! explained.
 #![tactic(auto)]
 
 mod condition;

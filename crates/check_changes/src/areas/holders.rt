@@ -247,8 +247,8 @@ pub struct BlockHolders<'a> {
 }
 
 impl<'a> BlockHolders<'a> {
-    /// Returns an index of the pairs of one size in images of these lengths, in bytes, or an error if
-    /// an allocation failed.
+    /// Returns an index of the pairs of one size in images of these lengths, in bytes, or an error
+    /// if an allocation failed.
     pub fn of(
         alloc: Global,
         pairs: &'a [AreaPair],

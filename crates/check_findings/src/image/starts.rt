@@ -17,7 +17,8 @@ pub struct Starts {
 }
 
 impl Starts {
-    /// Returns the smallest size at each offset of these areas, or an error if an allocation failed.
+    /// Returns the smallest size at each offset of these areas, or an error if an allocation
+    /// failed.
     pub fn of(alloc: Global, areas: &[NumberedArea]) -> Result<Starts, AllocError>
         ensures { IfOk result (λ starts. knows_smaller starts ≡ has_smaller areas.now) }
     {

@@ -73,8 +73,8 @@ impl<W: Sink + Drop> RowWriter<W> {
         }
     }
 
-    /// Adds a row, and prints it unless 16 rows of its kind precede it. Returns `Output` if the sink
-    /// failed, and `Memory` if an allocation failed.
+    /// Adds a row, and prints it unless 16 rows of its kind precede it. Returns `Output` if the
+    /// sink failed, and `Memory` if an allocation failed.
     pub fn add(&mut self, row: Row<'_>) -> Result<(), WriteFault>
         ensures { Adds W.Sink result self.old self.new (seen_row row.entry ∷ []) }
     {
