@@ -27,6 +27,7 @@ impl Model for Counter {
 }
 
 impl Counter {
+    /// Returns 0.
     pub fn new() -> Counter
         ensures { result ≡ 0 }
     {
@@ -35,12 +36,14 @@ impl Counter {
         }
     }
 
+    /// Adds 1.
     pub fn tick(&mut self)
         ensures { self.new ≡ self.old + 1 }
     {
         self.add(1);
     }
 
+    /// Adds `n`.
     pub fn add(&mut self, n: usize)
         ensures { self.new ≡ self.old + n }
     {

@@ -39,6 +39,7 @@ impl<F> FailAt<F> {
         }
     }
 
+    /// Returns the device without its faults.
     pub fn into_inner(self) -> F
         ensures { result ≡ self.device }
     {

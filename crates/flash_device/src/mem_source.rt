@@ -13,6 +13,7 @@ pub struct MemSource<'a> {
 }
 
 impl<'a> MemSource<'a> {
+    /// Returns a source of these bytes, whose reads succeed.
     pub fn new(bytes: &'a [u8]) -> MemSource<'a>
         requires { length bytes.now < 2 ^ 32 }
         ensures { (result.content.now ≡ bytes.now) × (result.calls ≡ 0) }

@@ -40,6 +40,7 @@ pub struct WriteSink<W> {
 }
 
 impl<W> WriteSink<W> {
+    /// Returns a sink that has written nothing.
     pub fn new(writer: W) -> WriteSink<W>
         ensures { result ≡ record { writer = writer; faults = 0 } }
     {
@@ -49,6 +50,7 @@ impl<W> WriteSink<W> {
         }
     }
 
+    /// Returns the writer.
     pub fn into_inner(self) -> W
         ensures { result ≡ self.writer }
     {

@@ -15,8 +15,10 @@ pub struct AttrHead {
 }
 
 impl AttrHead {
+    /// The tag of a compression attribute (`CBFS_FILE_ATTR_TAG_COMPRESSION` of coreboot).
     pub const COMPRESSION: u32 = 0x4243_5a4c;
 
+    /// The tag of a hash attribute (`CBFS_FILE_ATTR_TAG_HASH` of coreboot).
     pub const HASH: u32 = 0x6873_6148;
 
     /// Decodes a head.

@@ -90,6 +90,7 @@ impl Digest {
         }
     }
 
+    /// Returns the algorithm of the digest.
     pub fn algorithm(&self) -> Algorithm
         ensures { result ≡ algorithm self.now }
     {

@@ -8,6 +8,7 @@ ghost use Rattle.flash_format.specs.Texts.{Pushes, hexadecimal};
 use crate::buffer::push_text;
 use arrayvec::ArrayVec;
 
+/// Returns the hexadecimal digit of a value below 16, in lower case.
 pub fn digit(value: u8) -> u8
     requires { value < 16 }
     ensures { result ≡ digit_glyph false value }

@@ -46,6 +46,7 @@ impl<S: Storage> Model for EraseFilter<S> {
 }
 
 impl<S: Storage> EraseFilter<S> {
+    /// Returns a filter that knows no erased range.
     pub fn new(storage: S) -> EraseFilter<S>
         ensures { result ≡ S.facts storage }
     {
@@ -80,6 +81,7 @@ impl<S: Storage> EraseFilter<S> {
         })
     }
 
+    /// Returns the file.
     pub fn into_inner(self) -> S
         ensures { S.facts result ≡ self }
     {
@@ -87,6 +89,7 @@ impl<S: Storage> EraseFilter<S> {
         storage
     }
 
+    /// Returns the file.
     pub fn storage(&self) -> &S {
         &self.storage
     }

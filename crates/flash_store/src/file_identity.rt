@@ -17,6 +17,7 @@ pub enum FileKind {
 }
 
 impl FileKind {
+    /// Returns the kind by the metadata of the system.
     pub fn of(metadata: &Metadata) -> FileKind {
         let kind = metadata.file_type();
         if kind.is_file() {
@@ -55,6 +56,7 @@ pub struct FileIdentity {
 }
 
 impl FileIdentity {
+    /// Returns the identity by the metadata of the system.
     pub fn of(metadata: &Metadata) -> FileIdentity {
         FileIdentity {
             device: metadata.dev(),

@@ -37,6 +37,7 @@ impl<S: Storage> Model for ReadAhead<S> {
 }
 
 impl<S: Storage> ReadAhead<S> {
+    /// Returns a file with an empty window.
     pub fn new(storage: S) -> ReadAhead<S>
         ensures { result ≡ S.facts storage }
     {
@@ -49,6 +50,7 @@ impl<S: Storage> ReadAhead<S> {
         }
     }
 
+    /// Returns the file.
     pub fn into_inner(self) -> S
         ensures { S.facts result ≡ self }
     {
@@ -56,6 +58,7 @@ impl<S: Storage> ReadAhead<S> {
         storage
     }
 
+    /// Returns the file.
     pub fn storage(&self) -> &S {
         &self.storage
     }

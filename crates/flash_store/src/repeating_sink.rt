@@ -17,6 +17,7 @@ pub struct RepeatingSink<W> {
 }
 
 impl<W> RepeatingSink<W> {
+    /// Returns a sink that has written nothing.
     pub fn new(writer: W) -> RepeatingSink<W>
         ensures { result ≡ record { writer = writer; faults = 0 } }
     {

@@ -33,6 +33,7 @@ impl<S: Storage> Model for StoredFlash<S> {
 }
 
 impl<S: Storage> StoredFlash<S> {
+    /// Returns a device in this file, without calls.
     pub fn new(storage: S) -> StoredFlash<S>
         ensures { result ≡ stored_device (S.facts storage) 0 0 }
     {
@@ -43,6 +44,7 @@ impl<S: Storage> StoredFlash<S> {
         }
     }
 
+    /// Returns the file.
     pub fn into_inner(self) -> S
         ensures content { (S.facts result).content ≡ self.content }
         ensures faithful { (S.facts result).faithful ≡ self.honest }

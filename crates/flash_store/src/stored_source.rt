@@ -25,6 +25,7 @@ impl<S: Storage> Model for StoredSource<S> {
 }
 
 impl<S: Storage> StoredSource<S> {
+    /// Returns a source in this file, without calls.
     pub fn new(storage: S) -> StoredSource<S>
         ensures { result ≡ stored_device (S.facts storage) 0 0 }
     {

@@ -16,6 +16,7 @@ use flash_format::HEADER_LENGTH;
 /// The maximum number of consecutive interrupted calls.
 const TRIES: u32 = 1000;
 
+/// Reads at most `n` bytes from `at` on into the front of `out`, by one call. Returns their number.
 pub fn read_front<S: Storage>(
     storage: &mut S,
     at: u64,
