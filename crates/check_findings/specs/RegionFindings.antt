@@ -69,11 +69,11 @@ first_filled at x = position_from is_filled at (slice_range x at (length x - 4))
 abbrev pub has_entry_at : ℕ → List ℕ → Bool
 has_entry_at at x = is_some (front (drop at x))
 
--- the offsets from `at` on, in steps of 64, which 64 bytes of the region follow
+-- the offsets from `at` on in steps of 64, each with 64 bytes of the region from it on
 abbrev pub offsets_from : ℕ → List ℕ → List ℕ
 offsets_from at x = map (λ i. at + 64 * i) (range_with_len 0 ((length x - at) / 64))
 
--- the entries from `at` on, where the walk ends: no walk returns them
+-- the entries from `at` on, where the walk ends, so that no walk returns them
 abbrev pub later_entries : ℕ → List ℕ → List RegionFinding
 later_entries at x =
     map findings.TailEntry (filter (λ place. has_entry_at place x) (offsets_from at x))
