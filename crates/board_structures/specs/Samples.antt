@@ -4,6 +4,7 @@ use lib.Chars.{codes}
 use Rattle.byteorder.specs.Endian.{little_bytes}
 use Rattle.flash_format.specs.declared.flashmap.Area.{Area}
 use Rattle.board_structures.specs.declared.descriptor.RegionTable.{RegionTable}
+use Rattle.board_structures.specs.declared.signed_slot.SlotBody.{SlotBody}
 
 -- The table of a flash of 16 MiB: the descriptor in the first 4 KiB, the Management Engine up to 2
 -- MiB, the BIOS from there on. Unused regions have the base 0x7fff and the limit 0.
@@ -60,6 +61,19 @@ small_block = codes "$GBB" ++ (1 ∷ 0 ∷ 1 ∷ 0 ∷ []) ++ u32 128 ++ u32 0x3
     ++ u32 128 ++ u32 16 ++ u32 144 ++ u32 296 ++ u32 440 ++ u32 0 ++ u32 440 ++ u32 296
     ++ replicate 80 0
     ++ codes "TEST 1" ++ replicate 10 0 ++ small_key ++ small_key
+
+-- the last component ends at 64, and the area has 96 bytes
+abbrev pub small_body : SlotBody
+small_body = record { end = 64; size = 96 }
+
+-- a signature of no bytes over so many signed bytes
+abbrev pub empty_signature : ℕ → List ℕ
+empty_signature signed = u32 80 ++ u32 0 ++ u32 0 ++ u32 0 ++ u32 signed ++ u32 0
+
+-- a preamble of 176 bytes that signs so many bytes of the body: the first 104 bytes
+unfoldable pub small_preamble : ℕ → List ℕ
+small_preamble signed = u32 176 ++ u32 0 ++ empty_signature 104 ++ u32 2 ++ replicate 44 0
+    ++ empty_signature signed
 
 -- ---- CBFS
 

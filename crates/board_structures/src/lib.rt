@@ -27,9 +27,10 @@ pub use laws::{
 };
 pub use master_header::{HeaderFault, MasterHeader, read_master_header};
 pub use numbers::{
-    blocks_have_their_states, descriptors_have_their_states, master_headers_have_their_states,
-    moved_areas_are_differences, partition_tables_have_their_states, regions_have_their_ranges,
-    reset_vectors_have_their_states,
+    blocks_have_their_states, bodies_have_their_states, descriptors_have_their_states,
+    master_headers_have_their_states, moved_areas_are_differences,
+    partition_tables_have_their_states, regions_have_their_ranges, reset_vectors_have_their_states,
+    slots_have_their_states,
 };
 pub use packed_key::{KeyFault, KeyLength, PackedKey};
 pub use partition_table::{PartitionTable, read_partition_table};

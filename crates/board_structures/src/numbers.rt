@@ -7,7 +7,8 @@ ghost use Rattle.board_structures.specs.GoogleBinaryBlocks.{gbb_in};
 ghost use Rattle.board_structures.specs.MasterHeaders.{master_header_in};
 ghost use Rattle.board_structures.specs.PartitionTables.{partition_table_in};
 ghost use Rattle.board_structures.specs.ResetVectors.{reset_vector_in};
-ghost use Rattle.board_structures.specs.Samples.{area_with, old_me, small_block, small_descriptor, small_end, small_header_area, small_me, small_table};
+ghost use Rattle.board_structures.specs.Samples.{area_with, old_me, small_block, small_body, small_descriptor, small_end, small_header_area, small_me, small_preamble, small_table};
+ghost use Rattle.board_structures.specs.SignedSlots.{preamble_state, signed_slot_in};
 ghost use Rattle.board_structures.specs.declared.descriptor.Descriptor.TheVariants as descriptors;
 ghost use Rattle.board_structures.specs.declared.descriptor.DescriptorRegion.TheVariants.{Bios, Gbe, Me};
 ghost use Rattle.board_structures.specs.declared.gbb.Gbb.TheVariants as blocks;
@@ -17,6 +18,8 @@ ghost use Rattle.board_structures.specs.declared.master_header.HeaderFault.TheVa
 ghost use Rattle.board_structures.specs.declared.master_header.MasterHeader.TheVariants as headers;
 ghost use Rattle.board_structures.specs.declared.partition_table.PartitionTable.TheVariants as tables;
 ghost use Rattle.board_structures.specs.declared.reset_vector.ResetVector.TheVariants as vectors;
+ghost use Rattle.board_structures.specs.declared.signed_slot.SignedSlot.TheVariants as slots;
+ghost use Rattle.board_structures.specs.declared.signed_slot.SlotFault.TheVariants as slot_faults;
 
 /// A literal descriptor, a blank one, one without a signature and one that is too short.
 pub fn descriptors_have_their_states()
@@ -84,4 +87,31 @@ pub fn master_headers_have_their_states()
         ≡ headers.Broken (header_faults.Start 0x100) }
     ensures pointer { master_header_in 0x100 0 (take 60 small_header_area ++ replicate 4 0xff)
         ≡ headers.Broken (header_faults.Pointer 0xffffffff) }
+{}
+
+/// Areas without a keyblock.
+pub fn slots_have_their_states()
+    ensures erased { signed_slot_in small_body (replicate 120 0xff) ≡ slots.Blank }
+    ensures cleared { signed_slot_in small_body (replicate 120 0x00) ≡ slots.Blank }
+    ensures cut_off { signed_slot_in small_body (codes "CHROMEOS" ++ replicate 103 0x00)
+        ≡ slots.Broken slot_faults.CutOff }
+    ensures no_magic { signed_slot_in small_body (codes "CHROME00" ++ replicate 104 0x00)
+        ≡ slots.Broken slot_faults.NoMagic }
+    ensures version { signed_slot_in small_body (codes "CHROMEOS" ++ replicate 104 0x00)
+        ≡ slots.Broken (slot_faults.KeyblockVersion 0) }
+{}
+
+/// A preamble that signs 64 bytes, on both sides of its limits: the last component ends at 64, and
+/// the area of the body has 96 bytes.
+pub fn bodies_have_their_states()
+    ensures sound { preamble_state small_body 176 (small_preamble 64) ≡ slots.Sound 64 }
+    ensures longest { preamble_state small_body 176 (small_preamble 96) ≡ slots.Sound 96 }
+    ensures short { preamble_state small_body 176 (small_preamble 63)
+        ≡ slots.Broken (slot_faults.BodyShort 63) }
+    ensures long { preamble_state small_body 176 (small_preamble 97)
+        ≡ slots.Broken (slot_faults.BodyLong 97) }
+    ensures not_checked { preamble_state small_body 176 (small_preamble 0)
+        ≡ slots.BodyNotChecked }
+    ensures outside { preamble_state small_body 175 (small_preamble 64)
+        ≡ slots.Broken (slot_faults.PreambleLength 176) }
 {}
