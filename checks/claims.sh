@@ -664,7 +664,6 @@ libraries() {
         file=$pages/$name.README
         [ -e "$file" ] || file=$folder/README.md
         [ "$(head -n 1 "$file")" = "# $name" ] || fail "claims: the README of $name has another title"
-        [ "$(wc -l < "$file")" -le 60 ] || fail "claims: the README of $name has $(wc -l < "$file") lines"
         case $name in
             library_tests | cbfstool | fmaptool | cbfscheck | cbfsseal) continue ;;
         esac
