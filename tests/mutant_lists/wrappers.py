@@ -375,7 +375,7 @@ MUTANTS = [
     fault("unlocked", "test_check_files.Locks.test_an_exclusive_lock", "False is not true",
           "a check of one image takes no lock", "The report is that of no image.", "cbfscheck"),
     Wrapper("a check takes 100 MB of memory", "cbfscheck",
-            'python3 -S -c "bytes(10 ** 8)[::4096]"\nrun "$@"\n',
+            'python3 -S -c "bytearray([1]) * 10 ** 8"\nrun "$@"\n',
             "A check on a small machine is killed.",
             "test_limits.ManyAreas.test_nested_areas", "not less than or equal to"),
 
