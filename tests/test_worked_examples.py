@@ -96,6 +96,7 @@ class Definitions(unittest.TestCase):
 
 
 @unittest.skipUnless(HAS_COMPILER, "cc")
+@unittest.skipUnless(BUILT.is_file(), "library_tests")
 class Memory(ProgramTest):
     """Each request for memory of a library test is refused in turn.
 
@@ -108,8 +109,6 @@ class Memory(ProgramTest):
     @classmethod
     def setUpClass(cls):
         super().setUpClass()
-        if not BUILT.is_file():
-            raise FileNotFoundError(f"{BUILT}: run `rt test` in crates/library_tests")
         # (a test that fails aborts)
         limits = resource.getrlimit(resource.RLIMIT_CORE)
         resource.setrlimit(resource.RLIMIT_CORE, (0, limits[1]))
