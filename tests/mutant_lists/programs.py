@@ -173,7 +173,7 @@ MUTANTS = [
     ),
     Mutant(
         "the note is printed under the lock", CBFSTOOL,
-        "    drop(session);\n", "",
+        "    drop(image);\n", "",
         "While nobody reads the messages of a job, all commands on the image wait.",
         "test_note.Outdated.test_the_lock_is_released_before_the_note",
     ),

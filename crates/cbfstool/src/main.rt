@@ -19,10 +19,12 @@ commands: print layout extract add remove read write create
 
 /// Takes the steps of a command. The note is printed after its lock is released.
 fn execute(rt: &HostRuntime, line: &Line) -> Result<(), Refusal> {
-    let mut session = Session::new(rt, line)?;
+    let mut image = None;
+    let mut session = Session::new(rt, line, &mut image)?;
     let answer = session.obey();
     let is_note_due = session.is_note_due(answer);
     drop(session);
+    drop(image);
     if is_note_due {
         let image = line.image();
         let _told = eprintln!(rt;

@@ -17,30 +17,38 @@ enum Receiver<'r> {
 }
 
 /// A command, and the files that its steps have opened.
+///
+/// The image with its buffers has 20 KiB. It stays in a place of the caller, because a session with
+/// it would be moved several times.
 #[derive(Drop)]
-pub struct Session<'r, 'w> {
+pub struct Session<'r, 'w, 'i> {
     rt: &'r HostRuntime,
     /// The path of IMAGE.
     path: &'w str,
     /// The path of FILE, if the command has one.
     file: &'w str,
     command: Command<'w>,
-    image: Option<Paged<FileFlash>>,
+    image: &'i mut Option<Paged<FileFlash>>,
     /// The flash map that a changed image had before.
     used_map: Option<FoundMap>,
     input: Option<FileSource>,
     output: Receiver<'r>,
 }
 
-impl<'r, 'w> Session<'r, 'w> {
-    /// Returns a session without open files, or the refusal of the command's arguments.
-    pub fn new(rt: &'r HostRuntime, line: &Line<'w>) -> Result<Session<'r, 'w>, Refusal> {
+impl<'r, 'w, 'i> Session<'r, 'w, 'i> {
+    /// Returns a session without open files, or the refusal of the command's arguments. It puts the
+    /// image into `image`.
+    pub fn new(
+        rt: &'r HostRuntime,
+        line: &Line<'w>,
+        image: &'i mut Option<Paged<FileFlash>>,
+    ) -> Result<Session<'r, 'w, 'i>, Refusal> {
         Ok(Session {
             rt,
             path: line.image(),
             file: line.file().unwrap_or(""),
             command: line.command()?,
-            image: None,
+            image,
             used_map: None,
             input: None,
             output: Receiver::Standard(Output::keeping(
@@ -76,7 +84,7 @@ impl<'r, 'w> Session<'r, 'w> {
 
     fn open_image(&mut self, step: Step, lock: Lock) -> Result<(), Refusal> {
         let image = FileFlash::open_with(self.rt, self.path, lock);
-        self.image = Some(Paged::new(image.map_err(|fault| step.refusal(fault))?));
+        *self.image = Some(Paged::new(image.map_err(|fault| step.refusal(fault))?));
         Ok(())
     }
 
@@ -87,7 +95,7 @@ impl<'r, 'w> Session<'r, 'w> {
     }
 
     fn make_output(&mut self, step: Step) -> Result<(), Refusal> {
-        let Some(image) = &self.image else {
+        let Some(image) = &*self.image else {
             return Err(Refusal::Device);
         };
         let file = create_output(self.rt, self.file, image.flash().identity());
@@ -101,12 +109,12 @@ impl<'r, 'w> Session<'r, 'w> {
             return Err(Refusal::Source);
         };
         let image = FileFlash::create(self.rt, self.path, create_size(input)?);
-        self.image = Some(Paged::new(image.map_err(|fault| step.refusal(fault))?));
+        *self.image = Some(Paged::new(image.map_err(|fault| step.refusal(fault))?));
         Ok(())
     }
 
     fn run(&mut self) -> Result<(), Refusal> {
-        let Some(image) = &mut self.image else {
+        let Some(image) = &mut *self.image else {
             return Err(Refusal::Device);
         };
         let (command, nothing) = (&self.command, &mut MemSource::new(&[]));
@@ -121,7 +129,7 @@ impl<'r, 'w> Session<'r, 'w> {
     }
 
     fn unlock(&self) -> Result<(), Refusal> {
-        if let Some(image) = &self.image {
+        if let Some(image) = &*self.image {
             image.flash().unlock();
         }
         Ok(())
@@ -136,7 +144,7 @@ impl<'r, 'w> Session<'r, 'w> {
     }
 
     fn store(&self) -> Result<(), Refusal> {
-        match &self.image {
+        match &*self.image {
             Some(image) => Ok(image.flash().write_back()?),
             None => Ok(()),
         }
@@ -144,7 +152,7 @@ impl<'r, 'w> Session<'r, 'w> {
 
     /// Returns whether the note on an outdated anchor is due, under the lock of the image.
     pub fn is_note_due(&mut self, answer: Result<(), Refusal>) -> bool {
-        match &mut self.image {
+        match &mut *self.image {
             Some(image) => is_note_due(image, &self.command, self.used_map, answer),
             None => false,
         }
