@@ -69,7 +69,7 @@ MUTANTS = [
     ),
     Mutant(
         "a message goes to standard output", CBFSTOOL,
-        'eprintln!(&rt; "cbfstool: {refusal}")', 'println!(&rt; "cbfstool: {refusal}")',
+        'eprintln!(rt; "cbfstool: {refusal}")', 'println!(rt; "cbfstool: {refusal}")',
         "The message is a row of the listing.",
         "test_statuses.Results.test_a_message_is_on_standard_error",
     ),
@@ -135,7 +135,7 @@ MUTANTS = [
     ),
     Mutant(
         "the output may be the image", SESSION,
-        "        let Some(image) = &self.image else {\n            return Err(Refusal::Device);\n"
+        "        let Some(image) = &*self.image else {\n            return Err(Refusal::Device);\n"
         "        };\n        let file = create_output(self.rt, self.file, "
         "image.flash().identity());\n",
         "        let other = flash_store::FileIdentity {\n            device: 0,\n"
@@ -219,7 +219,8 @@ MUTANTS = [
     ),
     Mutant(
         "a bad command line of fmaptool has status 1", FMAPTOOL,
-        "ExitCode::from(status_of(answer))", "ExitCode::from(status_of(answer).min(1))",
+        "status_of(answer.map_err(|failed| failed.failure))",
+        "status_of(answer.map_err(|failed| failed.failure)).min(1)",
         "A makefile cannot distinguish a typing error from a refused descriptor.",
         "test_statuses.Usages.test_a_bad_command_line",
     ),
