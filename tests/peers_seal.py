@@ -140,6 +140,7 @@ class Build:
         self.algorithm, self.in_area = chance.choice(list(HASHES)), chance.random() < 0.5
         self.names = []
         self.log = []
+        self.message = ""
         self.checked = 0
 
     def run(self, words):
@@ -147,6 +148,7 @@ class Build:
         self.log.append(" ".join(words))
         done = subprocess.run([JUDGE, self.image, *words], cwd=self.folder,
                               stdout=subprocess.PIPE, stderr=subprocess.PIPE)
+        self.message = done.stderr.decode(errors="replace")
         return done.returncode == 0
 
     def begin(self):
@@ -166,6 +168,10 @@ class Build:
         place = ["-b", hex(self.chance.randrange(0x1000, 0x1F000, 64))]
         return self.run(["add", "-n", "bootblock", "-t", "bootblock", "-f", "boot",
                          *(place if self.chance.random() < 0.7 else [])])
+
+    def is_place_taken(self):
+        """Returns whether the last command was refused, since the chosen offset is not free."""
+        return " -b " in self.log[-1] and "E: Could not add" in self.message
 
     def step(self, kinds):
         """Adds or removes a component, and returns whether the command was accepted."""
@@ -201,19 +207,33 @@ class Build:
         return None
 
 
-def images(chance, folder):
-    """Makes an image, checks it after each command, and returns the fault or None.
+def first_build(chance, folder):
+    """Returns a build with a bootblock, and its fault or None.
 
     Before the bootblock has its anchor, coreboot's tool gives no component a digest, so that only
-    components which another program than the firmware reads are added there.
+    components which another program than the firmware reads are added there. One of them can lie
+    where the bootblock is to be added. Coreboot's tool then refuses the bootblock, and the next
+    build is taken.
     """
-    build = Build(chance, folder)
-    if not build.begin():
-        return "the image is not created"
-    for _ in range(chance.choice([0, 0, 0, 1, 2, 3])):
-        build.step(PLAIN_TYPES)
-    if not build.add_bootblock():
-        return f"no bootblock: {build.log}"
+    for _ in range(TRIES):
+        build = Build(chance, folder)
+        if not build.begin():
+            return build, "the image is not created"
+        for _ in range(chance.choice([0, 0, 0, 1, 2, 3])):
+            build.step(PLAIN_TYPES)
+        if build.add_bootblock():
+            return build, None
+        if not build.is_place_taken():
+            break
+        SKIPPED.append(build)
+    return build, f"no bootblock: {build.log}"
+
+
+def images(chance, folder):
+    """Makes an image, checks it after each command, and returns the fault or None."""
+    build, fault = first_build(chance, folder)
+    if fault:
+        return fault
     kinds = [*PLAIN_TYPES, "int", "header", "stage", "payload", "flat"]
     for _ in range(chance.randint(1, 8)):
         if build.step(kinds):
@@ -224,6 +244,9 @@ def images(chance, folder):
     return None
 
 
+# How many builds are tried until coreboot's tool finds a place for the bootblock of one.
+TRIES = 20
+SKIPPED = []
 CHECKED = []
 PARTS = {"sequences": sequences, "images": images}
 
@@ -239,6 +262,7 @@ def main(part, count="500", seed="1"):
         print(f"{count} sequences: every sealed image is valid")
     else:
         print(f"{count} builds, {sum(CHECKED)} images: nothing is bad, and both digests are right")
+        print(f"{len(SKIPPED)} builds were skipped, since a component lay in the bootblock's place")
 
 
 if __name__ == "__main__":

@@ -5,12 +5,14 @@ files become those of a run with open descriptors. Output to a closed descriptor
 """
 
 import itertools
+import os
+import pathlib
 import unittest
 
 from tests.image import (
     SHA256, Area, Component, FreeEntry, Image, digest, flash_map, hash_attribute, join,
 )
-from tests.programs import TOP, ProgramTest, words_of
+from tests.programs import TOP, ProgramTest, locked, words_of
 from tests.texts import layout, rows
 
 CONTENT = bytes(range(256)) * 5
@@ -78,6 +80,11 @@ DOCUMENT = (
 # The status of an output fault.
 OUTPUT_FAULT = {"cbfstool": 1, "fmaptool": 1, "cbfscheck": 2}
 
+# Each set of the standard descriptors, also the empty one.
+SETS = [
+    closed for count in range(4) for closed in itertools.combinations((0, 1, 2), count)
+]
+
 
 class ClosedDescriptors(ProgramTest):
     """Each command does the same as with open descriptors, but for the output that is closed."""
@@ -120,16 +127,15 @@ class ClosedDescriptors(ProgramTest):
 
     def with_each_set(self, command, status=0, output="", message="", left=None):
         """Runs a command with each set of closed descriptors, also with none."""
-        for count in range(4):
-            for closed in itertools.combinations((0, 1, 2), count):
-                expected = status, output, message
-                if 1 in closed and output:
-                    name = words_of(command)[0]
-                    expected = OUTPUT_FAULT[name], "", f"{name}: output fault\n"
-                if 2 in closed:
-                    expected = (*expected[:2], "")
-                with self.subTest(command, closed=closed):
-                    self.check(command, FILES, *expected, left, closed=closed)
+        for closed in SETS:
+            expected = status, output, message
+            if 1 in closed and output:
+                name = words_of(command)[0]
+                expected = OUTPUT_FAULT[name], "", f"{name}: output fault\n"
+            if 2 in closed:
+                expected = (*expected[:2], "")
+            with self.subTest(command, closed=closed):
+                self.check(command, FILES, *expected, left, closed=closed)
 
     def test_commands_that_print(self):
         for command, status, output in self.printing:
@@ -142,6 +148,45 @@ class ClosedDescriptors(ProgramTest):
     def test_refusals(self):
         for command, status, message, left in self.refusals:
             self.with_each_set(command, status, message=message, left=left)
+
+
+def descriptors_in(folder, process):
+    """Returns the numbers of the descriptors with which a process has opened files of a folder."""
+    numbers = pathlib.Path(f"/proc/{process}/fd").iterdir()
+    top = f"{folder.path.resolve()}/"
+    return [int(one.name) for one in numbers if os.readlink(one).startswith(top)]
+
+
+class WaitingCommands(ProgramTest):
+    """While a command waits for the lock of its image, none of its files is a standard descriptor.
+
+    A message that is written at this time would otherwise be written into the image.
+    """
+
+    programs = ("cbfstool", "cbfscheck", "cbfsseal")
+    commands = (
+        # command, the number of its open files
+        ("cbfstool image.rom print", 1), ("cbfstool image.rom remove -n a", 1),
+        ("cbfstool image.rom create -M map", 2), ("cbfscheck image.rom", 1),
+        ("cbfsseal image.rom", 1),
+    )
+
+    def check_descriptors(self, command, count, closed):
+        """Checks the numbers of the files of a command while it waits."""
+        folder = self.folder(FILES)
+        with locked(folder.path / "image.rom"):
+            started = folder.start(command, closed=closed)
+            is_waiting = started.waits_for_lock(folder.path / "image.rom")
+            self.assertTrue(is_waiting, "does not wait for the lock")
+            numbers = descriptors_in(folder, started.process.pid)
+        started.end()
+        self.assertEqual(len(numbers), count)
+        self.assertGreater(min(numbers), 2)
+
+    def test_the_descriptors_of_the_files(self):
+        for (command, count), closed in itertools.product(self.commands, SETS):
+            with self.subTest(command, closed=closed):
+                self.check_descriptors(command, count, closed)
 
 
 class NamedDescriptors(ProgramTest):

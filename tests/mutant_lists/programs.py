@@ -427,8 +427,9 @@ MUTANTS = [
     Mutant(
         "two closed descriptors are filled", DESCRIPTORS,
         "for _ in 0..STANDARD {", "for _ in 1..STANDARD {",
-        "With three closed descriptors a message is written into the image.",
-        "test_standard_descriptors.ClosedDescriptors", ("cbfstool",), is_new=False,
+        "With three closed descriptors the image is standard error: a message under its lock would "
+        "be written into it.",
+        "test_standard_descriptors.WaitingCommands", ("cbfstool",), is_new=False,
     ),
     Mutant(
         "no null device replaces the root directory", DESCRIPTORS,
@@ -441,7 +442,8 @@ MUTANTS = [
     Mutant(
         "standard error is no standard descriptor", DESCRIPTORS,
         "const STANDARD: i32 = 3;", "const STANDARD: i32 = 2;",
-        "With a closed standard error a message is written into the image.",
-        "test_standard_descriptors.ClosedDescriptors", ("cbfstool",),
+        "With a closed standard error the image takes its place: a message under its lock would be "
+        "written into it.",
+        "test_standard_descriptors.WaitingCommands", ("cbfstool",),
     ),
 ]

@@ -75,7 +75,7 @@ MUTANTS = [
        "\nSECONDS = 10\n", "\nSECONDS = 100\n", "A check may take minutes.",
        "test_documents.Limits.test_each_limit"),
     of("tests/test_standard_descriptors.py", "one closed descriptor is tried",
-       "for count in range(4):", "for count in range(2):",
+       "for count in range(4)", "for count in range(2)",
        "With two closed descriptors a message may be written into the image.",
        "counts test_standard_descriptors", is_new=False),
     of("checks/completion", "a line of the completions is deleted",
