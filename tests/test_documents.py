@@ -689,7 +689,7 @@ class Procedures(unittest.TestCase):
         titles = [re.match(r"\.Em (.*?)( [.,:])?\n", item)[1] for item in items]
         self.assertEqual(titles, self.TITLES)
         commands = [re.findall(r"^\.Dl (.*)$", item, re.MULTILINE) for item in items]
-        self.assertEqual([len(found) for found in commands], [1, 1, 0, 2, 1, 1, 1, 0])
+        self.assertEqual([len(found) for found in commands], [1, 1, 2, 2, 1, 1, 1, 0])
         for (_, title, shown), found in zip(listed, commands):
             for command in found:
                 self.assertIn(f"`{command}`", shown, title)
@@ -700,6 +700,18 @@ class Procedures(unittest.TestCase):
         for command in ["flashrom -p internal --ifd -i bios -r backup.rom", "--ifd -i bios -N"]:
             self.assertIn(f"`{command}`", text)
             self.assertIn(f".Ql {command} .", page)
+
+    # What flashrom may write without flash-checked: the content of a chip, and a part of an image.
+    WRITTEN = {"chip.rom", "backup.rom", "second.new"}
+
+    def test_no_example_writes_an_unchecked_image(self):
+        """flashrom alone would write a complete image over the flash descriptor of a chip."""
+        for name in [README, CHECK, TOOL, "docs/MOVING.md", "dist/README.md"]:
+            text = words_of_document(name).replace("\\-", "-")
+            pattern = r"(Never use (?:`|\.Ql ))?flashrom (?:-p \S+ )?-w ?([\w.]*)"
+            for warning, written in re.findall(pattern, text):
+                if not warning:
+                    self.assertIn(written, self.WRITTEN, name)
 
     def test_the_steps_of_the_script(self):
         """The script and the recipes name the steps by their numbers."""
