@@ -9,8 +9,8 @@ ghost use Rattle.board_structures.specs.Filling.{page_reads};
 use crate::filling::each_byte_is;
 use crate::magic::has_magic_at;
 use byteorder::{ByteOrder, LittleEndian};
-use flash_device::{Flash, FlashFault, PIECE, Paged};
-use flash_map::{FoundMap, Region, area_named};
+use flash_device::{Flash, FlashFault, PIECE, Paged, Region};
+use flash_map::{FoundMap, area_named};
 
 const SIGNATURE: [u8; 4] = [0x5a, 0xa5, 0xf0, 0x0f];
 

@@ -4,8 +4,7 @@ ghost use Rattle.flash_device.specs.Pages.{HasAnswered, ReadsAs};
 ghost use Rattle.flash_device.specs.Regions.{LiesOn};
 ghost use Rattle.board_structures.specs.Filling.{each_byte_is, page_reads};
 
-use flash_device::{Flash, FlashFault, PIECE, Paged};
-use flash_map::Region;
+use flash_device::{Flash, FlashFault, PIECE, Paged, Region};
 
 /// Returns whether each byte has this value.
 pub fn are_all(bytes: &[u8], byte: u8) -> bool

@@ -6,8 +6,7 @@ ghost use Rattle.board_structures.specs.MasterHeaders.{alignment_fault, end_faul
 
 use crate::magic::has_magic_at;
 use byteorder::{BigEndian, ByteOrder, LittleEndian};
-use flash_device::{Flash, FlashFault, Paged};
-use flash_map::Region;
+use flash_device::{Flash, FlashFault, Paged, Region};
 
 const MAGIC: [u8; 4] = *b"ORBC";
 

@@ -7,8 +7,7 @@ ghost use Rattle.board_structures.specs.PartitionTables.{is_bad, partition_table
 
 use crate::filling::each_byte_is;
 use crate::magic::has_magic_at;
-use flash_device::{Flash, FlashFault, PIECE, Paged};
-use flash_map::Region;
+use flash_device::{Flash, FlashFault, PIECE, Paged, Region};
 
 const MARKER: [u8; 4] = *b"$FPT";
 

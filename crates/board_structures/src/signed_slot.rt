@@ -9,8 +9,7 @@ use crate::filling::each_byte_is;
 use crate::magic::has_magic_at;
 use crate::packed_key::{KeyFault, PackedKey};
 use byteorder::{ByteOrder, LittleEndian};
-use flash_device::{Flash, FlashFault, PIECE, Paged};
-use flash_map::Region;
+use flash_device::{Flash, FlashFault, PIECE, Paged, Region};
 use sha2::{Digest, Sha512};
 
 const MAGIC: [u8; 8] = *b"CHROMEOS";

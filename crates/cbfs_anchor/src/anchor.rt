@@ -10,8 +10,7 @@ ghost use Rattle.cbfs_anchor.specs.Layout.{magic, anchor_in, anchor_len, has_hea
 use crate::algorithm::Algorithm;
 use crate::fault::SealFault;
 use cbfs_walk::{piece_in, read_in};
-use flash_device::{Flash, FlashFault, Paged};
-use flash_map::Region;
+use flash_device::{Flash, FlashFault, Paged, Region};
 use memchr::memmem;
 
 /// The first bytes of an anchor.

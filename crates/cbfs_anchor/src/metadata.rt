@@ -17,9 +17,8 @@ use crate::hasher::Hasher;
 use cbfs_walk::{
     Cell, Step, Walk, cells_stand_in_their_image, first_attribute, name_end, piece_in, value_at,
 };
-use flash_device::{Flash, FlashFault, Paged};
+use flash_device::{Flash, FlashFault, Paged, Region};
 use flash_format::AttrHead;
-use flash_map::Region;
 
 /// Bytes per read. Ordered reads of up to 256 bytes cost one device call per window.
 const READ_AT_ONCE: u64 = 256;

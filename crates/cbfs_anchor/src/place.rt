@@ -8,8 +8,8 @@ ghost use Rattle.cbfs_anchor.specs.Places.{area_range, component_place, place_by
 
 use crate::fault::SealFault;
 use cbfs_walk::{cells_stand_in_their_image, find};
-use flash_device::{Flash, Paged};
-use flash_map::{FoundMap, Region, area_named, find_fmap, region_of_area};
+use flash_device::{Flash, Paged, Region};
+use flash_map::{FoundMap, area_named, find_fmap, region_of_area};
 
 const BOOTBLOCK: u32 = 1;
 

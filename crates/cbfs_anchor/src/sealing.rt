@@ -15,9 +15,8 @@ use crate::metadata::{hash_metadata, hash_range};
 use crate::place::{Place, find_place, is_misplaced};
 use crate::report::{Report, report_of};
 use arrayvec::ArrayVec;
-use flash_device::{Flash, FlashFault, MemSource, Paged, Unwatched};
+use flash_device::{Flash, FlashFault, MemSource, Paged, Region, Unwatched};
 use flash_format::push_text;
-use flash_map::Region;
 
 /// Returns why an anchor's digests can't be written.
 fn writing_fault<F: Flash>(

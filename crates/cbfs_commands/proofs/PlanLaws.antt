@@ -13,7 +13,7 @@ use Rattle.std.proofs.lemmas.List.Kept.{AllPairs-cons}
 use Rattle.flash_format.specs.declared.flashmap.FmapHead.{FmapHead}
 use Rattle.flash_format.specs.declared.flashmap.Area.{Area}
 use Rattle.flash_format.specs.Flashmap.{areas_from, fmap_head_len, is_map, map_len}
-use Rattle.flash_map.specs.Fmap.{map_head}
+use Rattle.flash_map.specs.Fmap.{first_area, map_head}
 use Rattle.flash_device.specs.Laws.{LieApart}
 use Rattle.flash_device.specs.Regions.{Range}
 use Rattle.flash_map.specs.Regions.{region_by_area}
@@ -21,7 +21,7 @@ use Rattle.flash_map.proofs.FmapLemmas.{head_some, valid_fits}
 use Rattle.cbfs_commands.specs.declared.create.plan.Plan.{Plan}
 use Rattle.cbfs_requests.specs.declared.refusal.Refusal.{Refusal}
 use Rattle.cbfs_requests.specs.declared.refusal.Refusal.TheVariants as refusals
-use Rattle.cbfs_commands.specs.Creations.{IsPlace, first_area, head_for, map_place, share_bytes, plan_for, region_places, some_overlap}
+use Rattle.cbfs_commands.specs.Creations.{IsPlace, head_for, map_place, share_bytes, plan_for, region_places, some_overlap}
 use Rattle.cbfs_requests.specs.Requests.{fault_or, store_refusal}
 use Rattle.cbfs_commands.proofs.RegionPlaces.{inside_lies}
 

@@ -9,7 +9,7 @@ use Rattle.flash_format.specs.declared.flashmap.Area.{Area}
 use Rattle.flash_format.specs.Flashmap.{area_of, areas_from, is_area}
 use Rattle.flash_device.specs.Regions.{Range}
 use Rattle.cbfs_requests.specs.declared.refusal.Refusal.{Refusal}
-use Rattle.cbfs_commands.specs.Creations.{first_area}
+use Rattle.flash_map.specs.Fmap.{first_area}
 
 -- ---- the area of each name
 

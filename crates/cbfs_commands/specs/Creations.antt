@@ -2,15 +2,15 @@
 use Rattle.std.specs.Prelude.{◌≡◌, ℕ, ◌+◌, ◌≤◌, Bool, false, ◌&&◌, ◌||◌, List, [], ◌∷◌}
 use Rattle.std.specs.Prelude.{take, map, drop, fold, replicate, nat_lt, Option, Result, Ok, Err, ◌==◌}
 use Rattle.std.specs.Prelude.{IsErrOf, ◌⊎◌, if◌then◌else◌}
-use Rattle.std.specs.List.{find, list_any}
+use Rattle.std.specs.List.{list_any}
 use Rattle.std.specs.Option.{ok_or}
 use lib.Chars.{codes}
 use Rattle.flash_format.specs.declared.flashmap.Area.{Area}
 use Rattle.flash_format.specs.declared.flashmap.FmapHead.{FmapHead}
-use Rattle.flash_format.specs.Flashmap.{fmap_head_len, map_len, areas_from, is_area}
+use Rattle.flash_format.specs.Flashmap.{fmap_head_len, map_len, areas_from}
 use Rattle.flash_device.specs.Device.{Device, Reads, fault_count, overwritten}
 use Rattle.flash_device.specs.Pages.{OnHonest}
-use Rattle.flash_map.specs.Fmap.{map_head}
+use Rattle.flash_map.specs.Fmap.{first_area, map_head}
 use Rattle.flash_device.specs.Laws.{with_edit}
 use Rattle.flash_device.specs.Regions.{Range}
 use Rattle.flash_map.specs.Regions.{region_by_area}
@@ -28,11 +28,6 @@ pub record AnswersBySource {S T : Type 0} (facts : S → Device) (n : ℕ) (sour
   pub no_other : IsErrOf result refusals.Device ⊎ IsErrOf result refusals.Output → ⊥
   pub answer : OnHonest (facts source)
       (λ content. IsErrOf result refusals.Source ⊎ (result ≡ tell content))
-
--- ---- the flashmap
-
-abbrev pub first_area : List Area → List ℕ → Option Area
-first_area areas name = find (is_area name) areas
 
 -- ---- the places
 

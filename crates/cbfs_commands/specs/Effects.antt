@@ -13,11 +13,12 @@ use Rattle.cbfs_edit.specs.Additions.{NewComponent, added, addition_in, new_comp
 use Rattle.cbfs_edit.specs.Removals.{removal_in, removed}
 use Rattle.cbfs_edit.specs.Changes.{AddLeavesBefore, AddLeavesWhole, LeavesWhole}
 use Rattle.cbfs_edit.specs.declared.place.Spot.{Spot}
+use Rattle.cbfs_requests.specs.declared.command.Command.{Command}
 use Rattle.cbfs_requests.specs.declared.refusal.Refusal.{Refusal}
 use Rattle.cbfs_requests.specs.declared.refusal.Refusal.TheVariants as refusals
 use Rattle.cbfs_requests.specs.Requests.{IsFault, Request, add, by_device, by_source, create}
 use Rattle.cbfs_requests.specs.Requests.{edit_refusal, extract, fault_or, layout, on_region, print}
-use Rattle.cbfs_requests.specs.Requests.{read, remove, store_refusal, write}
+use Rattle.cbfs_requests.specs.Requests.{read, remove, request_of, store_refusal, write}
 use Rattle.cbfs_commands.specs.Creations.{created_image, plan_for}
 use Rattle.cbfs_commands.specs.Outcomes as outcomes
 use Rattle.cbfs_commands.specs.Outcomes.{Outcome, print_region, extract_region, printed_in}
@@ -146,6 +147,9 @@ effect (on_region region (add name kind hash spot)) =
     region_effect region (adding (new_component name kind hash) spot)
 effect (on_region region (remove name)) = region_effect region (removing name)
 effect (create names) = creation_effect names
+
+abbrev pub effect_of : Command → Effect
+effect_of command = effect (request_of command)
 
 -- ---- the meaning
 

@@ -3,7 +3,7 @@
 ghost use Rattle.std.specs.Prelude.{◌≡◌, ◌<◌, ◌≤◌, Ok, true, false, IsErrOf};
 ghost use Rattle.flash_device.specs.Pages.{OnHonest};
 ghost use Rattle.flash_map.specs.Fmap.{found_in};
-ghost use Rattle.cbfs_commands.specs.Effects.{HasEffect, OnAllHonest, effect};
+ghost use Rattle.cbfs_commands.specs.Effects.{HasEffect, OnAllHonest, effect_of};
 ghost use Rattle.cbfs_requests.specs.Requests.{request_of};
 ghost use Rattle.cbfs_commands.specs.Notes.{may_outdate};
 ghost use Rattle.cbfs_commands.specs.Outcomes.{PrintsOut};
@@ -29,20 +29,21 @@ pub fn run_with_map<F: Flash, S: Source, W: Sink>(
     out: &mut W,
     used: &mut Option<FoundMap>,
 ) -> Result<(), Refusal>
-    ensures effect { HasEffect (effect (request_of command.now)) paged.old.device paged.new.device
+    ensures effect { HasEffect (effect_of command.now) paged.old.device paged.new.device
         (S.facts source.old) (S.facts source.new) result }
-    ensures unread { (effect (request_of command.now)).source_calls (S.facts source.old) ≡ 0
+    ensures unread { (effect_of command.now).source_calls (S.facts source.old) ≡ 0
         → source.new ≡ source.old }
 
     // For any sink.
     ensures faults { W.faults out.old ≤ W.faults out.new }
     ensures output { IsErrOf result Refusal.Output → W.faults out.old < W.faults out.new }
-    ensures unwritten { (effect (request_of command.now)).prints ≡ false → out.new ≡ out.old }
+    ensures unwritten { (effect_of command.now).prints ≡ false → out.new ≡ out.old }
 
     // The answer and output of the outcome, or a part after a fault.
-    ensures outcome { OnAllHonest (effect (request_of command.now)) paged.old.device
-        (S.facts source.old) (λ image content. PrintsOut (W.contents out.old) (W.contents out.new)
-        result ((effect (request_of command.now)).outcome image content).printout) }
+    ensures outcome { let effect = effect_of command.now in
+        OnAllHonest effect paged.old.device (S.facts source.old) (λ image content.
+        PrintsOut (W.contents out.old) (W.contents out.new) result
+        (effect.outcome image content).printout) }
 
     // The flash map of an honest device before a change.
     ensures used { OnHonest paged.old.device (λ image.
@@ -83,20 +84,21 @@ pub fn run<F: Flash, S: Source, W: Sink>(
     source: &mut S,
     out: &mut W,
 ) -> Result<(), Refusal>
-    ensures effect { HasEffect (effect (request_of command.now)) paged.old.device paged.new.device
+    ensures effect { HasEffect (effect_of command.now) paged.old.device paged.new.device
         (S.facts source.old) (S.facts source.new) result }
-    ensures unread { (effect (request_of command.now)).source_calls (S.facts source.old) ≡ 0
+    ensures unread { (effect_of command.now).source_calls (S.facts source.old) ≡ 0
         → source.new ≡ source.old }
 
     // For any sink.
     ensures faults { W.faults out.old ≤ W.faults out.new }
     ensures output { IsErrOf result Refusal.Output → W.faults out.old < W.faults out.new }
-    ensures unwritten { (effect (request_of command.now)).prints ≡ false → out.new ≡ out.old }
+    ensures unwritten { (effect_of command.now).prints ≡ false → out.new ≡ out.old }
 
     // The answer and output of the outcome, or a part after a fault.
-    ensures outcome { OnAllHonest (effect (request_of command.now)) paged.old.device
-        (S.facts source.old) (λ image content. PrintsOut (W.contents out.old) (W.contents out.new)
-        result ((effect (request_of command.now)).outcome image content).printout) }
+    ensures outcome { let effect = effect_of command.now in
+        OnAllHonest effect paged.old.device (S.facts source.old) (λ image content.
+        PrintsOut (W.contents out.old) (W.contents out.new) result
+        (effect.outcome image content).printout) }
 {
     run_with_map(paged, command, source, out, &mut None)
 }

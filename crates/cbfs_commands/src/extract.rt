@@ -12,8 +12,7 @@ ghost use Rattle.flash_device.specs.Device.{call_limit};
 use crate::read::copy_out;
 use cbfs_requests::Refusal;
 use cbfs_walk::{Cell, cells_stand_in_their_image, find, packing};
-use flash_device::{Flash, Paged, Sink};
-use flash_map::Region;
+use flash_device::{Flash, Paged, Region, Sink};
 
 fn extract_component<F: Flash, W: Sink>(
     paged: &mut Paged<F>,

@@ -5,8 +5,8 @@ ghost use Rattle.flash_device.specs.Regions.{LiesOn};
 ghost use Rattle.flash_map.specs.Fmap.{found_in, map_reads};
 ghost use Rattle.flash_map.specs.Regions.{by_device, region_of};
 
-use flash_device::{Flash, Paged};
-use flash_map::{FoundMap, Region, StoreFault, area_named, find_fmap, region_of_area};
+use flash_device::{Flash, Paged, Region};
+use flash_map::{FoundMap, StoreFault, area_named, find_fmap, region_of_area};
 
 /// Returns the region of the first area with the name, like `region` of flash_map, and stores the
 /// flash map in `used`.

@@ -1,5 +1,6 @@
 -- Formatting.
-use Rattle.std.proofs.Common.{◌≡◌, ◌⊎◌, inl, inr, ℕ, ◌+◌, ◌-◌, ◌%◌, ◌^◌, ◌<◌, ◌≤◌, Bool, true, Some, List, [], ◌∷◌, ◌++◌, length, drop, sym, ◌∙◌, ap, refl, arith, length-append}
+use Rattle.std.proofs.lemmas.Grind.{common_steps}
+use Rattle.std.proofs.Common.{◌≡◌, ◌≢◌, false, ◌⊎◌, inl, inr, ℕ, ◌+◌, ◌-◌, ◌%◌, ◌^◌, ◌<◌, ◌≤◌, Bool, true, Some, List, [], ◌∷◌, ◌++◌, length, drop, sym, ◌∙◌, ap, refl, arith, length-append}
 use Rattle.std.specs.Prelude.{◌==◌}
 use Rattle.std.proofs.lemmas.List.{append-nil, drop_all}
 use Rattle.std.proofs.lemmas.Bool.{eq-eqb}
@@ -13,6 +14,8 @@ use Rattle.flash_format.proofs.EmptyEntryLaws.{empty_header-cell, length-empty_h
 use Rattle.flash_format.proofs.MadeLaws.{length-padding}
 use Rattle.flash_device.specs.Device.{overwritten}
 use Rattle.flash_device.proofs.BytesLemmas.{further}
+use Rattle.cbfs_walk.specs.Shapes.{has_bad_size}
+use Rattle.cbfs_walk.proofs.StepResults.{good_size as whole_size}
 use Rattle.cbfs_edit.specs.Removals.{IsCellRange, removed, last_four, space_end}
 use Rattle.cbfs_edit.specs.Changes.{formatted, IsOneFreeCell}
 use Rattle.cbfs_edit.specs.declared.group.CellRange.{CellRange}
@@ -53,6 +56,13 @@ format_done x y size long some is =
     omega (arith, length-append (empty_header (length x) true) space, length-empty_header (length x) true, length-padding (length x - header_length) (Some (last_four x)) (length-last_four x (omega arith))) in
     let all : length x - 0 ≡ length x = omega arith in
     is ∙ rw (← long, all, eq-eqb (length x) (length x) refl) (overwritten-whole x (formatted x) wide)
+
+-- a size that a region can have
+pub good_size : (size : ℕ) → false ≡ has_bad_size size → (64 ≤ size) × (size % 64 ≡ 0)
+good_size size good =
+    let whole = whole_size size good in
+    let some : size ≢ 0 = grind (arith, common_steps) in
+    (omega (arith, whole, some), whole)
 
 -- a stop at a write
 pub format_stopped : (x y : List ℕ) (size told : ℕ) → length x ≡ size → told ≡ size → 64 ≤ size → size % 64 ≡ 0 → size < 2 ^ 32 → IsOldOrEmptied (whole_range size) (space_end told size) x y → ((y ≡ x) ⊎ IsOneFreeCell y) × (last_four y ≡ last_four x)

@@ -9,7 +9,7 @@ use Rattle.flash_device.specs.declared.paged.CopyInFault.TheVariants as copies
 use Rattle.flash_format.specs.Made.{header_length, empty_header, empty_entry}
 use Rattle.flash_format.specs.Cut.{cut, complete}
 use Rattle.flash_format.specs.Components.{components}
-use Rattle.cbfs_edit.specs.Removals.{removed, removal_in, last_four}
+use Rattle.cbfs_edit.specs.Removals.{removed, removal_in, last_four, space_end}
 use Rattle.cbfs_edit.specs.Additions.{NewComponent, addition_in, added, new_component}
 use Rattle.cbfs_edit.specs.declared.fault.EditFault.{EditFault}
 use Rattle.cbfs_edit.specs.declared.fault.EditFault.TheVariants as faults
@@ -17,6 +17,7 @@ use Rattle.cbfs_edit.specs.declared.group.CellRange.{CellRange}
 use Rattle.cbfs_edit.specs.declared.addition.Placed.{Placed}
 use Rattle.cbfs_edit.specs.declared.place.Spot.{Spot}
 use Rattle.cbfs_edit.specs.declared.place.Place.{Place}
+use Rattle.cbfs_edit.specs.declared.place.Wanted.{Wanted}
 use Rattle.flash_format.specs.Head.{head_of, is_free}
 use Rattle.cbfs_edit.specs.declared.edit.Edit.{Edit}
 use Rattle.cbfs_edit.specs.declared.edit.Edit.TheVariants.{Add, Remove}
@@ -59,6 +60,24 @@ pub record IsEmptied (group : CellRange) (to : ℕ) (x y : List ℕ) : Type 0 wh
   pub same_length : length y ≡ length x
   pub same : SameOutside (group.start + header_length) (to - (group.start + header_length))
       (overwritten x group.start (empty_header (group.end - group.start) (group.end == length x))) y
+
+-- ---- the end of an addition
+
+-- the region before the last commit: the run is emptied, and then the content is written
+abbrev pub before_last_commit : List ℕ → Place → List ℕ → List ℕ
+before_last_commit x place content = overwritten (removed x place.run) place.content content
+
+-- the end of the bytes that an addition can write before its last commit
+abbrev pub written_to : Wanted → ℕ → Place → ℕ
+written_to wanted size place = max (place.content + wanted.len) (space_end size place.run.end)
+
+-- A success shows the component at its place. After a fault the component is shown, or its run is
+-- emptied, with arbitrary bytes up to `to`.
+abbrev pub Shows : {T E : Type 0} → NewComponent → Place → ℕ → Result T E → List ℕ → List ℕ → Type 0
+Shows new place to result x y = OnOk result (y ≡ added x new place)
+    × ((y ≡ added x new place) ⊎ IsEmptied place.run to x y)
+
+-- ---- after a stop
 
 -- with offsets, bytes and the same end
 pub record SameCells (x y : List ℕ) : Type 0 where

@@ -1,8 +1,6 @@
 //! The addition of a component.
 ghost use Rattle.std.specs.Prelude.{ℕ, List, ◌≡◌, ◌+◌, ◌/◌, ◌<◌, ◌≤◌, length, Err};
 ghost use Rattle.std.specs.Prelude.{IsTrue, IfOk, IfSome};
-ghost use Rattle.std.specs.List.{list_any};
-ghost use Rattle.flash_format.specs.Entry.{is_nul};
 ghost use Rattle.flash_format.specs.Made.{hash_len};
 ghost use Rattle.flash_device.specs.Device.{Reads, fault_count};
 ghost use Rattle.flash_device.specs.Pages.{HasChanged, HasCopiedIn, OnHonest, Returns, as_copy};
@@ -16,9 +14,8 @@ use crate::hashing::Hashing;
 use crate::insertion::describe;
 use crate::place::{Spot, Wanted, find_place};
 use crate::region_writes::write_empty_entry;
-use flash_device::{CopyInFault, Flash, Paged, Source, Unwatched};
-use flash_format::{Algorithm, Digest, meta_len};
-use flash_map::Region;
+use flash_device::{CopyInFault, Flash, Paged, Region, Source, Unwatched};
+use flash_format::{Algorithm, Digest, has_nul, meta_len};
 use sha2::{Sha256, Sha512};
 
 /// The digest to store.
@@ -145,12 +142,6 @@ fn argument_fault(name: &[u8], kind: u32, spot: Spot) -> Option<EditFault>
         Spot::Aligned(0) => Some(EditFault::BadAlign),
         Spot::Aligned(_) | Spot::First | Spot::Fixed(_) => None,
     }
-}
-
-fn has_nul(name: &[u8]) -> bool
-    ensures { result ≡ list_any is_nul name.now }
-{
-    name.iter().any(|byte| *byte == 0)
 }
 
 fn attribute_len(hash: HashChoice) -> usize

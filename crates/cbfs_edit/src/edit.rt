@@ -10,8 +10,7 @@ use crate::fault::EditFault;
 use crate::group::Freed;
 use crate::place::Spot;
 use crate::removal::remove;
-use flash_device::{Flash, Paged, Source};
-use flash_map::Region;
+use flash_device::{Flash, Paged, Region, Source};
 
 /// An edit of a region.
 #[derive(Drop)]

@@ -12,11 +12,12 @@ ghost use Rattle.cbfs_edit.specs.Removals.{last_four};
 use crate::fault::EditFault;
 use crate::group::CellRange;
 use crate::region_writes::write_empty_entry;
-use flash_device::{Flash, Paged};
-use flash_map::Region;
+use cbfs_walk::has_bad_size;
+use flash_device::{Flash, Paged, Region};
 
 /// Formats the region as a single empty entry, without reading, and keeps its last four bytes. A
 /// device fault leaves the region unchanged, or a single free cell.
+#[tactic(auto, using(crate::proofs::FormatLemmas::good_size))]
 pub fn format<F: Flash>(paged: &mut Paged<F>, region: Region) -> Result<(), EditFault>
     requires { LiesOn region paged.old.device }
 
@@ -34,7 +35,7 @@ pub fn format<F: Flash>(paged: &mut Paged<F>, region: Region) -> Result<(), Edit
         ((y ≡ x) ⊎ IsOneFreeCell y) × (last_four y ≡ last_four x)) }
 {
     let end = region.size();
-    if end == 0 || end % 64 != 0 {
+    if has_bad_size(end) {
         return Err(EditFault::RegionShape);
     }
     write_empty_entry(paged, region, CellRange { start: 0, end })?;

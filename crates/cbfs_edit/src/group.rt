@@ -9,8 +9,7 @@ ghost use Rattle.cbfs_edit.specs.Searches.{group_by, HasSearched, IsBefore};
 
 use crate::fault::EditFault;
 use cbfs_walk::{Cell, Step, Walk, cells_stand_in_their_image, name_is};
-use flash_device::{Flash, FlashFault, Paged};
-use flash_map::Region;
+use flash_device::{Flash, FlashFault, Paged, Region};
 
 /// Adjacent cells. Both offsets are relative to the region's start, and multiples of 64.
 #[derive(Clone, Copy, Debug, PartialEq, Eq)]

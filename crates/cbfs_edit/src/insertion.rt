@@ -3,21 +3,21 @@
 //! The first commit covers the run with the header of an empty entry, and the last commit shows the
 //! component. Bytes written between the commits are free space.
 ghost use Rattle.std.specs.Prelude.{◌≡◌, ◌⊎◌, ◌+◌, ◌-◌, ◌<◌, ◌≤◌, ◌==◌, if◌then◌else◌, List, ℕ};
-ghost use Rattle.std.specs.Prelude.{length, max, OnOk};
+ghost use Rattle.std.specs.Prelude.{length};
 ghost use Rattle.flash_device.specs.Device.{SameOutside, overwritten, refusals};
 ghost use Rattle.flash_device.specs.Pages.{HasChanged, OnHonestIn};
 ghost use Rattle.flash_device.specs.Regions.{LiesOn, Reaches, bytes_in};
 ghost use Rattle.flash_format.specs.Made.{empty_header, hash_len, header_length, meta_length};
-ghost use Rattle.cbfs_edit.specs.Additions.{NewComponent, added};
-ghost use Rattle.cbfs_edit.specs.Changes.{HasWrittenIn, IsEmptied};
+ghost use Rattle.cbfs_edit.specs.Additions.{described};
+ghost use Rattle.cbfs_edit.specs.Changes.{HasWrittenIn, Shows, before_last_commit, written_to};
 ghost use Rattle.cbfs_edit.specs.Places.{Fits};
-ghost use Rattle.cbfs_edit.specs.Removals.{removed, space_end};
 
 use crate::place::{Place, Wanted};
 use crate::region_writes::{commit_in, write_in};
-use flash_device::{Flash, FlashFault, Paged};
-use flash_format::{Digest, HEADER_LENGTH, LONGEST_METADATA, Meta, empty_header, write_meta};
-use flash_map::Region;
+use flash_device::{Flash, FlashFault, Paged, Region};
+use flash_format::{
+    Digest, HEADER_LENGTH, LONGEST_METADATA, Meta, empty_header, round64, write_meta,
+};
 
 /// Returns the number of metadata bytes in the last commit.
 fn held_back(place: Place) -> usize
@@ -51,8 +51,8 @@ fn write_bound<F: Flash>(
     write_in(paged, region, start, &header)
 }
 
-/// Writes the metadata of existing content and the header of the following empty entry. The last
-/// commit shows the component.
+/// Writes the metadata of a component whose content is written, and the header of the following
+/// empty entry. The last commit shows the component.
 pub fn describe<F: Flash>(
     paged: &mut Paged<F>,
     region: Region,
@@ -70,13 +70,12 @@ pub fn describe<F: Flash>(
     ensures after { HasChanged region 3 (refusals result) paged.old paged.new }
     ensures shown { OnHonestIn paged.old.device region (λ y. (x content : List ℕ)
         → length x ≡ region.size → length content ≡ wanted.len
-        → y ≡ overwritten (removed x place.run) place.content content
-        → let z = bytes_in region paged.new.device.content in let new : NewComponent =
-        record { name = name.now; kind = kind; digest = digest.now; content = content } in
-        OnOk result (z ≡ added x new place) × ((z ≡ added x new place) ⊎ IsEmptied place.run
-        (max (place.content + wanted.len) (space_end region.size place.run.end)) x z)) }
+        → y ≡ before_last_commit x place content
+        → Shows (described name.now kind digest.now content) place
+        (written_to wanted region.size place) result x
+        (bytes_in region paged.new.device.content)) }
 {
-    let end = (place.content + u64::from(wanted.len) + 63) / 64 * 64;
+    let end = round64(place.content + u64::from(wanted.len));
     let meta = Meta {
         name,
         kind,

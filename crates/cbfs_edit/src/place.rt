@@ -16,8 +16,7 @@ use crate::fault::EditFault;
 use crate::group::CellRange;
 use crate::region_writes::space_end;
 use cbfs_walk::{Cell, Step, Walk, cells_stand_in_their_image, name_is};
-use flash_device::{Flash, FlashFault, Paged};
-use flash_map::Region;
+use flash_device::{Flash, FlashFault, Paged, Region};
 
 /// The allowed start of a component's content, relative to the region's start. The search takes the
 /// first free space with room at an allowed place, and the least such place in it.

@@ -7,9 +7,8 @@ ghost use Rattle.cbfs_edit.specs.Changes.{HasWrittenIn, IsEmptied};
 ghost use Rattle.cbfs_edit.specs.Removals.{IsCellRange, removed, space_end};
 
 use crate::group::CellRange;
-use flash_device::{Flash, FlashFault, MemSource, Paged, Unwatched};
+use flash_device::{Flash, FlashFault, MemSource, Paged, Region, Unwatched};
 use flash_format::{HEADER_LENGTH, empty_header};
-use flash_map::Region;
 
 /// Replaces a header atomically.
 pub fn commit_in<F: Flash>(

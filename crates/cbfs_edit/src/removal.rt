@@ -8,8 +8,7 @@ ghost use Rattle.cbfs_edit.specs.Changes.{IsRemoval, by_device};
 use crate::fault::EditFault;
 use crate::group::{Freed, find_group};
 use crate::region_writes::write_empty_entry;
-use flash_device::{Flash, Paged};
-use flash_map::Region;
+use flash_device::{Flash, Paged, Region};
 
 /// Replaces the first component with the name, and all adjacent free space, with a single empty
 /// entry, and returns its range. The region's last four bytes and all bytes after the last entry

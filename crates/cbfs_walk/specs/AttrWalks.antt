@@ -1,5 +1,6 @@
 -- Attribute lists.
-use Rattle.std.specs.Prelude.{ℕ, ◌+◌, ◌≤◌, ◌≡◌, false, List, length, slice_range, Option, Some, None, Result, Ok, Err, zero, suc, pred, [], ◌∷◌, ⊤, ◌||◌, if◌then◌else◌}
+use Rattle.std.specs.Prelude.{ℕ, ◌+◌, ◌≤◌, ◌≡◌, false, List, slice_get, drop, length, slice_range, Option, Some, None, Result, Ok, Err, zero, suc, pred, [], ◌∷◌, ⊤, ◌||◌, if◌then◌else◌}
+use Rattle.std.specs.Option.{option_map}
 use Rattle.flash_format.specs.declared.attribute.AttrHead.{AttrHead}
 use Rattle.flash_format.specs.Entry.{Attribute, attribute, attributes, is_unused, least_len, attr_head_of, ends_list, has_bad_len}
 use Rattle.flash_device.specs.declared.flash.FlashFault.{FlashFault}
@@ -28,6 +29,11 @@ attributes_left x w = attributes (slice_range x (w.cell.at + w.at) (content_star
 -- the length includes the head's eight bytes
 abbrev pub head_of_attribute : Attribute → AttrHead
 head_of_attribute a = record { tag = a.tag; len = 8 + length a.contents }
+
+-- if these well-formed attributes are left, the head of the first is found, and the others are left
+abbrev pub GivesNext : Option (List Attribute) → Option (List Attribute) → Option AttrHead → Type 0
+GivesNext left left_now found = (all : List Attribute) → left ≡ Some all
+    → (found ≡ option_map head_of_attribute (slice_get all 0)) × (left_now ≡ Some (drop 1 all))
 
 -- what a list begins with
 abbrev pub next_attribute : List ℕ → Listed

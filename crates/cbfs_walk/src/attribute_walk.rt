@@ -1,14 +1,14 @@
 //! Attributes of components.
-ghost use Rattle.std.specs.Prelude.{◌≡◌, ℕ, ◌+◌, ◌-◌, ◌/◌, ◌<◌, ◌≤◌, min, false, List, slice_range, slice_get, drop, IfOk, Some, None, is_some};
+ghost use Rattle.std.specs.Prelude.{◌≡◌, ℕ, ◌+◌, ◌-◌, ◌/◌, ◌<◌, ◌≤◌, min, false, List, slice_range, IfOk, Some, None, is_some};
 ghost use Rattle.std.specs.Option.{option_map};
 ghost use Rattle.flash_format.specs.Head.{is_free, be32};
-ghost use Rattle.flash_format.specs.Entry.{Attribute, attributes, data_of, name_end};
+ghost use Rattle.flash_format.specs.Entry.{attributes, data_of, name_end};
 ghost use Rattle.flash_format.specs.Components.{cell_attributes, packing};
 ghost use Rattle.flash_device.specs.Pages.{HasAnswered, OnHonestIn, ReadsAs, IfFound};
 ghost use Rattle.flash_device.specs.Regions.{Reaches};
 ghost use Rattle.cbfs_walk.specs.Walks.{Passes, ReadsIn, reads_over, StandsIn, ReadsCellAs};
 ghost use Rattle.cbfs_walk.specs.Cells.{IsCellOn, IsComponentIn, attributes_start, content_start, cell_in};
-ghost use Rattle.cbfs_walk.specs.AttrWalks.{attr_moved, IsAttrIn, attributes_left, head_of_attribute, next_attribute, IsListedAttribute, attributes_in, searched_to};
+ghost use Rattle.cbfs_walk.specs.AttrWalks.{attr_moved, IsAttrIn, attributes_left, GivesNext, next_attribute, IsListedAttribute, attributes_in, searched_to};
 ghost use Rattle.flash_format.specs.declared.attribute.AttrHead.{AttrHead};
 ghost use Rattle.flash_device.specs.Device.{refusals};
 
@@ -16,9 +16,8 @@ use crate::cell::Cell;
 use crate::names::name_end;
 use crate::region_reads::read_in;
 use byteorder::{BigEndian, ByteOrder};
-use flash_device::{Flash, FlashFault, Paged};
+use flash_device::{Flash, FlashFault, Paged, Region};
 use flash_format::AttrHead;
-use flash_map::Region;
 
 /// A walk over a component's attributes.
 #[derive(Drop)]
@@ -49,19 +48,21 @@ impl AttrWalk {
     ) -> Result<Option<AttrHead>, FlashFault>
         requires { Reaches region (self.old.cell.at + self.old.cell.head.offset) paged.old.device }
 
-        ensures after { HasAnswered (min 1 ((self.old.cell.head.offset - self.old.at) / 8))
-            paged.old paged.new result }
-        ensures passes { Passes region (self.old.cell.at + self.old.at)
-            (self.old.cell.at + self.old.at) (refusals result) paged.old paged.new }
+        // On an honest device.
+        ensures list { OnHonestIn paged.old.device region (λ x.
+            IfOk result (GivesNext (attributes_left x self.old) (attributes_left x self.new))) }
+
+        // On any device.
         ensures attribute { IfFound result (IsAttrIn self.old.at self.old.cell.head.offset) }
         ensures moved { self.new ≡ attr_moved self.old result }
-        ensures ended { self.old.at ≡ self.old.cell.head.offset → result ≡ Ok None }
-        ensures no_call { self.old.at ≡ self.old.cell.head.offset → paged.new ≡ paged.old }
+        ensures ended { self.old.at ≡ self.old.cell.head.offset
+            → (result ≡ Ok None) × (paged.new ≡ paged.old) }
 
-        ensures list { OnHonestIn paged.old.device region (λ x. (all : List Attribute)
-            → attributes_left x self.old ≡ Some all → IfOk result (λ found.
-            (found ≡ option_map head_of_attribute (slice_get all 0))
-            × (attributes_left x self.new ≡ Some (drop 1 all)))) }
+        // At most one call, and none if fewer than eight bytes are left.
+        ensures after { HasAnswered (min 1 ((self.old.cell.head.offset - self.old.at) / 8))
+            paged.old paged.new result }
+        ensures passes { let at = self.old.cell.at + self.old.at in
+            Passes region at at (refusals result) paged.old paged.new }
     {
         let at = self.cell.at + u64::from(self.at);
         let end = self.cell.at + u64::from(self.cell.head.offset);

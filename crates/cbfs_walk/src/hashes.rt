@@ -13,9 +13,8 @@ ghost use Rattle.cbfs_walk.specs.Hashes.{hashed_by, stored_digest, comparison, h
 use crate::attribute_walk::{first_attribute, value_at};
 use crate::cell::Cell;
 use crate::region_reads::piece_in;
-use flash_device::{Flash, FlashFault, Paged};
+use flash_device::{Flash, FlashFault, Paged, Region};
 use flash_format::{Algorithm, AttrHead, Digest};
-use flash_map::Region;
 use sha2::{Sha256, Sha512};
 
 /// The result of a digest check.

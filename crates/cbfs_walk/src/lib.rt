@@ -22,4 +22,4 @@ pub use laws::{
 pub use names::{name, name_end, name_is};
 pub use region_reads::{piece_in, read_in};
 pub use search::{find, is_component};
-pub use walk::{Step, Walk, WalkFault};
+pub use walk::{Step, Walk, WalkFault, front_at, has_bad_size};

@@ -10,9 +10,8 @@ ghost use Rattle.cbfs_walk.specs.Cells.{IsCellOn, IsComponentIn, cell_in};
 
 use crate::cell::Cell;
 use crate::region_reads::piece_in;
-use flash_device::{Flash, FlashFault, Paged};
+use flash_device::{Flash, FlashFault, Paged, Region};
 use flash_format::Head;
-use flash_map::Region;
 
 const LONGEST: usize = 255;
 

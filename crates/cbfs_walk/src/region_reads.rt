@@ -8,8 +8,7 @@ ghost use Rattle.flash_device.specs.Regions.{Reaches};
 ghost use Rattle.flash_device.specs.contracts.paged.Paged.{the_row};
 ghost use Rattle.cbfs_walk.specs.Walks.{Passes, ReadsIn};
 
-use flash_device::{Flash, FlashFault, Paged};
-use flash_map::Region;
+use flash_device::{Flash, FlashFault, Paged, Region};
 
 /// Reads bytes at a position in the region.
 #[inline]

@@ -15,8 +15,7 @@ ghost use Rattle.cbfs_walk.specs.declared.cell.Cell.{Cell};
 use crate::cell::Cell;
 use crate::names::name_is;
 use crate::walk::{Step, Walk, WalkFault};
-use flash_device::{Flash, FlashFault, Paged};
-use flash_map::Region;
+use flash_device::{Flash, FlashFault, Paged, Region};
 
 /// Returns the first component with the name. Otherwise returns the damage at the end of the cells,
 /// or `None`. Later cells are not read.

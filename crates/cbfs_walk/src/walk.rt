@@ -13,9 +13,8 @@ use crate::attribute_walk::are_well_formed;
 use crate::cell::Cell;
 use crate::names::{has_name_end, name_end};
 use crate::region_reads::read_in;
-use flash_device::{Flash, FlashFault, Paged};
+use flash_device::{Flash, FlashFault, Paged, Region};
 use flash_format::{DamageKind, Head};
-use flash_map::Region;
 use std::marker::Model;
 
 /// The next part of a region. Positions are relative to the region's start.
@@ -130,7 +129,8 @@ impl Walk {
     }
 }
 
-fn has_bad_size(size: u64) -> bool
+/// Returns true if a CBFS region cannot have this size: 0, or not a multiple of 64.
+pub fn has_bad_size(size: u64) -> bool
     ensures { result ≡ has_bad_size size }
 {
     size == 0 || size % 64 != 0
@@ -172,7 +172,8 @@ fn answer_at<F: Flash>(paged: &mut Paged<F>, region: Region, at: u64) -> Result<
     }
 }
 
-fn front_at<F: Flash>(
+/// Returns the head of the entry at a position, damaged or not, or `None` without an entry.
+pub fn front_at<F: Flash>(
     paged: &mut Paged<F>,
     region: Region,
     at: u64,

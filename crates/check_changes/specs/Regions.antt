@@ -1,5 +1,6 @@
 -- Changes of components in two images. This project defines their choice and order.
-use Rattle.std.specs.Prelude.{ℕ, List, [], ◌∷◌, length, map, is_some, Option, Some, None}
+use Rattle.std.specs.Prelude.{ℕ, ◌+◌, ◌*◌, ◌/◌, List, [], ◌∷◌, length, map, is_some, Option, Some}
+use Rattle.std.specs.Prelude.{None, Result}
 use Rattle.flash_device.specs.Regions.{Range, bytes_in}
 use Rattle.check_findings.specs.declared.areas.NumberedArea.{NumberedArea}
 use Rattle.check_findings.specs.declared.image.finding.ImageFinding.{ImageFinding}
@@ -12,10 +13,27 @@ use Rattle.check_changes.specs.declared.regions.change.RegionChange.{RegionChang
 use Rattle.check_changes.specs.declared.regions.change.RegionChange.TheVariants.{Compared, NotCompared}
 use Rattle.check_changes.specs.Areas.{changes_by, pair_of, regions_of}
 use Rattle.check_changes.specs.Components.{component_changes}
-use Rattle.check_changes.specs.Images.{lengths_of}
+use Rattle.check_changes.specs.Images.{HasReadFor, lengths_of}
+use Rattle.check_changes.specs.declared.fault.ChangeFault.{ChangeFault}
+use Rattle.check_changes.specs.declared.images.Images.{Images}
 
 abbrev pub listed_regions : Both Listing → Both Range
 listed_regions lists = record { old = lists.old.region; new = lists.new.region }
+
+-- areas whose components are compared: the bytes of the old ones, the bytes of the new ones, and
+-- the number of the new ones
+pub record ComparedAreas : Type 0 where
+  pub old_bytes : ℕ
+  pub new_bytes : ℕ
+  pub count : ℕ
+
+-- images j after a comparison of components in images i; the result names the device that refused a
+-- read
+abbrev pub HasReadAreas : {F G T : Type 0} → ComparedAreas → Images F G → Images F G
+    → Result T ChangeFault → Type 0
+HasReadAreas areas i j r =
+    let old_reads = (areas.old_bytes + areas.new_bytes) / 24 + 2 * areas.count in
+    let new_reads = areas.new_bytes / 12 + 2 * areas.count in HasReadFor old_reads new_reads i j r
 
 -- the changes of the components of an area, by the compared regions; none without a namesake
 abbrev pub region_change : List ℕ → List ℕ → AreaPair → Option (Both Range) → List RegionChange

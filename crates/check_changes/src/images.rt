@@ -6,8 +6,10 @@ ghost use Rattle.check_changes.specs.Images.{HasCompared, LieOn, OnBothIn, lengt
 ghost use Rattle.flash_device.specs.Pages.{Returns};
 
 use crate::fault::ChangeFault;
-use flash_device::{Flash, PIECE, Paged};
-use flash_map::Region;
+use flash_device::{Flash, Paged, Region};
+
+/// The length of a block in bytes, in which a report counts differences. One device call reads it.
+pub const BLOCK: u64 = 4096;
 
 /// A value of each image.
 #[derive(Clone, Copy, Drop)]
@@ -63,10 +65,10 @@ impl<F: Flash, G: Flash> Images<F, G> {
         ensures after { HasCompared 1 self.old self.new result }
         ensures different { OnBothIn self.old regions (λ x y. Returns result (differs x y number)) }
     {
-        let start = number * PIECE as u64;
+        let start = number * BLOCK;
         let (old, new) = (regions.old, regions.new);
-        let old_size = (old.size() - start).min(PIECE as u64) as usize;
-        let new_size = (new.size() - start).min(PIECE as u64) as usize;
+        let old_size = (old.size() - start).min(BLOCK) as usize;
+        let new_size = (new.size() - start).min(BLOCK) as usize;
         let Ok(old_block) = self.old_image.piece(old.start() + start, old_size) else {
             return Err(ChangeFault::OldDevice);
         };

@@ -1,5 +1,5 @@
 -- The areas of a flash map, and the first area of each name.
-use Rattle.std.specs.Prelude.{◌≡◌, ℕ, ◌+◌, Bool, List, [], map, Option}
+use Rattle.std.specs.Prelude.{◌≡◌, ℕ, Bool, List, [], map, Option}
 use Rattle.std.specs.List.{enumerate_from, find}
 use Rattle.std.specs.Ordering.{nat_cmp}
 use Rattle.std.specs.Cmp.Lexicographic.{slice_cmp}
@@ -7,13 +7,11 @@ use Rattle.std.specs.BTreeMap.{get_by}
 use Rattle.std.specs.Option.{option_map_or}
 use Rattle.flash_format.specs.declared.flashmap.Area.{Area}
 use Rattle.flash_format.specs.Flashmap.{is_area}
+pub use Rattle.flash_format.specs.Flashmap.{area_end}
 use Rattle.flash_map.specs.declared.search.FoundMap.{FoundMap}
 use Rattle.check_findings.specs.declared.areas.NumberedArea.{NumberedArea}
 use Rattle.check_findings.specs.declared.names.AreaNames.{AreaNames}
 use Rattle.flash_map.specs.Fmap.{areas_of, found_in}
-
-abbrev pub area_end : Area → ℕ
-area_end area = area.offset + area.size
 
 abbrev pub has_name : List ℕ → NumberedArea → Bool
 has_name name a = is_area name a.area

@@ -9,6 +9,7 @@ mod laws;
 mod mem_flash;
 mod mem_source;
 mod paged;
+mod range;
 mod sink;
 mod source;
 mod watch;
@@ -21,6 +22,7 @@ pub use laws::{separate_edits_swap, separate_writes_swap, writes_are_seen_by_reg
 pub use mem_flash::MemFlash;
 pub use mem_source::MemSource;
 pub use paged::{CopyFault, CopyInFault, Paged};
+pub use range::Region;
 pub use sink::{Sink, SinkFault, WriteSink, put_all};
 pub use source::{Source, SourceFault};
 pub use watch::{Unwatched, Watch};

@@ -75,3 +75,7 @@ areas_from (suc n) x = area_of x ∷ areas_from n (drop area_len x)
 
 abbrev pub is_area : List ℕ → Area → Bool
 is_area name a = bytes_eq name (text_of a.name)
+
+-- the offset after an area's last byte
+abbrev pub area_end : Area → ℕ
+area_end area = area.offset + area.size

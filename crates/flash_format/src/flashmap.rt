@@ -4,7 +4,7 @@ ghost use Rattle.std.specs.Prelude.{◌≡◌, ◌≤◌, length, true};
 ghost use Rattle.std.specs.Bool.{then_some};
 ghost use Rattle.std.specs.List.{list_any, list_all, position};
 ghost use Rattle.flash_format.specs.Entry.{is_nul};
-ghost use Rattle.flash_format.specs.Flashmap.{fmap_head_of, fmap_head_bytes, has_signature, map_len, is_valid_head, area_of, area_bytes, is_area, text_of, is_printing};
+ghost use Rattle.flash_format.specs.Flashmap.{fmap_head_of, fmap_head_bytes, has_signature, map_len, is_valid_head, area_of, area_bytes, area_end, is_area, text_of, is_printing};
 
 use byteorder::{ByteOrder, LittleEndian};
 
@@ -152,6 +152,13 @@ impl Area {
         out
     }
 
+    /// Returns the offset after the last byte. The area can end after the image.
+    pub fn end(&self) -> u64
+        ensures { result ≡ area_end self.now }
+    {
+        u64::from(self.offset) + u64::from(self.size)
+    }
+
     /// Returns the name without padding.
     pub fn text(&self) -> &[u8]
         ensures value { result.now ≡ text_of self.now.name }
@@ -183,7 +190,8 @@ fn text_of(name: &[u8]) -> &[u8]
     }
 }
 
-fn has_nul(name: &[u8]) -> bool
+/// Returns true if a byte of the name is NUL.
+pub fn has_nul(name: &[u8]) -> bool
     ensures { result ≡ list_any is_nul name.now }
 {
     name.iter().any(|b| *b == 0)

@@ -1,7 +1,7 @@
 //! Heads of CBFS entries, and their checks.
 
-ghost use Rattle.std.specs.Prelude.{◌≡◌, Some};
-ghost use Rattle.flash_format.specs.Head.{head_at, head_bytes, is_free, extent_of};
+ghost use Rattle.std.specs.Prelude.{◌≡◌, ◌+◌, ◌^◌, ◌<◌, Some};
+ghost use Rattle.flash_format.specs.Head.{head_at, head_bytes, is_free, extent_of, round64};
 
 use byteorder::{BigEndian, ByteOrder};
 
@@ -131,7 +131,15 @@ impl Head {
         }
         Ok(Extent {
             content: u64::from(self.offset),
-            span: (end + 63) / 64 * 64,
+            span: round64(end),
         })
     }
+}
+
+/// Returns the number, rounded up to a multiple of 64, the unit of a cell's length.
+pub fn round64(n: u64) -> u64
+    requires { n + 63 < 2 ^ 64 }
+    ensures { result ≡ round64 n }
+{
+    (n + 63) / 64 * 64
 }

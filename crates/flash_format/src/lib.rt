@@ -21,8 +21,8 @@ pub use attribute::AttrHead;
 pub use buffer::push_text;
 pub use digest::{Algorithm, Digest, digest_text};
 pub use empty_entry::empty_header;
-pub use flashmap::{Area, FmapHead};
-pub use head::{DamageKind, Extent, HEADER_LENGTH, Head};
+pub use flashmap::{Area, FmapHead, has_nul};
+pub use head::{DamageKind, Extent, HEADER_LENGTH, Head, round64};
 pub use laws::{
     components_are_placed, cuts_are_made_of_cells, cuts_go_on, empty_headers_are_free_cells,
     entries_are_read_alike, groups_are_replaced, lengths_are_defined, made_cells_are_read_as_made,

@@ -1,10 +1,11 @@
 -- Searches for an image's flash map.
 use Rattle.std.specs.Prelude.{◌≡◌, ℕ, ◌+◌, ◌/◌, length, List, Option, Some, None, drop, if◌then◌else◌}
+use Rattle.std.specs.List.{find}
 use Rattle.std.specs.Option.{option_map}
 use Rattle.flash_format.specs.declared.flashmap.FmapHead.{FmapHead}
 use Rattle.flash_format.specs.declared.flashmap.Area.{Area}
 use Rattle.flash_format.specs.Flashmap.{is_map, map_from, map_len, fmap_head_len, fmap_head_of}
-use Rattle.flash_format.specs.Flashmap.{area_len, areas_from}
+use Rattle.flash_format.specs.Flashmap.{area_len, areas_from, is_area}
 pub use Rattle.flash_format.specs.Laws.{NoMapBelow}
 use Rattle.flash_device.specs.Device.{Device}
 use Rattle.flash_map.specs.declared.search.FoundMap.{FoundMap}
@@ -34,6 +35,10 @@ found_in image = found_from 0 image
 
 abbrev pub areas_of : List ℕ → FoundMap → List Area
 areas_of image map = areas_from map.head.nareas (drop (map.at + fmap_head_len) image)
+
+-- the first area with the name
+abbrev pub first_area : List Area → List ℕ → Option Area
+first_area areas name = find (is_area name) areas
 
 -- the first search in the image finds this map, with these areas
 pub record FindsMap (h : FmapHead) (areas : List Area) (image : List ℕ) (q : ℕ) : Type 0 where

@@ -1,16 +1,14 @@
 //! Searches for a flash map and for a region.
 ghost use Rattle.std.specs.Prelude.{◌≡◌, ◌+◌, ◌-◌, ◌*◌, ◌<◌, ◌≤◌, ◌⊎◌, ℕ, List, length, drop, take, true, IfOk, IfSome, IsErrOf};
-ghost use Rattle.std.specs.List.{find};
-ghost use Rattle.flash_format.specs.Flashmap.{fmap_head_len, area_len, map_len, area_of, has_signature, is_area};
+ghost use Rattle.flash_format.specs.Flashmap.{fmap_head_len, area_len, map_len, area_of, has_signature};
 ghost use Rattle.flash_device.specs.Device.{IsPiece, Reads, refusals};
 ghost use Rattle.flash_device.specs.Pages.{OnHonest, HasAnswered, Returns, HasReadBy, IfFound};
-ghost use Rattle.flash_map.specs.Fmap.{areas_of, map_end, map_head, map_reads, found_from, found_in, search_reads};
+ghost use Rattle.flash_map.specs.Fmap.{areas_of, first_area, map_end, map_head, map_reads, found_from, found_in, search_reads};
 ghost use Rattle.flash_device.specs.Regions.{LiesOn};
 ghost use Rattle.flash_map.specs.Regions.{by_device, region_by_area, region_of};
 ghost use Rattle.memchr.specs.Find.{IsFirst};
 
-use crate::range::Region;
-use flash_device::{Flash, FlashFault, PIECE, Paged, Source, SourceFault};
+use flash_device::{Flash, FlashFault, PIECE, Paged, Region, Source, SourceFault};
 use flash_format::{Area, FmapHead};
 use memchr::memmem;
 
@@ -171,7 +169,7 @@ pub fn area_named<F: Flash>(
 
     ensures after { HasAnswered map.now.head.nareas paged.old paged.new result }
     ensures first { OnHonest paged.old.device
-        (λ image. Returns result (find (is_area name.now) (areas_of image map.now))) }
+        (λ image. Returns result (first_area (areas_of image map.now) name.now)) }
 {
     for i in 0..map.head.nareas {
         let area = area(paged, map, i)?;

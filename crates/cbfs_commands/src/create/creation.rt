@@ -14,8 +14,7 @@ ghost use Rattle.cbfs_requests.specs.Requests.{create};
 use crate::create::plan::read_plan;
 use cbfs_edit::{EditFault, format};
 use cbfs_requests::Refusal;
-use flash_device::{Flash, Paged, Source};
-use flash_map::Region;
+use flash_device::{Flash, Paged, Region, Source};
 
 fn format_place<F: Flash>(paged: &mut Paged<F>, place: Region) -> Result<(), Refusal>
     requires { IsPlace (length paged.old.device.content) place }

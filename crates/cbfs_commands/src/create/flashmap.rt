@@ -8,8 +8,8 @@ ghost use Rattle.flash_format.specs.declared.flashmap.Area.{Area};
 ghost use Rattle.flash_format.specs.Flashmap.{fmap_head_len, map_len, areas_from};
 ghost use Rattle.flash_device.specs.Device.{Reads, refusals};
 ghost use Rattle.flash_device.specs.Pages.{OnHonest};
-ghost use Rattle.flash_map.specs.Fmap.{map_head};
-ghost use Rattle.cbfs_commands.specs.Creations.{AnswersBySource, first_area};
+ghost use Rattle.flash_map.specs.Fmap.{first_area, map_head};
+ghost use Rattle.cbfs_commands.specs.Creations.{AnswersBySource};
 
 use cbfs_requests::{MOST_REGIONS, Refusal};
 use flash_device::{Source, SourceFault};

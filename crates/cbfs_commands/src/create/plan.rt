@@ -11,9 +11,10 @@ ghost use Rattle.cbfs_commands.specs.Creations.{region_places, share_bytes, some
 use crate::create::flashmap::first_areas;
 use arrayvec::ArrayVec;
 use cbfs_requests::{MOST_REGIONS, Refusal};
-use flash_device::Source;
+use cbfs_walk::has_bad_size;
+use flash_device::{Region, Source};
 use flash_format::Area;
-use flash_map::{Region, map_in_source, region_of_area};
+use flash_map::{map_in_source, region_of_area};
 
 /// The ranges of a new image.
 #[derive(Drop)]
@@ -38,7 +39,7 @@ fn region_places(
     let mut places = ArrayVec::new();
     for i in 0..areas.len() {
         let place = region_of_area(areas[i], image_len)?;
-        if place.size() == 0 || place.size() % 64 != 0 {
+        if has_bad_size(place.size()) {
             return Err(Refusal::RegionShape);
         }
         places.push(place);

@@ -19,9 +19,8 @@ use crate::row::{ROW_LEN, Row, push_decimal};
 use byteorder::{BigEndian, ByteOrder};
 use cbfs_requests::Refusal;
 use cbfs_walk::{Cell, HashState, attributes, cells_stand_in_their_image, check_hash};
-use flash_device::{Flash, Paged, Sink, put_all};
+use flash_device::{Flash, Paged, Region, Sink, put_all};
 use flash_format::{AttrHead, Digest, digest_text, push_text};
-use flash_map::Region;
 
 fn push_tag(row: &mut Row, tag: u32)
     requires { array_vec_len row.old + 8 ≤ ROW_LEN }

@@ -14,8 +14,7 @@ use crate::row::{Row, set_row_text};
 use arrayvec::ArrayVec;
 use cbfs_requests::Refusal;
 use cbfs_walk::{Cell, Step, Walk, cells_stand_in_their_image, name, packing};
-use flash_device::{Flash, FlashFault, Paged, Sink, put_all};
-use flash_map::Region;
+use flash_device::{Flash, FlashFault, Paged, Region, Sink, put_all};
 
 /// Formats a cell's row. A fault leaves arbitrary bytes in the buffer.
 fn set_cell_row<F: Flash>(

@@ -16,8 +16,7 @@ use crate::areas::pairs::{AreaPair, pairs, push_gone};
 use crate::fault::ChangeFault;
 use crate::images::{Both, Images, RegionPair, taken};
 use check_findings::{NumberedArea, push, push_if};
-use flash_device::Flash;
-use flash_map::Region;
+use flash_device::{Flash, Region};
 use std::alloc::{AllocError, Global};
 
 /// The limit of compared bytes, in lengths of the new image: 65535 areas may each have its length.

@@ -6,15 +6,15 @@ ghost use Rattle.check_changes.specs.Images.{HasCompared, LieOn, OnBoth, lengths
 
 use crate::areas::holders::BlockHolders;
 use crate::fault::ChangeFault;
-use crate::images::{Images, RegionPair};
-use flash_device::{Flash, PIECE};
+use crate::images::{BLOCK, Images, RegionPair};
+use flash_device::Flash;
 
 /// Returns the number of blocks of 4096 bytes in `len` bytes; the last block may be shorter.
 pub fn blocks_of(len: u64) -> u64
     requires { len ≤ 2 ^ 32 }
     ensures { result ≡ blocks_of len }
 {
-    len.div_ceil(PIECE as u64)
+    len.div_ceil(BLOCK)
 }
 
 /// Numbers of different blocks.

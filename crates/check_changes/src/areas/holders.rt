@@ -12,9 +12,8 @@ ghost use Rattle.check_changes.specs.declared.images.Both.{Both};
 ghost use Rattle.flash_device.specs.Regions.{Range};
 
 use crate::areas::pairs::AreaPair;
-use crate::images::{Lengths, RegionPair};
+use crate::images::{BLOCK, Lengths, RegionPair};
 use check_findings::push;
-use flash_device::PIECE;
 use std::alloc::{AllocError, Global};
 
 /// The most pairs of a group. A search takes the logarithm of this number in each of the other
@@ -86,8 +85,8 @@ impl Holder {
         requires { IsBlockIn outer.now number }
         ensures { result ≡ has_block outer.now number (ranges_of self.now) }
     {
-        let start = number * PIECE as u64;
-        let end = (start + PIECE as u64).min(outer.new.size());
+        let start = number * BLOCK;
+        let end = (start + BLOCK).min(outer.new.size());
         let (old, new, size) = (
             u64::from(self.old),
             u64::from(self.new),
@@ -183,8 +182,8 @@ impl Group {
             return false;
         }
         let (old, new) = (outer.old.start(), outer.new.start());
-        let start = number * PIECE as u64;
-        let end = (start + PIECE as u64).min(outer.new.size());
+        let start = number * BLOCK;
+        let end = (start + BLOCK).min(outer.new.size());
         let start = place_of(old, new, new + start);
         let end = place_of(old, new, new + end);
         let count = self

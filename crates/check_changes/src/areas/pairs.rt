@@ -11,7 +11,7 @@ use crate::areas::change::{AreaChange, AreaDifference};
 use crate::areas::names::NamedBoth;
 use crate::images::{Lengths, RegionPair};
 use check_findings::{NumberedArea, push_if};
-use flash_map::Region;
+use flash_device::Region;
 use std::alloc::{AllocError, Global};
 
 /// An area of the new map, and the first old area with its name.

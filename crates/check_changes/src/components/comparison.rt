@@ -13,8 +13,7 @@ use crate::components::listing::Listed;
 use crate::fault::ChangeFault;
 use crate::images::{Images, RegionPair};
 use cbfs_walk::Cell;
-use flash_device::Flash;
-use flash_map::Region;
+use flash_device::{Flash, Region};
 use std::ops::Range;
 
 /// Returns the first difference between two components.

@@ -6,7 +6,7 @@ ghost use Rattle.check_changes.specs.Components.{IsListedIn, Notes};
 ghost use Rattle.check_changes.specs.declared.components.listing.Listed.{Listed};
 
 use crate::components::listing::Listed;
-use flash_map::Region;
+use flash_device::Region;
 use std::alloc::{AllocError, Global};
 use std::collections::HashMap;
 use std::hash::RandomState;

@@ -12,8 +12,7 @@ ghost use Rattle.check_findings.specs.Faults.{by_device};
 
 use cbfs_walk::{Cell, Step, Walk, WalkFault, cells_stand_in_their_image, name};
 use check_findings::{CheckFault, Name, push};
-use flash_device::{Flash, Paged};
-use flash_map::Region;
+use flash_device::{Flash, Paged, Region};
 use std::alloc::{AllocError, Global};
 
 /// A component from a walk.

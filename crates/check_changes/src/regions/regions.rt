@@ -1,9 +1,9 @@
 //! The changes of each region's components.
-ghost use Rattle.std.specs.Prelude.{◌≡◌, ◌+◌, ◌-◌, ◌*◌, ◌/◌, ◌≤◌, ◌++◌, List, length, OnOk};
+ghost use Rattle.std.specs.Prelude.{◌≡◌, ◌-◌, ◌*◌, ◌≤◌, ◌++◌, List, length, OnOk};
 ghost use Rattle.check_findings.specs.ImageFindings.{region_area, region_areas, sum_sizes};
 ghost use Rattle.check_findings.specs.declared.areas.NumberedArea.{NumberedArea};
-ghost use Rattle.check_changes.specs.Images.{HasReadFor, OnBoth, lengths};
-ghost use Rattle.check_changes.specs.Regions.{region_changes, region_changes_in};
+ghost use Rattle.check_changes.specs.Images.{OnBoth, lengths};
+ghost use Rattle.check_changes.specs.Regions.{HasReadAreas, region_changes, region_changes_in};
 ghost use Rattle.flash_device.specs.Pages.{Lists};
 
 use crate::areas::{AreaPair, NamedAreas};
@@ -28,9 +28,10 @@ fn push_changes<'a, F: Flash, G: Flash>(
     finding: &'a ImageFinding,
 ) -> Result<(), ChangeFault>
     ensures fewer { left.new ≤ left.old }
-    ensures after { HasReadFor ((left.old - left.new + sum_sizes (region_area finding.now)) / 24
-        + 2 * length (region_area finding.now)) (sum_sizes (region_area finding.now) / 12
-        + 2 * length (region_area finding.now)) images.old images.new result }
+    ensures after { let areas = region_area finding.now in let bytes = sum_sizes areas in
+        let compared = left.old - left.new in HasReadAreas
+        (record { old_bytes = compared; new_bytes = bytes; count = length areas })
+        images.old images.new result }
     ensures changes { OnBoth images.old (λ x y. OnOk result ((rest : List NumberedArea)
         → changes.new.items ++ region_changes_in left.new x y olds.now.all.now rest
         ≡ changes.old.items ++ region_changes_in left.old x y olds.now.all.now
@@ -69,9 +70,10 @@ pub fn region_changes<'a, F: Flash, G: Flash>(
     requires total { sum_sizes (region_areas findings.now) ≤ 8 * (lengths images.old).new }
 
     // On any devices.
-    ensures after { HasReadFor (((lengths images.old).old + 8 * (lengths images.old).new) / 24
-        + 2 * length (region_areas findings.now)) (8 * (lengths images.old).new / 12
-        + 2 * length (region_areas findings.now)) images.old images.new result }
+    ensures after { let lens = lengths images.old in
+        let count = length (region_areas findings.now) in
+        HasReadAreas (record { old_bytes = lens.old; new_bytes = 8 * lens.new; count = count })
+        images.old images.new result }
 
     // On honest devices.
     ensures changes { OnBoth images.old

@@ -12,8 +12,7 @@ use crate::image::names::NameSet;
 use crate::image::starts::Starts;
 use crate::lists::push_if;
 use crate::region::has_entry_at;
-use flash_device::{Flash, FlashFault, Paged};
-use flash_map::Region;
+use flash_device::{Flash, FlashFault, Paged, Region};
 use std::alloc::Global;
 
 /// Returns the CBFS areas: each lies inside the image, begins with an entry, and is the smallest

@@ -24,8 +24,8 @@ use crate::image::names::{NameSet, push_missing};
 use crate::map::{MapFinding, check_map};
 use crate::region::check_region;
 use cbfs_anchor::Anchor;
-use flash_device::{Flash, Paged};
-use flash_map::{FoundMap, Region};
+use flash_device::{Flash, Paged, Region};
+use flash_map::FoundMap;
 use std::alloc::{AllocError, Global};
 use std::hash::RandomState;
 

@@ -47,9 +47,8 @@ fn push_area_findings(findings: &mut MapFindings, len: u64, areas: &[NumberedAre
     ensures { Gains findings.old findings.new result (flat_map (area_findings len) areas.now) }
 {
     for a in areas {
-        let end = u64::from(a.area.offset) + u64::from(a.area.size);
         let is_bytes = !is_text(a.area.text());
-        push_if(findings, end > len, MapFinding::AreaOutside(*a))?;
+        push_if(findings, a.area.end() > len, MapFinding::AreaOutside(*a))?;
         push_if(findings, a.area.size == 0, MapFinding::AreaEmpty(*a))?;
         push_if(findings, is_bytes, MapFinding::AreaNameNotText(*a))?;
     }
@@ -75,8 +74,7 @@ fn push_map_area_findings(
     let area = map_area(areas);
     let is_held = match area {
         Some(NumberedArea { area, .. }) => {
-            let area_end = u64::from(area.offset) + u64::from(area.size);
-            u64::from(area.offset) <= map.at && map_end <= area_end
+            u64::from(area.offset) <= map.at && map_end <= area.end()
         }
         None => false,
     };

@@ -38,7 +38,5 @@ fn first_overlap(areas: &[NumberedArea], a: &NumberedArea) -> Option<NumberedAre
 fn ends_inside(a: &Area, b: &Area) -> bool
     ensures { result ≡ ends_inside a.now b.now }
 {
-    let a_end = u64::from(a.offset) + u64::from(a.size);
-    let b_end = u64::from(b.offset) + u64::from(b.size);
-    a.offset < b.offset && u64::from(b.offset) < a_end && a_end < b_end
+    a.offset < b.offset && u64::from(b.offset) < a.end() && a.end() < b.end()
 }

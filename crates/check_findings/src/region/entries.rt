@@ -19,8 +19,7 @@ use cbfs_anchor::first_hash;
 use cbfs_walk::{
     Cell, Step, Walk, WalkFault, cells_stand_in_their_image, check_hash, name, packing,
 };
-use flash_device::{Flash, Paged};
-use flash_map::Region;
+use flash_device::{Flash, Paged, Region};
 use std::alloc::Global;
 use std::hash::RandomState;
 

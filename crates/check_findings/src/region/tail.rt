@@ -12,8 +12,7 @@ use crate::fault::CheckFault;
 use crate::lists::push_if;
 use crate::region::finding::RegionFinding;
 use crate::region::start::has_entry_at;
-use flash_device::{Flash, FlashFault, PIECE, Paged};
-use flash_map::Region;
+use flash_device::{Flash, FlashFault, PIECE, Paged, Region};
 
 /// Returns the offset of the first byte except 0xff and 0x00. The bytes begin at `at`.
 fn first_filled(bytes: &[u8], at: u64) -> Option<u64>

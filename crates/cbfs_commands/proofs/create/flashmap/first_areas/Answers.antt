@@ -4,7 +4,7 @@ use lib.Chars.{codes}
 use Rattle.flash_format.specs.declared.flashmap.Area.{Area}
 use Rattle.flash_format.specs.Flashmap.{areas_from}
 use Rattle.flash_device.proofs.DeviceLemmas.{honest_still, Reads-none, Reads-then}
-use Rattle.cbfs_commands.specs.Creations.{first_area}
+use Rattle.flash_map.specs.Fmap.{first_area}
 use Rattle.cbfs_commands.proofs.PlanSteps.{areas-and, none-found}
 use Rattle.cbfs_commands.proofs.create.flashmap.first_areas.Goals as goal
 

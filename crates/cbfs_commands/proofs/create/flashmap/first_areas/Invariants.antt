@@ -2,7 +2,7 @@ use Rattle.std.proofs.Common.{◌≡◌, ◌-◌, ◌++◌, length, map, drop, r
 use lib.Chars.{codes}
 use Rattle.flash_format.specs.Flashmap.{fmap_head_len, areas_from}
 use Rattle.flash_device.specs.Device.{Reads}
-use Rattle.cbfs_commands.specs.Creations.{first_area}
+use Rattle.flash_map.specs.Fmap.{first_area}
 use Rattle.cbfs_commands.proofs.create.flashmap.first_areas.Given as goal
 
 abbrev pub invariant-loop-i : goal.invariant-loop-i

@@ -3,7 +3,7 @@ use Rattle.std.proofs.Common.{◌++◌, ◌∷◌, [], ◌<◌, ℕ, List, Optio
 use Rattle.std.specs.Borrow.{Bor}
 use Rattle.std.proofs.lemmas.List.{length-map, get_or-map}
 use Rattle.flash_format.specs.declared.flashmap.Area.{Area}
-use Rattle.cbfs_commands.specs.Creations.{first_area}
+use Rattle.flash_map.specs.Fmap.{first_area}
 use Rattle.cbfs_commands.proofs.PlanSteps.{partly, partly-all, partly-at, partly-more}
 use Rattle.cbfs_commands.proofs.create.flashmap.note_each.Goals as goal
 

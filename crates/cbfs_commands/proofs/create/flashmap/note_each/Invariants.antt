@@ -1,6 +1,6 @@
 use Rattle.std.proofs.Common.{◌≡◌, ◌++◌, ◌∷◌, [], List, Option, map}
 use Rattle.flash_format.specs.declared.flashmap.Area.{Area}
-use Rattle.cbfs_commands.specs.Creations.{first_area}
+use Rattle.flash_map.specs.Fmap.{first_area}
 use Rattle.cbfs_commands.proofs.PlanSteps.{partly}
 use Rattle.cbfs_commands.proofs.create.flashmap.note_each.Given as goal
 
