@@ -16,7 +16,7 @@ use Rattle.cbfs_walk.specs.Search.{component_in}
 use Rattle.cbfs_walk.specs.declared.cell.Cell.{Cell}
 use Rattle.cbfs_walk.specs.declared.walk.WalkFault.{WalkFault}
 use Rattle.cbfs_walk.specs.declared.walk.WalkFault.TheVariants as walk
-use Rattle.cbfs_anchor.specs.declared.place.Place.{Place}
+use Rattle.cbfs_anchor.specs.declared.place.AnchorPlace.{AnchorPlace}
 use Rattle.cbfs_anchor.specs.declared.fault.SealFault.{SealFault}
 use Rattle.cbfs_anchor.specs.declared.fault.SealFault.TheVariants as faults
 use Rattle.cbfs_anchor.specs.Faults.{and_then, walk_fault}
@@ -29,14 +29,14 @@ found_at x c = Ok (Some (component_at c.at (cell_in x c)))
 pub component_placed : (map coreboot anchor : Range) (x : List ℕ) (c : Cell) → head_of (cell_in x c) ≡ c.head → c.head.kind ≡ 1
     → anchor ≡ record { start = coreboot.start + c.at + c.head.offset; size = c.head.len }
     → (let a : Result (Option Cell) WalkFault = Ok (Some c) in IsErrOf a walk.Device) ⊎ (component_in x (codes "bootblock") ≡ found_at x c)
-    → (let a : Result Place SealFault = Ok (record { map = map; coreboot = coreboot; anchor = anchor; in_component = true }) in a) ≡ component_place map coreboot x
+    → (let a : Result AnchorPlace SealFault = Ok (record { map = map; coreboot = coreboot; anchor = anchor; in_component = true }) in a) ≡ component_place map coreboot x
 component_placed map coreboot anchor x c head kind there (inl e) = absurd cc
 component_placed map coreboot anchor x c head kind there (inr found) =
-    let place = λ (r : Range). (let p : Place = record { map = map; coreboot = coreboot; anchor = r; in_component = true } in p) in
+    let place = λ (r : Range). (let p : AnchorPlace = record { map = map; coreboot = coreboot; anchor = r; in_component = true } in p) in
     let at = λ (h : Head). (let r : Range = record { start = coreboot.start + c.at + h.offset; size = h.len } in r) in
-    let answer = λ (h : Head). cond (eqb h.kind 1) (let a : Result Place SealFault = Ok (place (at h)) in a) (Err faults.NoAnchor) in
+    let answer = λ (h : Head). cond (eqb h.kind 1) (let a : Result AnchorPlace SealFault = Ok (place (at h)) in a) (Err faults.NoAnchor) in
     let here : answer (head_of (cell_in x c)) ≡ Ok (place anchor) =
-    ap answer head ∙ ap (λ b. cond b (let a : Result Place SealFault = Ok (place (at c.head)) in a) (Err faults.NoAnchor)) (eq-eqb c.head.kind 1 kind) ∙ ap (λ (r : Range). (let a : Result Place SealFault = Ok (place r) in a)) (sym there) in
+    ap answer head ∙ ap (λ b. cond b (let a : Result AnchorPlace SealFault = Ok (place (at c.head)) in a) (Err faults.NoAnchor)) (eq-eqb c.head.kind 1 kind) ∙ ap (λ (r : Range). (let a : Result AnchorPlace SealFault = Ok (place r) in a)) (sym there) in
     sym (ap (λ (r : Result (Option Component) WalkFault). and_then (result_map_both (λ found. found) walk_fault r) (λ found. option_map_or (content_place map coreboot) found (Err faults.NoAnchor))) found ∙ here)
 
 -- ---- the steps of a place
@@ -51,11 +51,11 @@ place_with_map image map found = ap (λ o. option_map_or (place_with image) o (E
 
 pub with_refused : (image : List ℕ) (map : FoundMap) (fault : SealFault)
     → (let a : Result Range SealFault = Err fault in IsErrOf a faults.Device ⊎ (a ≡ area_range image map (codes "COREBOOT")))
-    → (let a : Result Place SealFault = Err fault in IsErrOf a faults.Device ⊎ (a ≡ place_with image map))
-with_refused image map fault (inl device) = let is : fault ≡ faults.Device = cc in inl (ap (λ (f : SealFault). let a : Result Place SealFault = Err f in a) is)
+    → (let a : Result AnchorPlace SealFault = Err fault in IsErrOf a faults.Device ⊎ (a ≡ place_with image map))
+with_refused image map fault (inl device) = let is : fault ≡ faults.Device = cc in inl (ap (λ (f : SealFault). let a : Result AnchorPlace SealFault = Err f in a) is)
 with_refused image map fault (inr none) = inr (ap (λ (r : Result Range SealFault). and_then r (place_by image map)) none)
 
-pub with_found : (image : List ℕ) (map : FoundMap) (coreboot : Range) (result : Result Place SealFault)
+pub with_found : (image : List ℕ) (map : FoundMap) (coreboot : Range) (result : Result AnchorPlace SealFault)
     → (let a : Result Range SealFault = Ok coreboot in IsErrOf a faults.Device ⊎ (a ≡ area_range image map (codes "COREBOOT")))
     → IsErrOf result faults.Device ⊎ (result ≡ place_by image map coreboot) → IsErrOf result faults.Device ⊎ (result ≡ place_with image map)
 with_found image map coreboot result there (inl device) = inl device
@@ -64,11 +64,11 @@ with_found image map coreboot result (inr there) (inr is) = inr (is ∙ ap (λ (
 
 pub place_refused : (image : List ℕ) (map : FoundMap) (fault : SealFault) → Some map ≡ found_in image
     → (let a : Result Range SealFault = Err fault in IsErrOf a faults.Device ⊎ (a ≡ area_range image map (codes "COREBOOT")))
-    → (let a : Result Place SealFault = Err fault in IsErrOf a faults.Device ⊎ (a ≡ place_in image))
-place_refused image map fault found (inl device) = let is : fault ≡ faults.Device = cc in inl (ap (λ (f : SealFault). let a : Result Place SealFault = Err f in a) is)
+    → (let a : Result AnchorPlace SealFault = Err fault in IsErrOf a faults.Device ⊎ (a ≡ place_in image))
+place_refused image map fault found (inl device) = let is : fault ≡ faults.Device = cc in inl (ap (λ (f : SealFault). let a : Result AnchorPlace SealFault = Err f in a) is)
 place_refused image map fault found (inr none) = inr (ap (λ (r : Result Range SealFault). and_then r (place_by image map)) none ∙ place_with_map image map found)
 
-pub place_found : (image : List ℕ) (map : FoundMap) (coreboot : Range) (result : Result Place SealFault) → Some map ≡ found_in image
+pub place_found : (image : List ℕ) (map : FoundMap) (coreboot : Range) (result : Result AnchorPlace SealFault) → Some map ≡ found_in image
     → (let a : Result Range SealFault = Ok coreboot in IsErrOf a faults.Device ⊎ (a ≡ area_range image map (codes "COREBOOT")))
     → IsErrOf result faults.Device ⊎ (result ≡ place_by image map coreboot) → IsErrOf result faults.Device ⊎ (result ≡ place_in image)
 place_found image map coreboot result found there (inl device) = inl device

@@ -37,7 +37,7 @@ use Rattle.cbfs_anchor.specs.declared.demand.Demand.{Demand}
 use Rattle.cbfs_anchor.specs.declared.demand.Demand.TheVariants as demands
 use Rattle.cbfs_anchor.specs.declared.fault.SealFault.{SealFault}
 use Rattle.cbfs_anchor.specs.declared.fault.SealFault.TheVariants as faults
-use Rattle.cbfs_anchor.specs.declared.place.Place.{Place}
+use Rattle.cbfs_anchor.specs.declared.place.AnchorPlace.{AnchorPlace}
 use Rattle.cbfs_anchor.specs.Algorithms.{algorithm_numbered, digest_by, digest_len}
 use Rattle.cbfs_anchor.specs.Faults.{and_then, store_fault, walk_fault}
 use Rattle.cbfs_anchor.specs.Layout.{anchor_at, anchor_in, anchor_len, digests_range, elf_magic, has_header, magic, mbn_magic}
@@ -165,19 +165,19 @@ areas_kept image y map same =
 -- ---- the place
 
 -- after COREBOOT is found, by the length of the image, the areas, and the bytes of COREBOOT
-abbrev placed_by : ℕ → List Area → FoundMap → Range → List ℕ → Result Place SealFault
+abbrev placed_by : ℕ → List Area → FoundMap → Range → List ℕ → Result AnchorPlace SealFault
 placed_by n areas map coreboot x = option_map_or
     (λ (area : Area). result_map_both (area_place (map_range map) coreboot) store_fault (region_by_area n (Some area)))
     (find (is_area (codes "BOOTBLOCK")) areas) (component_place (map_range map) coreboot x)
 
-in_component : (map coreboot : Range) (x : List ℕ) (place : Place) → component_place map coreboot x ≡ Ok place → place.in_component ≡ true
+in_component : (map coreboot : Range) (x : List ℕ) (place : AnchorPlace) → component_place map coreboot x ≡ Ok place → place.in_component ≡ true
 in_component map coreboot x place is = grind (arith, common_steps)
 
-place_same : (n : ℕ) (areas : List Area) (map : FoundMap) (coreboot : Range) (x y : List ℕ) (place : Place) → placed_by n areas map coreboot x ≡ Ok place
+place_same : (n : ℕ) (areas : List Area) (map : FoundMap) (coreboot : Range) (x y : List ℕ) (place : AnchorPlace) → placed_by n areas map coreboot x ≡ Ok place
     → (place.in_component ≡ false) ⊎ (component_place (map_range map) coreboot y ≡ component_place (map_range map) coreboot x) → placed_by n areas map coreboot y ≡ Ok place
 place_same n areas map coreboot x y place is kept = go (find (is_area (codes "BOOTBLOCK")) areas) is kept
   where
-    by : Option Area → List ℕ → Result Place SealFault
+    by : Option Area → List ℕ → Result AnchorPlace SealFault
     by o z = option_map_or (λ (area : Area). result_map_both (area_place (map_range map) coreboot) store_fault (region_by_area n (Some area))) o (component_place (map_range map) coreboot z)
 
     go : (o : Option Area) → by o x ≡ Ok place → (place.in_component ≡ false) ⊎ (component_place (map_range map) coreboot y ≡ component_place (map_range map) coreboot x) → by o y ≡ Ok place
@@ -186,12 +186,12 @@ place_same n areas map coreboot x y place is kept = go (find (is_area (codes "BO
     go None found (inr same) = same ∙ found
 
 -- the ranges of a place, and an area's range inside the image
-record HasRanges (n : ℕ) (map : FoundMap) (coreboot : Range) (place : Place) : Type 0 where
+record HasRanges (n : ℕ) (map : FoundMap) (coreboot : Range) (place : AnchorPlace) : Type 0 where
   pub map_is : place.map ≡ map_range map
   pub coreboot_is : place.coreboot ≡ coreboot
   pub inside : place.in_component ≡ false → place.anchor.start + place.anchor.size ≤ n
 
-ranges_are : (n : ℕ) (areas : List Area) (map : FoundMap) (coreboot : Range) (x : List ℕ) (place : Place) → placed_by n areas map coreboot x ≡ Ok place → HasRanges n map coreboot place
+ranges_are : (n : ℕ) (areas : List Area) (map : FoundMap) (coreboot : Range) (x : List ℕ) (place : AnchorPlace) → placed_by n areas map coreboot x ≡ Ok place → HasRanges n map coreboot place
 ranges_are n areas map coreboot x place is = grind (arith, common_steps, nat_tests)
 
 -- ---- the survey
@@ -206,25 +206,25 @@ second_false a true true is outside = absurd cc
 second_false true false true is outside = absurd cc
 second_false false false true is outside = absurd cc
 
-apart_of_map : (place : Place) (digests : Range) → is_misplaced place digests ≡ false → share_bytes digests place.map ≡ false
+apart_of_map : (place : AnchorPlace) (digests : Range) → is_misplaced place digests ≡ false → share_bytes digests place.map ≡ false
 apart_of_map place digests apart = first_false (share_bytes digests place.map) _ apart
 
-apart_of_coreboot : (place : Place) (digests : Range) → is_misplaced place digests ≡ false → place.in_component ≡ false → share_bytes digests place.coreboot ≡ false
+apart_of_coreboot : (place : AnchorPlace) (digests : Range) → is_misplaced place digests ≡ false → place.in_component ≡ false → share_bytes digests place.coreboot ≡ false
 apart_of_coreboot place digests apart outside = second_false (share_bytes digests place.map) place.in_component _ apart outside
 
-survey_same : (demand : Demand) (image y : List ℕ) (place : Place) (a : Anchor) → has_header (bytes_in place.anchor y) ≡ has_header (bytes_in place.anchor image)
+survey_same : (demand : Demand) (image y : List ℕ) (place : AnchorPlace) (a : Anchor) → has_header (bytes_in place.anchor y) ≡ has_header (bytes_in place.anchor image)
     → metadata_in demand a.algorithm (bytes_in place.coreboot y) ≡ metadata_in demand a.algorithm (bytes_in place.coreboot image)
     → bytes_in place.map y ≡ bytes_in place.map image → survey_at demand y place a ≡ survey_at demand image place a
 survey_same demands.Nothing image y place a header metadata map = rw (metadata, map) refl
 survey_same demands.Found image y place a header metadata map = rw (header, metadata, map) refl
 survey_same demands.Loaded image y place a header metadata map = rw (header, metadata, map) refl
 
-record IsWritable (demand : Demand) (image : List ℕ) (place : Place) (a : Anchor) (s : Survey) : Type 0 where
+record IsWritable (demand : Demand) (image : List ℕ) (place : AnchorPlace) (a : Anchor) (s : Survey) : Type 0 where
   pub apart : is_misplaced place (digests_range a) ≡ false
   pub message : List ℕ
   pub survey : s ≡ survey_by a message (bytes_in place.map image)
 
-by_fault : (place : Place) (a : Anchor) (s : Survey) (bytes : List ℕ) (b header : Bool) (r : Result (List ℕ) SealFault)
+by_fault : (place : AnchorPlace) (a : Anchor) (s : Survey) (bytes : List ℕ) (b header : Bool) (r : Result (List ℕ) SealFault)
     → option_map_or (λ fault. Err fault) (cond b (Some faults.Misplaced) (cond header (Some faults.OwnDigest) None)) (and_then r (λ message. Ok (survey_by a message bytes))) ≡ Ok s
     → (b ≡ false) × (message : List ℕ) × (s ≡ survey_by a message bytes)
 by_fault place a s bytes true header r is = absurd cc
@@ -232,11 +232,11 @@ by_fault place a s bytes false true r is = absurd cc
 by_fault place a s bytes false false (Err fault) is = absurd cc
 by_fault place a s bytes false false (Ok message) is = (refl, message, let e : survey_by a message bytes ≡ s = cc in sym e)
 
-of_parts : (demand : Demand) (image : List ℕ) (place : Place) (a : Anchor) (s : Survey) → (is_misplaced place (digests_range a) ≡ false) × (message : List ℕ) × (s ≡ survey_by a message (bytes_in place.map image))
+of_parts : (demand : Demand) (image : List ℕ) (place : AnchorPlace) (a : Anchor) (s : Survey) → (is_misplaced place (digests_range a) ≡ false) × (message : List ℕ) × (s ≡ survey_by a message (bytes_in place.map image))
     → IsWritable demand image place a s
 of_parts demand image place a s parts = record { apart = parts.0; message = parts.1; survey = parts.2 }
 
-writable : (demand : Demand) (image : List ℕ) (place : Place) (a : Anchor) (s : Survey) → demand ≢ demands.Nothing → survey_at demand image place a ≡ Ok s → IsWritable demand image place a s
+writable : (demand : Demand) (image : List ℕ) (place : AnchorPlace) (a : Anchor) (s : Survey) → demand ≢ demands.Nothing → survey_at demand image place a ≡ Ok s → IsWritable demand image place a s
 writable demands.Nothing image place a s some is = absurd (some refl)
 writable demands.Found image place a s some is =
     of_parts demands.Found image place a s (by_fault place a s (bytes_in place.map image) (is_misplaced place (digests_range a)) (has_header (bytes_in place.anchor image)) (metadata_in demands.Found a.algorithm (bytes_in place.coreboot image)) is)
@@ -251,11 +251,11 @@ area_inside image map name r is = region_inside (length image) (find (is_area na
     region_inside : (n : ℕ) (area : Option Area) (r : Range) → result_map_both (λ range. range) store_fault (region_by_area n area) ≡ Ok r → r.start + r.size ≤ n
     region_inside n area r is = grind (arith, common_steps, nat_tests)
 
-area_outside : (map coreboot : Range) (place : Place) (r : Result Range StoreFault) → result_map_both (area_place map coreboot) store_fault r ≡ Ok place → place.in_component ≡ false
-area_outside map coreboot place (Ok range) is = let e : area_place map coreboot range ≡ place = cc in ap (λ (p : Place). p.in_component) (sym e)
+area_outside : (map coreboot : Range) (place : AnchorPlace) (r : Result Range StoreFault) → result_map_both (area_place map coreboot) store_fault r ≡ Ok place → place.in_component ≡ false
+area_outside map coreboot place (Ok range) is = let e : area_place map coreboot range ≡ place = cc in ap (λ (p : AnchorPlace). p.in_component) (sym e)
 area_outside map coreboot place (Err fault) is = absurd cc
 
-component_placed : (n : ℕ) (areas : List Area) (map : FoundMap) (coreboot : Range) (x : List ℕ) (place : Place) → placed_by n areas map coreboot x ≡ Ok place → place.in_component ≡ true
+component_placed : (n : ℕ) (areas : List Area) (map : FoundMap) (coreboot : Range) (x : List ℕ) (place : AnchorPlace) → placed_by n areas map coreboot x ≡ Ok place → place.in_component ≡ true
     → component_place (map_range map) coreboot x ≡ Ok place
 component_placed n areas map coreboot x place is inside = go (find (is_area (codes "BOOTBLOCK")) areas) is
   where
@@ -264,7 +264,7 @@ component_placed n areas map coreboot x place is inside = go (find (is_area (cod
     go (Some area) found = let outside = area_outside (map_range map) coreboot place (region_by_area n (Some area)) found in absurd cc
     go None found = found
 
-found_place : (map coreboot : Range) (found : Result (Option Component) WalkFault) (place : Place)
+found_place : (map coreboot : Range) (found : Result (Option Component) WalkFault) (place : AnchorPlace)
     → and_then (result_map_both (λ c. c) walk_fault found) (λ c. option_map_or (content_place map coreboot) c (Err faults.NoAnchor)) ≡ Ok place
     → (f : Component) × (found ≡ Ok (Some f)) × (place.anchor ≡ content_range coreboot f)
 found_place map coreboot (Err fault) place is = absurd cc
@@ -310,7 +310,7 @@ beside r t apart = grind (arith, nat_tests)
 length-digests : (a : Algorithm) (message map : List ℕ) → length (digest_by a message ++ digest_by a map) ≡ 2 * digest_len a
 length-digests a message map = omega (arith, length-append (digest_by a message) (digest_by a map), length-digest_by a message, length-digest_by a map)
 
-module _ (demand : Demand) (image : List ℕ) (map : FoundMap) (coreboot : Range) (place : Place) (a : Anchor) (message : List ℕ)
+module _ (demand : Demand) (image : List ℕ) (map : FoundMap) (coreboot : Range) (place : AnchorPlace) (a : Anchor) (message : List ℕ)
     (there : area_range image map (codes "COREBOOT") ≡ Ok coreboot) (placed : place_by image map coreboot ≡ Ok place)
     (anchored : anchor_in place.anchor.start (bytes_in place.anchor image) ≡ Ok a) (apart : is_misplaced place (digests_range a) ≡ false)
     (inside : LiesIn place.anchor image) where
@@ -402,7 +402,7 @@ module _ (demand : Demand) (image : List ℕ) (map : FoundMap) (coreboot : Range
     pub same_survey : survey_at demand image place a ≡ Ok s → survey_with demand now map ≡ Ok s
     unfolding survey_with
     same_survey surveyed =
-        ap (λ (r : Result Place SealFault). and_then r (survey_from demand now)) same_place
+        ap (λ (r : Result AnchorPlace SealFault). and_then r (survey_from demand now)) same_place
         ∙ ap (λ (r : Result Anchor SealFault). and_then r (survey_at demand now place)) same_anchor
         ∙ survey_same demand image now place a same_header same_metadata same_map
         ∙ surveyed
@@ -440,7 +440,7 @@ module _ (demand : Demand) (image : List ℕ) (map : FoundMap) (coreboot : Range
     component_metadata_kept : metadata_in demand a.algorithm (bytes_in coreboot now) ≡ metadata_in demand a.algorithm region
     component_metadata_kept = ap (metadata_in demand a.algorithm) over_region ∙ region_metadata region (codes "bootblock") f found k u low high demand a.algorithm
 
-    by_component : Result (Option Component) WalkFault → Result Place SealFault
+    by_component : Result (Option Component) WalkFault → Result AnchorPlace SealFault
     by_component r = and_then (result_map_both (λ g. g) walk_fault r) (λ g. option_map_or (content_place (map_range map) coreboot) g (Err faults.NoAnchor))
 
     component_place_kept : component_place (map_range map) coreboot (bytes_in coreboot now) ≡ component_place (map_range map) coreboot region
@@ -448,7 +448,7 @@ module _ (demand : Demand) (image : List ℕ) (map : FoundMap) (coreboot : Range
     component_place_kept =
         ap (component_place (map_range map) coreboot) over_region
         ∙ ap by_component (region_component region (codes "bootblock") f found k u low high)
-        ∙ ap (λ (h : Head). (if h.kind == 1 then Ok (let it : Place = record { map = map_range map; coreboot = coreboot; anchor = record { start = coreboot.start + p + h.offset; size = h.len }; in_component = true } in it)
+        ∙ ap (λ (h : Head). (if h.kind == 1 then Ok (let it : AnchorPlace = record { map = map_range map; coreboot = coreboot; anchor = record { start = coreboot.start + p + h.offset; size = h.len }; in_component = true } in it)
         else Err faults.NoAnchor)) (region_head region (codes "bootblock") f found k u low high)
         ∙ ap (λ (g : Component). content_place (map_range map) coreboot g) (sym (position region (codes "bootblock") f found))
         ∙ ap by_component (sym found)
@@ -458,7 +458,7 @@ module _ (demand : Demand) (image : List ℕ) (map : FoundMap) (coreboot : Range
 
 -- ---- the law
 
-module _ (demand : Demand) (image : List ℕ) (map : FoundMap) (coreboot : Range) (place : Place) (a : Anchor) (message : List ℕ)
+module _ (demand : Demand) (image : List ℕ) (map : FoundMap) (coreboot : Range) (place : AnchorPlace) (a : Anchor) (message : List ℕ)
     (there : area_range image map (codes "COREBOOT") ≡ Ok coreboot) (placed : place_by image map coreboot ≡ Ok place)
     (anchored : anchor_in place.anchor.start (bytes_in place.anchor image) ≡ Ok a) (apart : is_misplaced place (digests_range a) ≡ false) where
   abbrev t : Survey
@@ -500,7 +500,7 @@ module _ (demand : Demand) (image : List ℕ) (map : FoundMap) (coreboot : Range
   pub kept_map : found_in image ≡ Some map → map.at < a.at → found_in (sealed t image) ≡ Some map
   kept_map = map_now demand image map coreboot place a message there placed anchored apart inside
 
-place_of : (demand : Demand) (image : List ℕ) (map : FoundMap) (s : Survey) → survey_with demand image map ≡ Ok s → (place : Place) × (place_with image map ≡ Ok place) × (survey_from demand image place ≡ Ok s)
+place_of : (demand : Demand) (image : List ℕ) (map : FoundMap) (s : Survey) → survey_with demand image map ≡ Ok s → (place : AnchorPlace) × (place_with image map ≡ Ok place) × (survey_from demand image place ≡ Ok s)
 unfolding survey_with
 place_of demand image map s is = then_ok (place_with image map) (survey_from demand image) s is
 

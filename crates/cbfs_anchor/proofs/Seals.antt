@@ -9,7 +9,7 @@ use Rattle.flash_device.proofs.RegionLemmas.{image_is}
 use Rattle.flash_map.specs.declared.search.FoundMap.{FoundMap}
 use Rattle.cbfs_anchor.specs.declared.anchor.Anchor.{Anchor}
 use Rattle.cbfs_anchor.specs.declared.demand.Demand.{Demand}
-use Rattle.cbfs_anchor.specs.declared.place.Place.{Place}
+use Rattle.cbfs_anchor.specs.declared.place.AnchorPlace.{AnchorPlace}
 use Rattle.cbfs_anchor.specs.declared.report.Report.{Report}
 use Rattle.cbfs_anchor.specs.declared.fault.SealFault.{SealFault}
 use Rattle.cbfs_anchor.specs.declared.fault.SealFault.TheVariants as faults
@@ -22,7 +22,7 @@ use Rattle.cbfs_anchor.specs.Seals.{IsReport, IsReported, Survey, digests, repor
 
 -- ---- after the anchor is found
 
-module _ (demand : Demand) (image : List ℕ) (place : Place) (a : Anchor) where
+module _ (demand : Demand) (image : List ℕ) (place : AnchorPlace) (a : Anchor) where
   abbrev its_fault : Option SealFault
   its_fault = writing_fault demand place a (bytes_in place.anchor image)
 
@@ -44,46 +44,46 @@ abbrev KnowsOr : {T : Type 0} → Result T SealFault → Result T SealFault → 
 KnowsOr found is = IsErrOf found faults.Device ⊎ (found ≡ is)
 
 -- after the range with the anchor is found
-pub no_anchor : (demand : Demand) (image : List ℕ) (place : Place) (fault : SealFault) → (let a : Result Anchor SealFault = Err fault in KnowsOr a (anchor_in place.anchor.start (bytes_in place.anchor image)))
+pub no_anchor : (demand : Demand) (image : List ℕ) (place : AnchorPlace) (fault : SealFault) → (let a : Result Anchor SealFault = Err fault in KnowsOr a (anchor_in place.anchor.start (bytes_in place.anchor image)))
     → (fault ≡ faults.Device) ⊎ (survey_from demand image place ≡ Err fault)
 no_anchor demand image place fault (inl device) = inl cc
 no_anchor demand image place fault (inr is) = inr (ap (λ (r : Result Anchor SealFault). and_then r (survey_at demand image place)) (sym is))
 
-pub inspected : (demand : Demand) (image : List ℕ) (place : Place) (a : Anchor) (result : Result Report SealFault) → (let b : Result Anchor SealFault = Ok a in KnowsOr b (anchor_in place.anchor.start (bytes_in place.anchor image)))
+pub inspected : (demand : Demand) (image : List ℕ) (place : AnchorPlace) (a : Anchor) (result : Result Report SealFault) → (let b : Result Anchor SealFault = Ok a in KnowsOr b (anchor_in place.anchor.start (bytes_in place.anchor image)))
     → IsReported (survey_at demand image place a) result image → IsReported (survey_from demand image place) result image
 inspected demand image place a result (inl device) told = absurd cc
 inspected demand image place a result (inr is) told =
     subst (λ (survey : Result Survey SealFault). IsReported survey result image) (ap (λ (r : Result Anchor SealFault). and_then r (survey_at demand image place)) is) told
 
 -- by a place, or the error of its search
-module _ (demand : Demand) (image : List ℕ) (there : Result Place SealFault) where
+module _ (demand : Demand) (image : List ℕ) (there : Result AnchorPlace SealFault) where
   abbrev by_place : Result Survey SealFault
   by_place = and_then there (survey_from demand image)
 
-  unplaced : (fault : SealFault) → (let a : Result Place SealFault = Err fault in KnowsOr a there) → (fault ≡ faults.Device) ⊎ (by_place ≡ Err fault)
+  unplaced : (fault : SealFault) → (let a : Result AnchorPlace SealFault = Err fault in KnowsOr a there) → (fault ≡ faults.Device) ⊎ (by_place ≡ Err fault)
   unplaced fault (inl device) = inl cc
-  unplaced fault (inr is) = inr (ap (λ (r : Result Place SealFault). and_then r (survey_from demand image)) (sym is))
+  unplaced fault (inr is) = inr (ap (λ (r : Result AnchorPlace SealFault). and_then r (survey_from demand image)) (sym is))
 
-  placed : (place : Place) (result : Result Report SealFault) → (let b : Result Place SealFault = Ok place in KnowsOr b there) → IsReported (survey_from demand image place) result image → IsReported by_place result image
+  placed : (place : AnchorPlace) (result : Result Report SealFault) → (let b : Result AnchorPlace SealFault = Ok place in KnowsOr b there) → IsReported (survey_from demand image place) result image → IsReported by_place result image
   placed place result (inl device) told = absurd cc
   placed place result (inr is) told =
-      subst (λ (survey : Result Survey SealFault). IsReported survey result image) (ap (λ (r : Result Place SealFault). and_then r (survey_from demand image)) is) told
+      subst (λ (survey : Result Survey SealFault). IsReported survey result image) (ap (λ (r : Result AnchorPlace SealFault). and_then r (survey_from demand image)) is) told
 
-pub no_place : (demand : Demand) (image : List ℕ) (fault : SealFault) → (let a : Result Place SealFault = Err fault in KnowsOr a (place_in image)) → (fault ≡ faults.Device) ⊎ (survey_in demand image ≡ Err fault)
+pub no_place : (demand : Demand) (image : List ℕ) (fault : SealFault) → (let a : Result AnchorPlace SealFault = Err fault in KnowsOr a (place_in image)) → (fault ≡ faults.Device) ⊎ (survey_in demand image ≡ Err fault)
 unfolding survey_in
 no_place demand image fault there = unplaced demand image (place_in image) fault there
 
-pub place_inspected : (demand : Demand) (image : List ℕ) (place : Place) (result : Result Report SealFault) → (let b : Result Place SealFault = Ok place in KnowsOr b (place_in image))
+pub place_inspected : (demand : Demand) (image : List ℕ) (place : AnchorPlace) (result : Result Report SealFault) → (let b : Result AnchorPlace SealFault = Ok place in KnowsOr b (place_in image))
     → IsReported (survey_from demand image place) result image → IsReported (survey_in demand image) result image
 unfolding survey_in
 place_inspected demand image place result there told = placed demand image (place_in image) place result there told
 
 -- the same by a known map
-pub no_place_with : (demand : Demand) (image : List ℕ) (map : FoundMap) (fault : SealFault) → (let a : Result Place SealFault = Err fault in KnowsOr a (place_with image map)) → (fault ≡ faults.Device) ⊎ (survey_with demand image map ≡ Err fault)
+pub no_place_with : (demand : Demand) (image : List ℕ) (map : FoundMap) (fault : SealFault) → (let a : Result AnchorPlace SealFault = Err fault in KnowsOr a (place_with image map)) → (fault ≡ faults.Device) ⊎ (survey_with demand image map ≡ Err fault)
 unfolding survey_with
 no_place_with demand image map fault there = unplaced demand image (place_with image map) fault there
 
-pub place_inspected_with : (demand : Demand) (image : List ℕ) (map : FoundMap) (place : Place) (result : Result Report SealFault) → (let b : Result Place SealFault = Ok place in KnowsOr b (place_with image map))
+pub place_inspected_with : (demand : Demand) (image : List ℕ) (map : FoundMap) (place : AnchorPlace) (result : Result Report SealFault) → (let b : Result AnchorPlace SealFault = Ok place in KnowsOr b (place_with image map))
     → IsReported (survey_from demand image place) result image → IsReported (survey_with demand image map) result image
 unfolding survey_with
 place_inspected_with demand image map place result there told = placed demand image (place_with image map) place result there told

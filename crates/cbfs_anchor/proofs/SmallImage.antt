@@ -3,7 +3,7 @@ use Rattle.std.proofs.Common.{◌≡◌, false, length, Some, Ok, refl}
 use Rattle.memchr.specs.Find.{first_of, matches_from}
 use Rattle.flash_format.specs.Components.{components_from}
 use Rattle.flash_format.specs.Cut.{cut_after}
-use Rattle.flash_format.specs.Entry.{attr_head_of, attributes_after, entry}
+use Rattle.flash_format.specs.Entry.{attr_head_of, scan_after, entry}
 use Rattle.flash_format.specs.Flashmap.{area_of, areas_from, fmap_head_of, has_signature, is_map, is_valid_head, map_from}
 use Rattle.flash_format.specs.Head.{extent_of, head_at, head_of}
 use Rattle.flash_device.specs.Regions.{bytes_in}
@@ -24,7 +24,7 @@ unfolding map_from is_map has_signature is_valid_head fmap_head_of small_image s
 its_map = refl
 
 pub its_survey : survey_in Found small_image ≡ Ok small_survey
-unfolding survey_in place_in anchor_in metadata_in all_metadata first_fault components_from cut_after entry head_of head_at extent_of attributes_after attr_head_of matches_from first_of map_from is_map has_signature is_valid_head fmap_head_of areas_from area_of small_image small_map free_cell unsealed_anchor
+unfolding survey_in place_in anchor_in metadata_in all_metadata first_fault components_from cut_after entry head_of head_at extent_of scan_after attr_head_of matches_from first_of map_from is_map has_signature is_valid_head fmap_head_of areas_from area_of small_image small_map free_cell unsealed_anchor
 its_survey = refl
 
 pub map_bytes : bytes_in small_place.map small_image ≡ small_map

@@ -5,7 +5,7 @@ use lib.Chars.{codes}
 use Rattle.flash_map.specs.declared.search.FoundMap.{FoundMap}
 use Rattle.cbfs_anchor.specs.declared.algorithm.Algorithm.TheVariants.{Sha1}
 use Rattle.cbfs_anchor.specs.declared.anchor.Anchor.{Anchor}
-use Rattle.cbfs_anchor.specs.declared.place.Place.{Place}
+use Rattle.cbfs_anchor.specs.declared.place.AnchorPlace.{AnchorPlace}
 use Rattle.cbfs_anchor.specs.Layout.{magic}
 use Rattle.cbfs_anchor.specs.Seals.{Survey, survey_by}
 
@@ -55,7 +55,7 @@ small_anchor = record { at = 256; algorithm = Sha1 }
 abbrev pub small_survey : Survey
 small_survey = survey_by small_anchor [] small_map
 
-abbrev pub small_place : Place
+abbrev pub small_place : AnchorPlace
 small_place = record {
   map = record { start = 0; size = 182 };
   coreboot = record { start = 192; size = 64 };

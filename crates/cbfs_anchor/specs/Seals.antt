@@ -14,7 +14,7 @@ use Rattle.cbfs_anchor.specs.declared.report.Report.{Report}
 use Rattle.cbfs_anchor.specs.Algorithms.{digest_by, digest_len}
 use Rattle.cbfs_anchor.specs.Faults.{and_then}
 use Rattle.cbfs_anchor.specs.Layout.{anchor_in, digests_range, has_header}
-use Rattle.cbfs_anchor.specs.declared.place.Place.{Place}
+use Rattle.cbfs_anchor.specs.declared.place.AnchorPlace.{AnchorPlace}
 use Rattle.cbfs_anchor.specs.Places.{place_in, place_with, place_reads, is_misplaced}
 use Rattle.cbfs_anchor.specs.Metadata.{metadata_in}
 
@@ -29,20 +29,20 @@ survey_by a message map = let digest = digest_by a.algorithm in
     record { anchor = a; metadata = digest message; map = digest map }
 
 -- why the digests can't be written
-abbrev pub writing_fault : Demand → Place → Anchor → List ℕ → Option SealFault
+abbrev pub writing_fault : Demand → AnchorPlace → Anchor → List ℕ → Option SealFault
 writing_fault demands.Nothing place a x = None
 writing_fault demand place a x = if is_misplaced place (digests_range a) then Some faults.Misplaced
     else (if has_header x then Some faults.OwnDigest else None)
 
 -- after the anchor is found
-abbrev pub survey_at : Demand → List ℕ → Place → Anchor → Result Survey SealFault
+abbrev pub survey_at : Demand → List ℕ → AnchorPlace → Anchor → Result Survey SealFault
 survey_at demand image place a = option_map_or (λ fault. Err fault)
     (writing_fault demand place a (bytes_in place.anchor image))
     (and_then (metadata_in demand a.algorithm (bytes_in place.coreboot image))
     (λ message. Ok (survey_by a message (bytes_in place.map image))))
 
 -- after the range with the anchor is found
-abbrev pub survey_from : Demand → List ℕ → Place → Result Survey SealFault
+abbrev pub survey_from : Demand → List ℕ → AnchorPlace → Result Survey SealFault
 survey_from demand image place =
     and_then (anchor_in place.anchor.start (bytes_in place.anchor image))
     (survey_at demand image place)

@@ -89,7 +89,7 @@ pub fn has_header<F: Flash>(paged: &mut Paged<F>, range: Region) -> Result<bool,
 pub fn find_anchor<F: Flash>(paged: &mut Paged<F>, range: Region) -> Result<Anchor, SealFault>
     requires { LiesOn range paged.old.device }
 
-    ensures after { HasReadBy by_device (range.size / 3840 + 2) paged.old paged.new result }
+    ensures calls { HasReadBy by_device (range.size / 3840 + 2) paged.old paged.new result }
     ensures inside { IfOk result (λ a. (range.start ≤ a.at)
         × (a.at + anchor_len a.algorithm ≤ range.start + range.size)) }
     ensures anchor { OnHonestIn paged.old.device range (λ x. IsErrOf result SealFault.Device

@@ -10,17 +10,20 @@ ghost use Rattle.cbfs_anchor.specs.declared.demand.Demand.TheVariants.{Nothing};
 
 use crate::demand::Demand;
 use crate::fault::SealFault;
-use crate::place::{Place, area_range, place_by};
+use crate::place::{AnchorPlace, area_range, place_by};
 use crate::report::Report;
 use crate::sealing::inspect_place;
 use flash_device::{Flash, Paged};
 use flash_map::FoundMap;
 
 /// Finds COREBOOT and the range with the anchor, by the image's flash map.
-pub fn place_with_map<F: Flash>(paged: &mut Paged<F>, map: &FoundMap) -> Result<Place, SealFault>
+pub fn place_with_map<F: Flash>(
+    paged: &mut Paged<F>,
+    map: &FoundMap,
+) -> Result<AnchorPlace, SealFault>
     requires { map_end map.now ≤ length paged.old.device.content }
 
-    ensures after { HasReadBy by_device (2 * map.now.head.nareas
+    ensures calls { HasReadBy by_device (2 * map.now.head.nareas
         + length paged.old.device.content / 16 + 2) paged.old paged.new result }
     ensures map { IfOk result (λ place. LiesOn place.map paged.old.device) }
     ensures coreboot { IfOk result (λ place. LiesOn place.coreboot paged.old.device) }
@@ -40,7 +43,7 @@ fn inspect_with_map<F: Flash>(
 ) -> Result<Report, SealFault>
     requires { map_end map.now ≤ length paged.old.device.content }
 
-    ensures after { HasReadBy by_device (inspection_reads_with map.now paged.old.device)
+    ensures calls { HasReadBy by_device (inspection_reads_with map.now paged.old.device)
         paged.old paged.new result }
     ensures report { OnHonest paged.old.device (λ image.
         IsReported (survey_with demand image map.now) result image) }
@@ -57,7 +60,7 @@ pub fn is_outdated_with_map<F: Flash>(
 ) -> Result<bool, SealFault>
     requires { map_end map.now ≤ length paged.old.device.content }
 
-    ensures after { HasReadBy by_device (inspection_reads_with map.now paged.old.device)
+    ensures calls { HasReadBy by_device (inspection_reads_with map.now paged.old.device)
         paged.old paged.new result }
     ensures outdated { OnHonest paged.old.device (λ image.
         IsOutdatedBy (survey_with Nothing image map.now) result image) }

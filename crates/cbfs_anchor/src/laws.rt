@@ -7,7 +7,7 @@ ghost use Rattle.flash_map.specs.declared.search.FoundMap.{FoundMap};
 ghost use Rattle.cbfs_anchor.specs.declared.anchor.Anchor.{Anchor};
 ghost use Rattle.cbfs_anchor.specs.declared.demand.Demand.{Demand};
 ghost use Rattle.cbfs_anchor.specs.declared.demand.Demand.TheVariants.{Nothing};
-ghost use Rattle.cbfs_anchor.specs.declared.place.Place.{Place};
+ghost use Rattle.cbfs_anchor.specs.declared.place.AnchorPlace.{AnchorPlace};
 ghost use Rattle.cbfs_anchor.specs.Layout.{digests_range};
 ghost use Rattle.cbfs_anchor.specs.Places.{is_misplaced};
 ghost use Rattle.cbfs_anchor.specs.Metadata.{all_metadata, metadata};
@@ -24,10 +24,10 @@ pub fn sealed_images_are_valid()
 /// A seal whose digests are not misplaced keeps the flash map, and the region of the components if
 /// an area has the anchor.
 pub fn seals_keep_map_and_components()
-    ensures map { (place : Place) (a : Anchor) (message map image : List ℕ)
+    ensures map { (place : AnchorPlace) (a : Anchor) (message map image : List ℕ)
         → LiesIn (digests_range a) image → is_misplaced place (digests_range a) ≡ false
         → bytes_in place.map (sealed (survey_by a message map) image) ≡ bytes_in place.map image }
-    ensures components { (place : Place) (a : Anchor) (message map image : List ℕ)
+    ensures components { (place : AnchorPlace) (a : Anchor) (message map image : List ℕ)
         → LiesIn (digests_range a) image → is_misplaced place (digests_range a) ≡ false
         → place.in_component ≡ false → bytes_in place.coreboot
         (sealed (survey_by a message map) image) ≡ bytes_in place.coreboot image }

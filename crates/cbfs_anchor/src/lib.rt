@@ -30,6 +30,6 @@ pub use numbers::{
     a_renamed_component_is_hashed, a_seal_keeps_map_and_entry, a_sealed_anchor_is_at_its_place,
     a_sealed_image_has_its_digest,
 };
-pub use place::Place;
+pub use place::AnchorPlace;
 pub use report::Report;
 pub use sealing::{inspect, inspect_anchor, is_outdated, seal};

@@ -32,7 +32,7 @@ pub fn first_hash<F: Flash>(
 ) -> Result<Option<StoredHash>, FlashFault>
     requires { IsCellOn IsComponentIn region cell.now paged.old.device }
 
-    ensures after { HasAnswered (reads_over cell.now.head.offset) paged.old paged.new result }
+    ensures calls { HasAnswered (reads_over cell.now.head.offset) paged.old paged.new result }
     ensures hash { ReadsCellAs paged.old region cell.now result
         (λ x. stored_hash (cell_attributes x)) }
 {
@@ -55,7 +55,7 @@ fn component_fault<F: Flash>(
 ) -> Result<Option<SealFault>, FlashFault>
     requires { IsCellOn IsComponentIn region cell.now paged.old.device }
 
-    ensures after { HasAnswered (reads_over cell.now.head.offset) paged.old paged.new result }
+    ensures calls { HasAnswered (reads_over cell.now.head.offset) paged.old paged.new result }
     ensures fault { ReadsCellAs paged.old region cell.now result
         (λ x. component_fault demand algorithm (component_at cell.now.at x)) }
     ensures own { IfFound result (λ fault. by_device fault ≡ 0) }
@@ -83,7 +83,7 @@ fn hash_terminated<F: Flash>(
     requires cell { IsCellOn IsComponentIn region cell.now paged.old.device }
     requires short { cell.now.head.offset ≤ 256 }
 
-    ensures after { HasAnswered 2 paged.old paged.new result }
+    ensures calls { HasAnswered 2 paged.old paged.new result }
     ensures algorithm { algorithm_of hasher.new ≡ algorithm_of hasher.old }
     ensures hashed { OnHonestIn paged.old.device region (λ x. (message : List ℕ)
         → Holds hasher.old message → OnOk result (Holds hasher.new (message ++ terminated
@@ -110,7 +110,7 @@ fn hash_cell<F: Flash>(
 ) -> Result<(), SealFault>
     requires { IsCellOn IsCellIn region cell.now paged.old.device }
 
-    ensures after { HasReadBy by_device (3 + cell.now.span / 3840) paged.old paged.new result }
+    ensures calls { HasReadBy by_device (3 + cell.now.span / 3840) paged.old paged.new result }
     ensures algorithm { algorithm_of hasher.new ≡ algorithm_of hasher.old }
     ensures hashed { OnHonestIn paged.old.device region (λ x. StandsIn x cell.now
         → (message : List ℕ) → Holds hasher.old message → MatchResult result
@@ -141,7 +141,7 @@ pub fn hash_metadata<F: Flash>(
 ) -> Result<Hasher, SealFault>
     requires { LiesOn region paged.old.device }
 
-    ensures after { HasReadBy by_device (region.size / 16 + 2) paged.old paged.new result }
+    ensures calls { HasReadBy by_device (region.size / 16 + 2) paged.old paged.new result }
     ensures algorithm { IfOk result (λ hasher. algorithm_of hasher ≡ algorithm) }
     ensures hashed { OnHonestIn paged.old.device region (λ x. MatchResult result
         (λ hasher. (message : List ℕ) × Holds hasher message

@@ -21,7 +21,7 @@ pub fn name_at<F: Flash>(
     out: &mut [u8; 256],
 ) -> Result<usize, SealFault>
     // On any device.
-    ensures after { HasReadBy by_device (map_reads paged.old.device + 1)
+    ensures calls { HasReadBy by_device (map_reads paged.old.device + 1)
         paged.old paged.new result }
     ensures short { IfOk result (λ n. n ≤ 256) }
 

@@ -15,7 +15,7 @@ const BOOTBLOCK: u32 = 1;
 
 /// The ranges of the flash map, of COREBOOT, and of the bytes that may have the anchor.
 #[derive(Clone, Copy, Drop)]
-pub struct Place {
+pub struct AnchorPlace {
     pub map: Region,
     pub coreboot: Region,
     pub anchor: Region,
@@ -31,7 +31,7 @@ pub fn area_range<F: Flash>(
 ) -> Result<Region, SealFault>
     requires { map_end map.now ≤ length paged.old.device.content }
 
-    ensures after { HasReadBy by_device map.now.head.nareas paged.old paged.new result }
+    ensures calls { HasReadBy by_device map.now.head.nareas paged.old paged.new result }
     ensures inside { IfOk result (λ range. LiesOn range paged.old.device) }
     ensures range { OnHonest paged.old.device (λ image. IsErrOf result SealFault.Device
         ⊎ (result ≡ area_range image map.now name.now)) }
@@ -45,10 +45,10 @@ fn component_place<F: Flash>(
     paged: &mut Paged<F>,
     map: Region,
     coreboot: Region,
-) -> Result<Place, SealFault>
+) -> Result<AnchorPlace, SealFault>
     requires { LiesOn coreboot paged.old.device }
 
-    ensures after { HasReadBy by_device (coreboot.size / 16 + 2) paged.old paged.new result }
+    ensures calls { HasReadBy by_device (coreboot.size / 16 + 2) paged.old paged.new result }
     ensures ranges { IfOk result (λ place. (place.map ≡ map) × (place.coreboot ≡ coreboot)
         × LiesOn place.anchor paged.old.device) }
     ensures place { OnHonestIn paged.old.device coreboot (λ x. IsErrOf result SealFault.Device
@@ -63,7 +63,7 @@ fn component_place<F: Flash>(
     }
     let start = coreboot.start() + cell.at + u64::from(cell.head.offset);
     match Region::within(start, u64::from(cell.head.len), paged.len()) {
-        Some(anchor) => Ok(Place {
+        Some(anchor) => Ok(AnchorPlace {
             map,
             coreboot,
             anchor,
@@ -78,11 +78,11 @@ pub fn place_by<F: Flash>(
     paged: &mut Paged<F>,
     map: &FoundMap,
     coreboot: Region,
-) -> Result<Place, SealFault>
+) -> Result<AnchorPlace, SealFault>
     requires inside { map_end map.now ≤ length paged.old.device.content }
     requires coreboot { LiesOn coreboot paged.old.device }
 
-    ensures after { HasReadBy by_device (map.now.head.nareas + coreboot.size / 16 + 2)
+    ensures calls { HasReadBy by_device (map.now.head.nareas + coreboot.size / 16 + 2)
         paged.old paged.new result }
     ensures ranges { IfOk result (λ place. (place.map ≡ map_range map.now)
         × (place.coreboot ≡ coreboot) × LiesOn place.anchor paged.old.device) }
@@ -93,7 +93,7 @@ pub fn place_by<F: Flash>(
         return Err(SealFault::NoFmap);
     };
     match area_named(paged, map, b"BOOTBLOCK")? {
-        Some(area) => Ok(Place {
+        Some(area) => Ok(AnchorPlace {
             map: range,
             coreboot,
             anchor: region_of_area(Some(area), paged.len())?,
@@ -104,8 +104,8 @@ pub fn place_by<F: Flash>(
 }
 
 /// Finds the flash map, COREBOOT, and the range with the anchor.
-pub fn find_place<F: Flash>(paged: &mut Paged<F>) -> Result<Place, SealFault>
-    ensures after { HasReadBy by_device (place_reads paged.old.device) paged.old paged.new result }
+pub fn find_place<F: Flash>(paged: &mut Paged<F>) -> Result<AnchorPlace, SealFault>
+    ensures calls { HasReadBy by_device (place_reads paged.old.device) paged.old paged.new result }
     ensures map { IfOk result (λ place. LiesOn place.map paged.old.device) }
     ensures coreboot { IfOk result (λ place. LiesOn place.coreboot paged.old.device) }
     ensures anchor { IfOk result (λ place. LiesOn place.anchor paged.old.device) }
@@ -129,7 +129,7 @@ fn share_bytes(r: Region, s: Region) -> bool
 }
 
 /// Returns whether the digests lie in the flash map, or in COREBOOT outside the component.
-pub fn is_misplaced(place: &Place, digests: Region) -> bool
+pub fn is_misplaced(place: &AnchorPlace, digests: Region) -> bool
     requires map { place.now.map.start + place.now.map.size < 2 ^ 64 }
     requires coreboot { place.now.coreboot.start + place.now.coreboot.size < 2 ^ 64 }
     requires digests { digests.start + digests.size < 2 ^ 64 }

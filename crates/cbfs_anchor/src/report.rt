@@ -34,7 +34,7 @@ pub fn report_of<F: Flash>(
     requires metadata { algorithm_of metadata ≡ anchor.algorithm }
     requires map { algorithm_of map ≡ anchor.algorithm }
 
-    ensures after { HasAnswered 1 paged.old paged.new result }
+    ensures calls { HasAnswered 1 paged.old paged.new result }
     ensures anchor { IfOk result (λ report. report.anchor ≡ anchor) }
     ensures report { OnHonest paged.old.device (λ image. (message bytes : List ℕ)
         → Holds metadata message → Holds map bytes

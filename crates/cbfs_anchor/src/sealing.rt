@@ -12,7 +12,7 @@ use crate::anchor::{Anchor, DIGESTS_PLACE, find_anchor, has_header};
 use crate::demand::Demand;
 use crate::fault::SealFault;
 use crate::metadata::{hash_metadata, hash_range};
-use crate::place::{Place, find_place, is_misplaced};
+use crate::place::{AnchorPlace, find_place, is_misplaced};
 use crate::report::{Report, report_of};
 use arrayvec::ArrayVec;
 use flash_device::{Flash, FlashFault, MemSource, Paged, Region, Unwatched};
@@ -22,7 +22,7 @@ use flash_format::push_text;
 fn writing_fault<F: Flash>(
     paged: &mut Paged<F>,
     demand: Demand,
-    place: &Place,
+    place: &AnchorPlace,
     anchor: Anchor,
 ) -> Result<Option<SealFault>, FlashFault>
     requires map { LiesOn place.now.map paged.old.device }
@@ -30,7 +30,7 @@ fn writing_fault<F: Flash>(
     requires range { LiesOn place.now.anchor paged.old.device }
     requires inside { anchor.at + anchor_len anchor.algorithm ≤ length paged.old.device.content }
 
-    ensures after { HasAnswered 1 paged.old paged.new result }
+    ensures calls { HasAnswered 1 paged.old paged.new result }
     ensures own { IfFound result (λ fault. by_device fault ≡ 0) }
     ensures fault { OnHonestIn paged.old.device place.now.anchor (λ x. IfOk result (λ fault.
         fault ≡ writing_fault demand place.now anchor x)) }
@@ -55,7 +55,7 @@ fn writing_fault<F: Flash>(
 pub fn inspect_anchor<F: Flash>(
     paged: &mut Paged<F>,
     demand: Demand,
-    place: &Place,
+    place: &AnchorPlace,
     anchor: Anchor,
 ) -> Result<Report, SealFault>
     requires map { LiesOn place.now.map paged.old.device }
@@ -63,7 +63,7 @@ pub fn inspect_anchor<F: Flash>(
     requires range { LiesOn place.now.anchor paged.old.device }
     requires inside { anchor.at + anchor_len anchor.algorithm ≤ length paged.old.device.content }
 
-    ensures after { HasReadBy by_device (length paged.old.device.content / 16
+    ensures calls { HasReadBy by_device (length paged.old.device.content / 16
         + length paged.old.device.content / 3840 + 5) paged.old paged.new result }
     ensures anchor { IfOk result (λ report. report.anchor ≡ anchor) }
     ensures report { OnHonest paged.old.device (λ image.
@@ -81,13 +81,13 @@ pub fn inspect_anchor<F: Flash>(
 pub fn inspect_place<F: Flash>(
     paged: &mut Paged<F>,
     demand: Demand,
-    place: &Place,
+    place: &AnchorPlace,
 ) -> Result<Report, SealFault>
     requires map { LiesOn place.now.map paged.old.device }
     requires coreboot { LiesOn place.now.coreboot paged.old.device }
     requires range { LiesOn place.now.anchor paged.old.device }
 
-    ensures after { HasReadBy by_device (place_inspection_reads paged.old.device)
+    ensures calls { HasReadBy by_device (place_inspection_reads paged.old.device)
         paged.old paged.new result }
     ensures inside { IfOk result (λ report. report.anchor.at + anchor_len report.anchor.algorithm
         ≤ length paged.old.device.content) }
@@ -100,7 +100,7 @@ pub fn inspect_place<F: Flash>(
 
 /// Returns the state of an image's anchor, or the first error.
 pub fn inspect<F: Flash>(paged: &mut Paged<F>, demand: Demand) -> Result<Report, SealFault>
-    ensures after { HasReadBy by_device (inspection_reads paged.old.device)
+    ensures calls { HasReadBy by_device (inspection_reads paged.old.device)
         paged.old paged.new result }
     ensures inside { IfOk result (λ report. report.anchor.at + anchor_len report.anchor.algorithm
         ≤ length paged.old.device.content) }
@@ -112,7 +112,7 @@ pub fn inspect<F: Flash>(paged: &mut Paged<F>, demand: Demand) -> Result<Report,
 
 /// Returns whether an image has an anchor with an outdated digest, or the first error.
 pub fn is_outdated<F: Flash>(paged: &mut Paged<F>) -> Result<bool, SealFault>
-    ensures after { HasReadBy by_device (inspection_reads paged.old.device)
+    ensures calls { HasReadBy by_device (inspection_reads paged.old.device)
         paged.old paged.new result }
     ensures outdated { OnHonest paged.old.device (IsOutdated result) }
 {

@@ -20,7 +20,7 @@ use Rattle.cbfs_edit.specs.Removals.{last_four}
 use Rattle.cbfs_edit.proofs.FormatLemmas.{formatted_free}
 use Rattle.cbfs_commands.specs.declared.create.plan.Plan.{Plan}
 use Rattle.cbfs_commands.specs.Creations.{IsPlace, plan_for, share_bytes, some_overlap}
-use Rattle.cbfs_commands.specs.Laws.{IsLaid}
+use Rattle.cbfs_commands.specs.Laws.{IsSoundPlan}
 use Rattle.cbfs_commands.proofs.RegionPlaces.{whole_over}
 use Rattle.cbfs_commands.proofs.PlanLaws.{IsPlanned, all_apart, lie_apart, planned}
 
@@ -85,7 +85,7 @@ all_free n image (place ∷ places) small long each none =
     (subst (λ (l : List ℕ). IsOneFreeCell l) (sym (untouched n next place places long_next others parts.0)) (free n image long place is small))
     (all_free n next places small long_next others parts.1)
 
-pub laid : (n : ℕ) (source : List ℕ) (plan : Plan) → IsPlanned n (length source) plan → IsLaid n source plan
+pub laid : (n : ℕ) (source : List ℕ) (plan : Plan) → IsPlanned n (length source) plan → IsSoundPlan n source plan
 laid n source plan k =
     let erased : List ℕ = replicate n 0xff in
     let flashmap : List ℕ = take plan.map_len source in
@@ -94,5 +94,5 @@ laid n source plan k =
     let parts = or_parts (list_any (share_bytes plan.map) plan.regions.items) (some_overlap plan.regions.items) k.none in
     record { in_source = k.in_source; room = k.room; map = k.map; regions = k.regions; apart = all_apart (plan.map ∷ plan.regions.items) k.none; free = λ small. all_free n (overwritten erased plan.map.start flashmap) plan.regions.items small long k.regions parts.1 }
 
-pub plans_laid : (n : ℕ) (names : List (List ℕ)) (source : List ℕ) (plan : Plan) → plan_for n names source ≡ Ok plan → IsLaid n source plan
+pub plans_laid : (n : ℕ) (names : List (List ℕ)) (source : List ℕ) (plan : Plan) → plan_for n names source ≡ Ok plan → IsSoundPlan n source plan
 plans_laid n names source plan is = laid n source plan (planned n names source plan is)

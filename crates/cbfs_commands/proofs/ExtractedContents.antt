@@ -2,7 +2,7 @@
 use Rattle.std.proofs.Common.{arith}
 use Rattle.std.proofs.lemmas.Grind.{common_steps}
 use Rattle.std.proofs.Common.{◌≡◌, ℕ, List, length, Option, Result, ◌∙◌, ap, sym}
-use Rattle.flash_format.specs.Components.{packing}
+use Rattle.flash_format.specs.Components.{compression_of}
 use Rattle.flash_format.proofs.MadeLaws.{made_attributes}
 use Rattle.flash_format.specs.declared.digest.Digest.{Digest}
 use Rattle.flash_device.specs.Device.{overwritten}
@@ -22,7 +22,7 @@ use Rattle.cbfs_commands.specs.Laws.{AdditionsAreExtracted}
 use Rattle.cbfs_commands.proofs.RegionPlaces.{region_lies, whole_over}
 
 -- no compression attribute
-plain : (digest : Option Digest) → packing (made_attributes digest) ≡ 0
+plain : (digest : Option Digest) → compression_of (made_attributes digest) ≡ 0
 plain digest = grind (arith, common_steps)
 
 pub additions_extracted : (x : List ℕ) (new : NewComponent) (spot : Spot) (place : Place) → IsAdded x new spot place → AdditionsAreExtracted x new place

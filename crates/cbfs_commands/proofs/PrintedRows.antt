@@ -8,7 +8,7 @@ use Rattle.std.specs.Fmt.{decimal}
 use Rattle.std.proofs.lemmas.List.{append_assoc}
 use lib.Chars.{codes}
 use Rattle.flash_format.specs.Head.{head_of, is_free}
-use Rattle.flash_format.specs.Components.{cell_attributes, cell_name, packing}
+use Rattle.flash_format.specs.Components.{cell_attributes, cell_name, compression_of}
 use Rattle.flash_format.specs.Flashmap.{text_of}
 use Rattle.flash_format.specs.Texts.{hexadecimal, printed_compression, printed_name, printed_type}
 use Rattle.flash_format.specs.TypeNames.{name_of_compression, name_of_type, number_for, type_of_text}
@@ -16,7 +16,7 @@ use Rattle.flash_format.specs.declared.flashmap.Area.{Area}
 use Rattle.flash_map.specs.declared.search.FoundMap.{FoundMap}
 use Rattle.flash_format.proofs.PrintedLaws.{decimal_field, hexadecimal_field, name_field, same_decimals, same_hexadecimals, same_names, split}
 use Rattle.flash_format.proofs.TypeLaws.{compression_back, compression_table, compression_is_word, is_field, is_word, read_back, type_is_word, word_is_field}
-use Rattle.cbfs_commands.specs.Laws.{AreReadBack, HasNumbers, LinesAreReadBack}
+use Rattle.cbfs_commands.specs.Laws.{CanBeReadBack, HasNumbersOf64Bits, LinesAreReadBack}
 use Rattle.cbfs_commands.specs.Rows.{area_line, map_line, row_text}
 
 -- ---- names or numbers
@@ -75,18 +75,18 @@ begun (b ∷ a) s e = absurd cc
 
 -- lines that aren't empty, one by one
 module _ {A N : Type 0} (each_line : A → List ℕ) (values : A → N × List ℕ) (some : (a : A) (more : List ℕ) → [] ≢ each_line a ++ more)
-    (one : (a b : A) (more rest : List ℕ) → HasNumbers each_line values a → HasNumbers each_line values b → each_line a ++ more ≡ each_line b ++ rest → (values a ≡ values b) × (more ≡ rest)) where
-  many : (each others : List A) → All (HasNumbers each_line values) each → All (HasNumbers each_line values) others → flat_map each_line each ≡ flat_map each_line others → map values each ≡ map values others
+    (one : (a b : A) (more rest : List ℕ) → HasNumbersOf64Bits each_line values a → HasNumbersOf64Bits each_line values b → each_line a ++ more ≡ each_line b ++ rest → (values a ≡ values b) × (more ≡ rest)) where
+  many : (each others : List A) → All (HasNumbersOf64Bits each_line values) each → All (HasNumbersOf64Bits each_line values) others → flat_map each_line each ≡ flat_map each_line others → map values each ≡ map values others
   many [] [] fits fits2 e = refl
   many [] (b ∷ others) fits fits2 e = absurd (some b (flat_map each_line others) e)
   many (a ∷ each) [] fits fits2 e = absurd (some a (flat_map each_line each) (sym e))
   many (a ∷ each) (b ∷ others) fits fits2 e =
-      let Fits : A → Type 0 = HasNumbers each_line values in
+      let Fits : A → Type 0 = HasNumbersOf64Bits each_line values in
       let first = one a b (flat_map each_line each) (flat_map each_line others) (All-head Fits a each fits) (All-head Fits b others fits2) e in
       let later = many each others (All-tail Fits a each fits) (All-tail Fits b others fits2) first.1 in
       cc
 
-  are_read_back : AreReadBack each_line values
+  are_read_back : CanBeReadBack each_line values
   are_read_back = record { one = one; all = many }
 
 -- ---- rows of cells
@@ -94,21 +94,21 @@ module _ {A N : Type 0} (each_line : A → List ℕ) (values : A → N × List �
 abbrev label : Bool → List ℕ → List ℕ
 label free x = if free then codes "(empty)" else printed_name (cell_name x)
 
-abbrev packing_if : Bool → List ℕ → ℕ
-packing_if free x = if free then 0 else packing (cell_attributes x)
+abbrev compression_if : Bool → List ℕ → ℕ
+compression_if free x = if free then 0 else compression_of (cell_attributes x)
 
 abbrev row_if : Bool → ℕ → List ℕ → List ℕ
-row_if free at x = if free then row_text at (head_of x) None 0 else row_text at (head_of x) (Some (cell_name x)) (packing (cell_attributes x))
+row_if free at x = if free then row_text at (head_of x) None 0 else row_text at (head_of x) (Some (cell_name x)) (compression_of (cell_attributes x))
 
 abbrev values_if : Bool → ℕ → List ℕ → Option (List ℕ) × List ℕ
 values_if free at x = let h = head_of x in
-    if free then (None, at ∷ h.kind ∷ h.len ∷ []) else (Some (cell_name x), at ∷ h.kind ∷ h.len ∷ packing (cell_attributes x) ∷ [])
+    if free then (None, at ∷ h.kind ∷ h.len ∷ []) else (Some (cell_name x), at ∷ h.kind ∷ h.len ∷ compression_of (cell_attributes x) ∷ [])
 
 abbrev Small : Bool → ℕ → List ℕ → Type 0
 Small free at x = All (λ n. n < 2 ^ 64) (values_if free at x).1
 
 abbrev cell_fields : Bool → ℕ → List ℕ → List (List ℕ)
-cell_fields free at x = label free x ∷ hexadecimal at ∷ printed_type (head_of x).kind ∷ decimal (head_of x).len ∷ printed_compression (packing_if free x) ∷ []
+cell_fields free at x = label free x ∷ hexadecimal at ∷ printed_type (head_of x).kind ∷ decimal (head_of x).len ∷ printed_compression (compression_if free x) ∷ []
 
 row_shape : (free : Bool) (at : ℕ) (x more : List ℕ) → (row_if free at x ++ []) ++ more ≡ line (cell_fields free at x) more
 unfolding row_text
@@ -116,7 +116,7 @@ row_shape true at x more = simp append_assoc
 row_shape false at x more = simp append_assoc
 
 -- the numbers that every cell has, and a component's compression
-numbers : (free : Bool) (at : ℕ) (x : List ℕ) → Small free at x → (at < 2 ^ 64) × ((head_of x).kind < 2 ^ 64) × ((head_of x).len < 2 ^ 64) × (packing_if free x < 2 ^ 64)
+numbers : (free : Bool) (at : ℕ) (x : List ℕ) → Small free at x → (at < 2 ^ 64) × ((head_of x).kind < 2 ^ 64) × ((head_of x).len < 2 ^ 64) × (compression_if free x < 2 ^ 64)
 numbers true at x f = (f 0 0 (omega arith), f 1 0 (omega arith), f 2 0 (omega arith), omega arith)
 numbers false at x f = (f 0 0 (omega arith), f 1 0 (omega arith), f 2 0 (omega arith), f 3 0 (omega arith))
 
@@ -136,7 +136,7 @@ rows_read_back p q at other x y more rest is_p is_q fx fy e =
     let free : p ≡ q = is_p ∙ ap (λ k. k == 0 || k == 0xffffffff) kind ∙ sym is_q in
     (values_as p q free place kind len compression (cc), s.1)
   where
-    values_as : (p q : Bool) → p ≡ q → at ≡ other → (head_of x).kind ≡ (head_of y).kind → (head_of x).len ≡ (head_of y).len → packing_if p x ≡ packing_if q y → label p x ≡ label q y → values_if p at x ≡ values_if q other y
+    values_as : (p q : Bool) → p ≡ q → at ≡ other → (head_of x).kind ≡ (head_of y).kind → (head_of x).len ≡ (head_of y).len → compression_if p x ≡ compression_if q y → label p x ≡ label q y → values_if p at x ≡ values_if q other y
     values_as true true same place kind len compression names = cc
     values_as false false same place kind len compression names = let name = same_names _ _ names in cc
     values_as _ _ same place kind len compression names = absurd cc

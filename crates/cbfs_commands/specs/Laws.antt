@@ -3,8 +3,10 @@ use Rattle.std.specs.Prelude.{◌≡◌, ℕ, ◌+◌, ◌^◌, ◌<◌, ◌≤�
 use Rattle.std.specs.Prelude.{Option, Some, None, map, if◌then◌else◌}
 use Rattle.std.specs.List.{AllPairs, flat_map}
 use Rattle.flash_format.specs.Head.{head_of, is_free}
-use Rattle.flash_format.specs.Components.{cell_attributes, cell_name, packing}
+use Rattle.flash_format.specs.Components.{cell_attributes, cell_name, compression_of}
 use Rattle.flash_format.specs.Flashmap.{text_of}
+use Rattle.flash_format.specs.declared.flashmap.Area.{Area}
+use Rattle.flash_map.specs.declared.search.FoundMap.{FoundMap}
 use Rattle.flash_device.specs.Device.{overwritten}
 use Rattle.flash_device.specs.Regions.{Range, bytes_in}
 use Rattle.flash_map.specs.Regions.{region_of}
@@ -16,35 +18,46 @@ use Rattle.cbfs_commands.specs.declared.create.plan.Plan.{Plan}
 use Rattle.cbfs_commands.specs.Creations.{IsPlace, created_image}
 use Rattle.cbfs_commands.specs.Effects.{effect}
 use Rattle.cbfs_requests.specs.Requests.{IsFault, Request, Task, on_region, write}
-use Rattle.cbfs_commands.specs.Outcomes.{extract_region, printed_in, shows}
+use Rattle.cbfs_commands.specs.Outcomes.{Outcome, extract_region, printed_in, shows}
 use Rattle.cbfs_commands.specs.Rows.{area_line, map_line, shown_cell}
 
-pub record OutcomesAreOfTheImage : Type 0 where
+-- the two outcomes have the same output and answer, and images with the same bytes of the region
+pub record HaveSameEffectIn (region : Range) (a b : Outcome) : Type 0 where
+  pub printout : a.printout ≡ b.printout
+  pub bytes : bytes_in region a.image ≡ bytes_in region b.image
+
+-- An outcome depends on bytes alone: on those of image and source, and for a command on a region on
+-- those of this region and of the flash map. No failed call is part of it.
+pub record OutcomesDependOnBytes : Type 0 where
   -- no outcome's own answer is a fault of the device, the output or the source
   pub faultless : (r : Request) (image source : List ℕ)
       → ¬ IsFault ((effect r).outcome image source).printout.answer
-  -- writing back the output of `read` changes nothing
+  -- if `read` prints these bytes, then `write` of them leaves the image unchanged, without output
   pub written_back : (image name bytes : List ℕ) → printed_in image name shows ≡ shows bytes
       → (effect (on_region name write)).outcome image bytes
       ≡ record { printout = shows []; image = image }
-  -- a command on a region has the same output and region for images alike in the map and region
+  -- if the maps of two images have the same region of a name, with the same bytes, then a command
+  -- on this name has the same effect in both
   pub of_region : (name : List ℕ) (task : Task) (region : Range) (image other source : List ℕ)
       → region_of image name ≡ Ok region → region_of other name ≡ Ok region
       → bytes_in region other ≡ bytes_in region image
       → let outcome = (effect (on_region name task)).outcome in
-      ((outcome other source).printout ≡ (outcome image source).printout) × (bytes_in region
-      (outcome other source).image ≡ bytes_in region (outcome image source).image)
+      HaveSameEffectIn region (outcome other source) (outcome image source)
 
--- A plan of an image of n bytes by a source. Other areas of the flashmap are not covered.
-pub record IsLaid (n : ℕ) (source : List ℕ) (plan : Plan) : Type 0 where
-  -- the flashmap lies in the source and fits its area, and each region is valid
+-- `create` can carry out the plan in an image of n bytes, with this source: the ranges of the flash
+-- map and of the regions lie in the image, and don't overlap. Nothing is said of other areas of the
+-- flash map.
+pub record IsSoundPlan (n : ℕ) (source : List ℕ) (plan : Plan) : Type 0 where
+  -- the flash map is the first bytes of the source
   pub in_source : plan.map_len ≤ length source
+  -- the area of the flash map has room for it, and lies in the image
   pub room : plan.map_len ≤ plan.map.size
   pub map : plan.map.start + plan.map.size ≤ n
+  -- each region lies in the image, and has a valid size
   pub regions : All (IsPlace n) plan.regions.items
-  -- the map's area and the regions don't overlap
+  -- the area of the flash map and the regions don't overlap
   pub apart : AllPairs LieApart (plan.map ∷ plan.regions.items)
-  -- each region of the created image is an empty entry
+  -- each region of the created image is a single empty entry
   pub free : n < 2 ^ 32 → All (λ (place : Range). IsOneFreeCell (bytes_in place
       (created_image n plan source))) plan.regions.items
 
@@ -59,26 +72,51 @@ pub record AdditionsAreExtracted (x : List ℕ) (new : NewComponent) (place : Pl
 
 -- ---- printed lines
 
+-- `line` prints a thing of type A as text. `values` are its name, if it has one, and its numbers.
 module _ {A N : Type 0} (line : A → List ℕ) (values : A → N × List ℕ) where
-  -- no limit in practice: numbers decoded from bytes are below 2^32
-  abbrev pub HasNumbers : A → Type 0
-  HasNumbers a = All (λ n. n < 2 ^ 64) (values a).1
+  -- The numbers are below 2^64. That is no limit in practice: numbers of an image have 32 bits, and
+  -- offsets are below the size of the image.
+  abbrev pub HasNumbersOf64Bits : A → Type 0
+  HasNumbersOf64Bits a = All (λ n. n < 2 ^ 64) (values a).1
 
-  -- A line determines its name and numbers and any later text, and lines the values of each.
-  pub record AreReadBack : Type 0 where
-    pub one : (a b : A) (more rest : List ℕ) → HasNumbers a → HasNumbers b
+  -- Printed text can be read back: equal texts have equal values.
+  pub record CanBeReadBack : Type 0 where
+    -- a line ends in itself: its values, and the text after it, follow from the whole text
+    pub one : (a b : A) (more rest : List ℕ) → HasNumbersOf64Bits a → HasNumbersOf64Bits b
         → line a ++ more ≡ line b ++ rest → (values a ≡ values b) × (more ≡ rest)
-    pub all : (each others : List A) → All HasNumbers each → All HasNumbers others
+    -- the values of each line follow from the text of all lines
+    pub all : (each others : List A) → All HasNumbersOf64Bits each
+        → All HasNumbersOf64Bits others
         → flat_map line each ≡ flat_map line others → map values each ≡ map values others
 
--- offset, type and content length, and a component's name and compression
-abbrev pub row_values : ℕ × List ℕ → Option (List ℕ) × List ℕ
-row_values cell = let h = head_of cell.1 in if is_free h then (None, cell.0 ∷ h.kind ∷ h.len ∷ [])
-    else (Some (cell_name cell.1), cell.0 ∷ h.kind ∷ h.len ∷ packing (cell_attributes cell.1) ∷ [])
+-- the row that `print` without `-v` has for a cell, which is given as its offset and its bytes
+abbrev pub row_of_cell : ℕ × List ℕ → List ℕ
+row_of_cell cell = let verbose = false in shown_cell verbose cell.0 cell.1
 
+-- free space: offset, type, length
+abbrev pub free_values : ℕ → List ℕ → Option (List ℕ) × List ℕ
+free_values at x = let h = head_of x in (None, at ∷ h.kind ∷ h.len ∷ [])
+
+-- a component: name; offset, type, content length, compression
+abbrev pub component_values : ℕ → List ℕ → Option (List ℕ) × List ℕ
+component_values at x = let h = head_of x in
+    (Some (cell_name x), at ∷ h.kind ∷ h.len ∷ compression_of (cell_attributes x) ∷ [])
+
+-- the values in the row of a cell, which is given as its offset and its bytes
+abbrev pub row_values : ℕ × List ℕ → Option (List ℕ) × List ℕ
+row_values cell = if is_free (head_of cell.1) then free_values cell.0 cell.1
+    else component_values cell.0 cell.1
+
+-- an area: name up to the NUL; offset, size, flags
+abbrev pub area_values : Area → List ℕ × List ℕ
+area_values a = (text_of a.name, a.offset ∷ a.size ∷ a.flags ∷ [])
+
+-- a flash map: name up to the NUL; offset, size of the image, number of areas
+abbrev pub map_values : FoundMap → List ℕ × List ℕ
+map_values map = (text_of map.head.name, map.at ∷ map.head.size ∷ map.head.nareas ∷ [])
+
+-- the lines of `print` without `-v` and of `layout`
 pub record LinesAreReadBack : Type 0 where
-  pub cells : AreReadBack (λ cell. shown_cell false cell.0 cell.1) row_values
-  -- names up to the NUL
-  pub areas : AreReadBack area_line (λ a. (text_of a.name, a.offset ∷ a.size ∷ a.flags ∷ []))
-  pub maps : AreReadBack map_line
-      (λ map. (text_of map.head.name, map.at ∷ map.head.size ∷ map.head.nareas ∷ []))
+  pub cells : CanBeReadBack row_of_cell row_values
+  pub areas : CanBeReadBack area_line area_values
+  pub maps : CanBeReadBack map_line map_values

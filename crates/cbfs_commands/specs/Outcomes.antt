@@ -13,7 +13,7 @@ use Rattle.cbfs_walk.specs.declared.cell.Cell.{Cell}
 use Rattle.cbfs_requests.specs.declared.refusal.Refusal.{Refusal}
 use Rattle.cbfs_requests.specs.declared.refusal.Refusal.TheVariants as refusals
 use Rattle.std.specs.Option.{option_map_or}
-use Rattle.flash_format.specs.Components.{Component, packing}
+use Rattle.flash_format.specs.Components.{Component, compression_of}
 use Rattle.flash_format.specs.Cut.{Cut, End, cut, damage}
 use Rattle.flash_map.specs.Regions.{region_of}
 use Rattle.cbfs_walk.specs.Search.{component_in}
@@ -111,7 +111,7 @@ print_region x verbose =
 -- the content, unless compressed
 abbrev pub printed_component : Component → Printout
 printed_component c =
-    if packing c.attributes == 0 then shows c.content else refuses refusals.Compressed
+    if compression_of c.attributes == 0 then shows c.content else refuses refusals.Compressed
 
 abbrev pub extract_region : List ℕ → List ℕ → Printout
 extract_region x name = fault_or (λ fault. refuses (walk_refusal fault)) (component_in x name)

@@ -6,7 +6,7 @@ use Rattle.std.specs.Option.{option_map_or}
 use Rattle.std.specs.Fmt.{decimal}
 use lib.Chars.{codes}
 use Rattle.flash_format.specs.Head.{head_of, is_free}
-use Rattle.flash_format.specs.Components.{cell_name, cell_attributes, packing, cell_content}
+use Rattle.flash_format.specs.Components.{cell_name, cell_attributes, compression_of, cell_content}
 use Rattle.flash_format.specs.Flashmap.{text_of}
 use Rattle.flash_format.specs.declared.flashmap.Area.{Area}
 use Rattle.flash_format.specs.declared.head.Head.{Head}
@@ -33,7 +33,7 @@ row_text at h name n = option_map_or printed_name name (codes "(empty)") ++ tab 
 -- free space has no name and no compression
 abbrev pub cell_row : ℕ → List ℕ → List ℕ
 cell_row at x = if is_free (head_of x) then row_text at (head_of x) None 0
-    else row_text at (head_of x) (Some (cell_name x)) (packing (cell_attributes x))
+    else row_text at (head_of x) (Some (cell_name x)) (compression_of (cell_attributes x))
 
 -- ---- lines of the layout
 

@@ -6,23 +6,23 @@ ghost use Rattle.cbfs_edit.specs.Laws.{IsAdded};
 ghost use Rattle.cbfs_edit.specs.declared.place.Place.{Place};
 ghost use Rattle.cbfs_edit.specs.declared.place.Spot.{Spot};
 ghost use Rattle.cbfs_commands.specs.Creations.{plan_for};
-ghost use Rattle.cbfs_commands.specs.Laws.{AdditionsAreExtracted, IsLaid, LinesAreReadBack};
-ghost use Rattle.cbfs_commands.specs.Laws.{OutcomesAreOfTheImage};
+ghost use Rattle.cbfs_commands.specs.Laws.{AdditionsAreExtracted, IsSoundPlan, LinesAreReadBack};
+ghost use Rattle.cbfs_commands.specs.Laws.{OutcomesDependOnBytes};
 ghost use Rattle.cbfs_commands.specs.declared.create.plan.Plan.{Plan};
 
 /// Proves that an outcome's own answer is never a fault of the device, the output or the source,
-/// that writing back the output of `read` leaves the image unchanged, and that only the map and the
-/// region's bytes affect a command on a region.
-pub fn outcomes_are_of_the_image()
-    ensures { OutcomesAreOfTheImage }
+/// that writing back the output of `read` leaves the image unchanged, and that a command on a
+/// region depends only on the flash map, the bytes of the region and the source.
+pub fn outcomes_depend_on_bytes()
+    ensures { OutcomesDependOnBytes }
 {}
 
 /// Proves that the flashmap of a plan fits its area, that all named regions lie in the image with
 /// valid sizes, and that these ranges don't overlap. For an image below 2^32, `create` formats each
 /// named region as an empty entry. Other areas are not covered.
-pub fn plans_are_laid()
+pub fn plans_are_sound()
     ensures { (n : ℕ) (names : List (List ℕ)) (source : List ℕ) (plan : Plan)
-        → plan_for n names source ≡ Ok plan → IsLaid n source plan }
+        → plan_for n names source ≡ Ok plan → IsSoundPlan n source plan }
 {}
 
 /// Proves that `extract` returns the content of an addition, if the image's map keeps the region.

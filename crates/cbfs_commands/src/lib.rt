@@ -20,7 +20,7 @@ pub use cbfs_requests::{Command, MOST_REGIONS, Refusal};
 pub use create::create_size;
 pub use execution::{run, run_with_map};
 pub use laws::{
-    additions_are_extracted, lines_are_read_back, outcomes_are_of_the_image, plans_are_laid,
+    additions_are_extracted, lines_are_read_back, outcomes_depend_on_bytes, plans_are_sound,
 };
 pub use note::is_note_due;
 pub use numbers::{

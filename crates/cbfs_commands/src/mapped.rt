@@ -16,7 +16,7 @@ pub fn mapped_region<F: Flash>(
     name: &[u8],
     used: &mut Option<FoundMap>,
 ) -> Result<Region, StoreFault>
-    ensures after { HasReadBy by_device (map_reads paged.old.device) paged.old paged.new result }
+    ensures calls { HasReadBy by_device (map_reads paged.old.device) paged.old paged.new result }
     ensures inside { IfOk result (λ region. LiesOn region paged.old.device) }
     ensures answer { OnHonest paged.old.device
         (λ image. IsErrOf result StoreFault.Device ⊎ (result ≡ region_of image name.now)) }

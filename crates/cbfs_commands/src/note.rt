@@ -13,7 +13,7 @@ use flash_map::{FoundMap, find_fmap};
 
 /// Returns whether the head of a map still stands at its offset.
 fn stands<F: Flash>(paged: &mut Paged<F>, map: &FoundMap) -> Result<bool, FlashFault>
-    ensures after { HasAnswered 1 paged.old paged.new result }
+    ensures calls { HasAnswered 1 paged.old paged.new result }
     ensures within { IfOk result (λ kept. IsTrue kept
         → map_end map.now ≤ length paged.old.device.content) }
     ensures stands { OnHonest paged.old.device (λ image. Returns result (stands map.now image)) }
@@ -33,7 +33,7 @@ fn standing_map<F: Flash>(
     paged: &mut Paged<F>,
     used: Option<FoundMap>,
 ) -> Result<Option<FoundMap>, FlashFault>
-    ensures after { HasAnswered (search_reads paged.old.device + 1) paged.old paged.new result }
+    ensures calls { HasAnswered (search_reads paged.old.device + 1) paged.old paged.new result }
     ensures fits { IfFound result (λ map. map_end map ≤ length paged.old.device.content) }
     ensures map { OnHonest paged.old.device (λ image. Returns result (standing_map used image)) }
 {

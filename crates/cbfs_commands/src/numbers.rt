@@ -13,10 +13,10 @@ ghost use Rattle.cbfs_commands.specs.Rows.{area_line, map_line, shown_cell};
 ghost use Rattle.cbfs_commands.specs.Samples.{area_of_size, changed_image, new_data, place_in_free, small_plan};
 
 use crate::laws::{
-    additions_are_extracted, lines_are_read_back, outcomes_are_of_the_image, plans_are_laid,
+    additions_are_extracted, lines_are_read_back, outcomes_depend_on_bytes, plans_are_sound,
 };
 
-/// `outcomes_are_of_the_image` at an image of 320 bytes, whose region COREBOOT is an empty entry of
+/// `outcomes_depend_on_bytes` at an image of 320 bytes, whose region COREBOOT is an empty entry of
 /// 64 bytes: `write` of this entry changes nothing, `read` returns it also after a change of
 /// another byte, and no answer of `layout` is a fault.
 pub fn a_read_region_is_written_back()
@@ -26,15 +26,15 @@ pub fn a_read_region_is_written_back()
         []).printout ≡ shows free_cell }
     ensures own { ¬ IsFault ((effect layout).outcome small_image []).printout.answer }
 {
-    outcomes_are_of_the_image();
+    outcomes_depend_on_bytes();
 }
 
-/// `plans_are_laid` at the flash map of this image: bytes 192 to 256 of the created image are one
+/// `plans_are_sound` at the flash map of this image: bytes 192 to 256 of the created image are one
 /// free cell.
 pub fn a_planned_region_is_free()
     ensures { IsOneFreeCell (slice_range (created_image 320 small_plan small_map) 192 256) }
 {
-    plans_are_laid();
+    plans_are_sound();
 }
 
 /// `additions_are_extracted` at the empty entry: `extract` of the added `a` returns `DATA`.

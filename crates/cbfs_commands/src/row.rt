@@ -40,9 +40,9 @@ fn push_name_or(row: &mut Row, name: Option<&str>, value: u32)
 
 /// Replaces the buffer's content with a cell's row.
 #[tactic(auto, unfolding(crate::specs::Rows::row_text))]
-pub fn set_row_text(row: &mut Row, at: u64, head: &Head, name: Option<&[u8]>, packing: u32)
+pub fn set_row_text(row: &mut Row, at: u64, head: &Head, name: Option<&[u8]>, compression: u32)
     requires { ForSome name (λ n. length n.now ≤ 255) }
-    ensures { row.new.items ≡ row_text at head.now (option_copied name.entry) packing }
+    ensures { row.new.items ≡ row_text at head.now (option_copied name.entry) compression }
 {
     row.clear();
     match name {
@@ -56,6 +56,6 @@ pub fn set_row_text(row: &mut Row, at: u64, head: &Head, name: Option<&[u8]>, pa
     push_text(row, b"\t");
     push_decimal(row, head.len);
     push_text(row, b"\t");
-    push_name_or(row, compression_name(packing), packing);
+    push_name_or(row, compression_name(compression), compression);
     push_text(row, b"\n");
 }

@@ -8,7 +8,7 @@ use Rattle.flash_format.specs.Entry.{is_nul}
 use Rattle.flash_format.specs.Made.{empty_entry, IsDigest, IsMade, made_metadata}
 use Rattle.flash_format.specs.Cut.{cut}
 use Rattle.flash_format.specs.Components.{components}
-use Rattle.flash_format.specs.Placings.{HasOneMore, IsSpace, space_cells}
+use Rattle.flash_format.specs.Placings.{HasOneMoreComponent, IsFreeSpace, space_cells}
 use Rattle.flash_format.proofs.MadeLaws.{made_as_long, made_alone}
 use Rattle.flash_format.proofs.Placings.{IsPlacing, one_more-end, empty_is_space, components_placed}
 use Rattle.flash_device.specs.Device.{Device, SameOutside, overwritten}
@@ -16,7 +16,7 @@ use Rattle.flash_device.proofs.BytesLemmas.{SameOutside-overwritten, further, le
 use Rattle.cbfs_edit.specs.Removals.{IsCellRange, kept_at, removed, space_end}
 use Rattle.cbfs_edit.specs.Places.{runs}
 use Rattle.cbfs_edit.specs.Places.{is_bad_align, IsFirstPlace, placing_in}
-use Rattle.cbfs_edit.specs.Places.{Fits}
+use Rattle.cbfs_edit.specs.Places.{LiesInItsRun}
 use Rattle.cbfs_edit.specs.Changes.{IsAddition, AddLeavesBefore, AddLeavesWhole, IsEmptied, copy_edit_fault}
 use Rattle.cbfs_edit.specs.Additions.{NewComponent, added, added_component, addition_in, empty_between, cell_end, metadata_len_of, made_at, argument_fault, wanted_for, algorithm_of, digest_of}
 use Rattle.cbfs_edit.specs.Laws.{IsAdded}
@@ -82,9 +82,9 @@ pub accepted_size : (x : List ℕ) (new : NewComponent) (spot : Spot) (place : P
 accepted_size x new spot place is = (answered_place x new.name (wanted_for new spot) place (accepted x new spot place is).placed).sound.whole
 
 -- the space between two offsets
-space : (x : List ℕ) (start end : ℕ) → start ≤ end → start % 64 ≡ 0 → end % 64 ≡ 0 → 4 ≤ length x → IsSpace (end - start) (empty_between x start end)
+space : (x : List ℕ) (start end : ℕ) → start ≤ end → start % 64 ≡ 0 → end % 64 ≡ 0 → 4 ≤ length x → IsFreeSpace (end - start) (empty_between x start end)
 space x start end order start_aligned end_aligned some =
-    cond_both (start == end) [] (empty_entry (end - start) (kept_at x end)) (λ (l : List ℕ). IsSpace (end - start) l)
+    cond_both (start == end) [] (empty_entry (end - start) (kept_at x end)) (λ (l : List ℕ). IsFreeSpace (end - start) l)
     (λ e. let same : start ≡ end = eqb-true start end e in record { long = omega arith; header = λ positive. absurd (omega (arith, positive, same)) })
     (λ e. empty_is_space (end - start) (kept_at x end) (omega (arith, eqb-false start end e, order, start_aligned, end_aligned)) (keeps x end some))
 
@@ -111,7 +111,7 @@ module _ (x : List ℕ) (new : NewComponent) (spot : Spot) (place : Place) (is :
   range : IsCellRange place.run (length x)
   range = the_run.range
 
-  fits : Fits (wanted_for new spot) (length x) place
+  fits : LiesInItsRun (wanted_for new spot) (length x) place
   fits = fits_there (wanted_for new spot) (length x) place range first.allowed.after_header first.allowed.ends first.header
 
   some : 4 ≤ length x
@@ -144,7 +144,7 @@ module _ (x : List ℕ) (new : NewComponent) (spot : Spot) (place : Place) (is :
         to_end = omega (arith, to_end, end_below);
         small = omega (arith, range.inside, is.region);
         space_before = space x place.run.start place.header fits.start_below range.start_aligned fits.header.aligned some;
-        space_after = subst (λ n. IsSpace (place.run.end - n) after) (sym to_end) (space x end place.run.end end_below (omega arith) range.end_aligned some);
+        space_after = subst (λ n. IsFreeSpace (place.run.end - n) after) (sym to_end) (space x end place.run.end end_below (omega arith) range.end_aligned some);
       }
 
   whole_long : length (before ++ (made_at x new place ++ after)) ≡ place.run.end - place.run.start
@@ -159,11 +159,11 @@ module _ (x : List ℕ) (new : NewComponent) (spot : Spot) (place : Place) (is :
   region_some = omega (arith, range.some, range.inside)
 
   -- one more component
-  pub more : HasOneMore x place.run.start place.run.end the_run.cells (space_cells before ++ (made_at x new place ∷ []) ++ space_cells after) (added_component x new place) (added x new place)
+  pub more : HasOneMoreComponent x place.run.start place.run.end the_run.cells (space_cells before ++ (made_at x new place ∷ []) ++ space_cells after) (added_component x new place) (added x new place)
   more =
       let is_made : IsMade new.name new.kind new.digest (place.content - place.header - metadata_len_of new) new.content =
       record { name_short = fine.name_short; name_plain = fine.name_plain; kind_small = is.kind; kind_used = fine.kind_good; digest_long = is.digest; small = omega (arith, metadata_long, fits.inside, range.inside, is.region, fits.header.room) } in
-      subst (λ (l : List ℕ). HasOneMore x place.run.start place.run.end the_run.cells (space_cells before ++ (made_at x new place ∷ []) ++ space_cells after) (added_component x new place) l)
+      subst (λ (l : List ℕ). HasOneMoreComponent x place.run.start place.run.end the_run.cells (space_cells before ++ (made_at x new place ∷ []) ++ space_cells after) (added_component x new place) l)
       (sym (as_splice x place.run.start place.run.end (before ++ (made_at x new place ++ after)) (omega (arith, whole_long, range.some))))
       (components_placed x place.run.start place.run.end the_run.cells place.header before (made_at x new place) after new.name new.kind new.digest new.content the_run.free placing
       (made_alone new.name new.kind new.digest (place.content - place.header - metadata_len_of new) new.content (kept_at x end) is_made (keeps x end some)))

@@ -13,7 +13,7 @@ use Rattle.std.proofs.lemmas.Bool.{both_ways, cases_Bool}
 use Rattle.std.proofs.lemmas.List.Elements.{All-nil, All-cons, All-push, All-append, All-weaker, All-head, All-tail, All-contains, All-drop, All-take, Contains-append_right}
 use Rattle.flash_format.specs.Head.{head_of, is_free}
 use Rattle.flash_format.specs.Components.{cell_name}
-use Rattle.cbfs_edit.specs.Removals.{group_from, row_end, IsComponent, IsNot, IsRangeAmong, IsGroupOf}
+use Rattle.cbfs_edit.specs.Removals.{group_from, row_end, IsComponent, IsNot, IsRowBetweenComponents, IsGroupOf}
 
 abbrev pub IsFree : List ℕ → Type 0
 IsFree c = is_free (head_of c) ≡ true
@@ -28,7 +28,7 @@ BeginsWithComponent cells = IfSome (slice_get cells 0) IsComponent
 
 -- ---- a range among the cells of its region
 
-abbrev pub between : (x : List ℕ) (row : List (List ℕ)) (range : CellRange) → length x % 64 ≡ 0 → IsRangeAmong (cut x).cells row range → CellsBetween x range.start range.end
+abbrev pub between : (x : List ℕ) (row : List (List ℕ)) (range : CellRange) → length x % 64 ≡ 0 → IsRowBetweenComponents (cut x).cells row range → CellsBetween x range.start range.end
 between x row range aligned r =
     let all = cut_exists x aligned in
     record {

@@ -19,7 +19,7 @@ use Rattle.cbfs_edit.proofs.EmptyEntries.{emptied-outside, emptied-wider, emptie
 use Rattle.cbfs_edit.specs.Changes.{IsEmptied}
 use Rattle.cbfs_edit.proofs.Lists.{over_part, drop-padding, padding-begins}
 use Rattle.flash_format.specs.declared.digest.Digest.{Digest}
-use Rattle.cbfs_edit.specs.Places.{Fits}
+use Rattle.cbfs_edit.specs.Places.{LiesInItsRun}
 use Rattle.cbfs_edit.specs.declared.place.Wanted.{Wanted}
 
 -- ---- the result of consecutive writes
@@ -209,9 +209,9 @@ finished-last z place end to metadata room content last =
 
 -- ---- the writes after the content, in an empty entry over the run
 
-module _ (x : List ℕ) (new : NewComponent) (wanted : Wanted) (place : Place) (size : ℕ) (x_long : length x ≡ size) (fits_in : Fits wanted size place) (header : wanted.metadata_len ≡ metadata_len_of new) (content_long : length new.content ≡ wanted.len) (short : length new.name ≤ 127) (digest : IsDigest new.digest) where
-  fits : Fits wanted (length x) place
-  fits = subst (λ n. Fits wanted n place) (sym x_long) fits_in
+module _ (x : List ℕ) (new : NewComponent) (wanted : Wanted) (place : Place) (size : ℕ) (x_long : length x ≡ size) (fits_in : LiesInItsRun wanted size place) (header : wanted.metadata_len ≡ metadata_len_of new) (content_long : length new.content ≡ wanted.len) (short : length new.name ≤ 127) (digest : IsDigest new.digest) where
+  fits : LiesInItsRun wanted (length x) place
+  fits = subst (λ n. LiesInItsRun wanted n place) (sym x_long) fits_in
 
   abbrev gap : ℕ
   gap = place.content - place.header - metadata_len_of new

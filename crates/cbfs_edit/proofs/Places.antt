@@ -6,9 +6,9 @@ use Rattle.std.specs.Int.{next_multiple_of}
 use Rattle.std.proofs.lemmas.Bool.{eqb-false, leb-false, leb-true}
 use Rattle.std.proofs.lemmas.List.Elements.{All-nil, All-cons, All-weaker, All-contains, Contains-append_right}
 use Rattle.std.proofs.Math.Nat.{add-mod-mod, mul-mod_left, mod-lt, div-add-mod, lt_of_mul-lt-mul_right, mul-le-mul_right}
-use Rattle.cbfs_edit.specs.Places.{is_bad_align, Allows, HasNoRoom, IsAllowed, IsHeaderOf, IsFirstPlace, limit_of, least_from, place_in, first_place, placing_in}
+use Rattle.cbfs_edit.specs.Places.{is_bad_align, Allows, HasNoRoom, IsAllowed, IsHeaderOf, IsFirstPlace, content_limit, least_allowed_from, place_at, place_in, first_place, placing_in}
 use Rattle.cbfs_edit.specs.Removals.{IsCellRange}
-use Rattle.cbfs_edit.specs.Places.{Fits}
+use Rattle.cbfs_edit.specs.Places.{LiesInItsRun}
 use Rattle.cbfs_edit.specs.Places.{runs}
 use Rattle.cbfs_edit.specs.declared.group.CellRange.{CellRange}
 use Rattle.cbfs_edit.specs.declared.place.Spot.{Spot}
@@ -43,23 +43,20 @@ multiple_least unit from d some below whole =
     omega (arith, enough, here, there, whole_next)
 
 -- the least allowed place from a place on
-pub least_from-least : (spot : Spot) (from d : ℕ) → is_bad_align spot ≡ false → from ≤ d → Allows spot d → least_from spot from ≤ d
-least_from-least First from d some below meets = below
-least_from-least (Aligned unit) from d some below meets = multiple_least unit from d (some_unit unit some) below meets
-least_from-least (Fixed place) from d some below meets = omega arith
+pub least_allowed_from-least : (spot : Spot) (from d : ℕ) → is_bad_align spot ≡ false → from ≤ d → Allows spot d → least_allowed_from spot from ≤ d
+least_allowed_from-least First from d some below meets = below
+least_allowed_from-least (Aligned unit) from d some below meets = multiple_least unit from d (some_unit unit some) below meets
+least_allowed_from-least (Fixed place) from d some below meets = omega arith
 
-pub least_from-meets : (spot : Spot) (from : ℕ) → is_bad_align spot ≡ false → Allows spot (least_from spot from)
-least_from-meets First from some = tt
-least_from-meets (Aligned unit) from some = next-whole from unit (some_unit unit some)
-least_from-meets (Fixed place) from some = refl
+pub least_allowed_from-meets : (spot : Spot) (from : ℕ) → is_bad_align spot ≡ false → Allows spot (least_allowed_from spot from)
+least_allowed_from-meets First from some = tt
+least_allowed_from-meets (Aligned unit) from some = next-whole from unit (some_unit unit some)
+least_allowed_from-meets (Fixed place) from some = refl
 
 -- the spot allows no later place
-least_from-none : (spot : Spot) (from d : ℕ) → is_bad_align spot ≡ false → least_from spot from < from → from ≤ d → Allows spot d → ⊥
-least_from-none First from d some less below meets = omega arith
-least_from-none other from d some less below meets = omega arith
-
-abbrev place_at : Wanted → CellRange → ℕ → Place
-place_at wanted run c = record { run = run; header = (c - wanted.metadata_len) / 64 * 64; content = c }
+least_allowed_from-none : (spot : Spot) (from d : ℕ) → is_bad_align spot ≡ false → least_allowed_from spot from < from → from ≤ d → Allows spot d → ⊥
+least_allowed_from-none First from d some less below meets = omega arith
+least_allowed_from-none other from d some less below meets = omega arith
 
 header_lemma : (wanted : Wanted) (run : CellRange) (c : ℕ) → wanted.metadata_len ≤ c → IsHeaderOf wanted (place_at wanted run c)
 header_lemma wanted run c above = record { aligned = omega arith; room = omega arith; largest = omega arith }
@@ -71,34 +68,34 @@ place_in-right wanted size run later is = go (nat_le from c) (nat_le (c + wanted
     from = run.start + wanted.metadata_len
 
     c : ℕ
-    c = least_from wanted.spot from
+    c = least_allowed_from wanted.spot from
 
     limit : ℕ
-    limit = limit_of wanted.spot size run.end
+    limit = content_limit wanted.spot size run.end
 
     go : (a b : Bool) → nat_le from c ≡ a → nat_le (c + wanted.len) limit ≡ b
         → MatchOption (cond (a && b) (Some (place_at wanted run c)) None) (HasNoRoom wanted size run) (IsFirstPlace wanted size (run ∷ later))
-    go false b ta tb = λ d allowed. least_from-none wanted.spot from d is (leb-false from c ta) allowed.after_header allowed.meets
-    go true false ta tb = λ d allowed. omega (arith, least_from-least wanted.spot from d is allowed.after_header allowed.meets, allowed.ends, leb-false (c + wanted.len) limit tb)
+    go false b ta tb = λ d allowed. least_allowed_from-none wanted.spot from d is (leb-false from c ta) allowed.after_header allowed.meets
+    go true false ta tb = λ d allowed. omega (arith, least_allowed_from-least wanted.spot from d is allowed.after_header allowed.meets, allowed.ends, leb-false (c + wanted.len) limit tb)
     go true true ta tb = record {
       before = [];
       later = later;
       whole = refl;
       none_before = All-nil (HasNoRoom wanted size);
-      allowed = record { after_header = leb-true from c ta; meets = least_from-meets wanted.spot from is; ends = leb-true (c + wanted.len) limit tb };
-      least = λ d allowed. least_from-least wanted.spot from d is allowed.after_header allowed.meets;
+      allowed = record { after_header = leb-true from c ta; meets = least_allowed_from-meets wanted.spot from is; ends = leb-true (c + wanted.len) limit tb };
+      least = λ d allowed. least_allowed_from-least wanted.spot from d is allowed.after_header allowed.meets;
       header = header_lemma wanted run c (omega (arith, leb-true from c ta));
     }
 
-limit_below : (spot : Spot) (size end : ℕ) → limit_of spot size end ≤ end
+limit_below : (spot : Spot) (size end : ℕ) → content_limit spot size end ≤ end
 limit_below (Fixed place) size end = omega arith
 limit_below other size end = (space_end-near size end).0
 
-pub fits_there : (wanted : Wanted) (size : ℕ) (place : Place) → IsCellRange place.run size → place.run.start + wanted.metadata_len ≤ place.content → place.content + wanted.len ≤ limit_of wanted.spot size place.run.end → IsHeaderOf wanted place → Fits wanted size place
+pub fits_there : (wanted : Wanted) (size : ℕ) (place : Place) → IsCellRange place.run size → place.run.start + wanted.metadata_len ≤ place.content → place.content + wanted.len ≤ content_limit wanted.spot size place.run.end → IsHeaderOf wanted place → LiesInItsRun wanted size place
 fits_there wanted size place range after ends header = let below = limit_below wanted.spot size place.run.end in search rules
 
 -- the header at the last multiple of 64 with room for the metadata
-pub fits_at : (wanted : Wanted) (size : ℕ) (run : CellRange) (c : ℕ) → IsCellRange run size → run.start + wanted.metadata_len ≤ c → c + wanted.len ≤ limit_of wanted.spot size run.end → Fits wanted size (place_at wanted run c)
+pub fits_at : (wanted : Wanted) (size : ℕ) (run : CellRange) (c : ℕ) → IsCellRange run size → run.start + wanted.metadata_len ≤ c → c + wanted.len ≤ content_limit wanted.spot size run.end → LiesInItsRun wanted size (place_at wanted run c)
 fits_at wanted size run c range after ends = fits_there wanted size (place_at wanted run c) range after ends (header_lemma wanted run c (omega arith))
 
 abbrev pub IsPlaceAmong : Wanted → ℕ → List CellRange → Option Place → Type 0

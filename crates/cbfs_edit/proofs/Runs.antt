@@ -28,7 +28,7 @@ closed : (start at : ℕ) (done row others : List (List ℕ)) (run : CellRange) 
     → start < at → record { start = start; end = at } ≡ run → IsRunOf (done ++ (row ++ others)) run
 closed start at done row others run ends free begins begun is some here = subst (λ (r : CellRange). IsRunOf (done ++ (row ++ others)) r) here (record {
   row = row;
-  range = record { before = done; after = others; whole = refl; no_more_before = ends; no_more_after = begins; start_is = begun; end_is = is };
+  maximal = record { before = done; after = others; whole = refl; no_more_before = ends; no_more_after = begins; start_is = begun; end_is = is };
   free = free;
   some = some;
 })
@@ -109,8 +109,8 @@ pub runs_exact : (x : List ℕ) (run : CellRange) → Contains (runs x) run ↔ 
 runs_exact x run = (
   run_maximal x run,
   λ is.
-      subst (λ (cs : List (List ℕ)). Contains (runs_from 0 0 cs) run) (sym is.range.whole)
-      (there 0 0 is.range.before is.row is.range.after run (λ none. refl) is.range.no_more_before is.free is.range.no_more_after (omega (arith, is.range.start_is)) is.range.end_is is.some),
+      subst (λ (cs : List (List ℕ)). Contains (runs_from 0 0 cs) run) (sym is.maximal.whole)
+      (there 0 0 is.maximal.before is.row is.maximal.after run (λ none. refl) is.maximal.no_more_before is.free is.maximal.no_more_after (omega (arith, is.maximal.start_is)) is.maximal.end_is is.some),
 )
 
 -- ---- runs in order, with a cell between neighbours
@@ -164,7 +164,7 @@ pub record IsRun (x : List ℕ) (run : CellRange) : Type 0 where
 pub run_of : (x : List ℕ) (run : CellRange) → length x % 64 ≡ 0 → Contains (runs x) run → IsRun x run
 run_of x run aligned has =
     let r = run_maximal x run has in
-    let cells : CellsBetween x run.start run.end = between x r.row run aligned r.range in
+    let cells : CellsBetween x run.start run.end = between x r.row run aligned r.maximal in
     record { cells = cells; free = r.free; range = group_range x run cells r.some }
 
 pub emptied_runs : (x : List ℕ) (run : CellRange) (y : List ℕ) → length x % 64 ≡ 0 → length x < 2 ^ 32 → Contains (runs x) run → IsEmptied run run.end x y → SameCells y x

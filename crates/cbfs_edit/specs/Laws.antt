@@ -5,7 +5,7 @@ use Rattle.std.specs.List.{AllPairs}
 use Rattle.flash_format.specs.Cut.{cut}
 use Rattle.flash_format.specs.Components.{Component, components}
 use Rattle.flash_format.specs.Made.{IsDigest}
-use Rattle.flash_format.specs.Placings.{HasOneMore, space_cells}
+use Rattle.flash_format.specs.Placings.{HasOneMoreComponent, space_cells}
 use Rattle.flash_format.specs.Splices.{AllFree, CellsBetween}
 use Rattle.cbfs_walk.specs.Search.{IsFirstOf, component_in}
 use Rattle.cbfs_edit.specs.Additions.{NewComponent, added, added_component, addition_in, cell_end}
@@ -58,7 +58,7 @@ pub record IsAdded (x : List ℕ) (new : NewComponent) (spot : Spot) (place : Pl
 pub record AddsOne (x : List ℕ) (new : NewComponent) (place : Place) : Type 0 where
   pub cells : CellsBetween x place.run.start place.run.end
   pub free : AllFree cells.group
-  pub more : HasOneMore x place.run.start place.run.end cells
+  pub more : HasOneMoreComponent x place.run.start place.run.end cells
       (space_cells (empty_between x place.run.start place.header) ++ (made_at x new place ∷ [])
       ++ space_cells (empty_between x (cell_end new place) place.run.end))
       (added_component x new place) (added x new place)

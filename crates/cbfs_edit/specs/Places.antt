@@ -6,7 +6,7 @@ use Rattle.std.specs.Prelude.{nat_le, if◌then◌else◌, is_some, List, ◌∷
 use Rattle.std.specs.Prelude.{Some, None, Result, Err, ok_or, [], nat_lt}
 use Rattle.flash_format.specs.Components.{components}
 use Rattle.cbfs_walk.specs.Search.{first_named}
-use Rattle.cbfs_edit.specs.Removals.{IsCellRange, space_end, unless_unsound, IsRangeAmong}
+use Rattle.cbfs_edit.specs.Removals.{IsCellRange, space_end, unless_unsound, IsRowBetweenComponents}
 use Rattle.flash_format.specs.Head.{head_of, is_free}
 use Rattle.cbfs_edit.specs.declared.fault.EditFault.{EditFault}
 use Rattle.cbfs_edit.specs.declared.fault.EditFault.TheVariants.{Exists, NoSpace}
@@ -18,25 +18,28 @@ use Rattle.cbfs_edit.specs.declared.place.Place.{Place}
 use Rattle.flash_format.specs.Splices.{AllFree}
 use Rattle.flash_format.specs.Cut.{cut}
 
--- adds the range, unless empty
+-- the runs with one more in front, from start to end, unless it is empty
 abbrev pub add_run : ℕ → ℕ → List CellRange → List CellRange
 add_run start end others =
     if nat_lt start end then record { start = start; end = end } ∷ others else others
 
--- The maximal sequences of adjacent free cells. Those directly before `at` begin at `start`.
+-- The runs, as far as they end after `at`, of a region whose cells from the offset `at` on are the
+-- given ones. The free cells that end at `at` begin at `start`: they belong to the first run, and
+-- without such cells `start` is `at`.
 unfoldable pub runs_from : ℕ → ℕ → List (List ℕ) → List CellRange
 runs_from start at [] = add_run start at []
 runs_from start at (cell ∷ cells) = let next = at + length cell in
     if is_free (head_of cell) then runs_from start next cells
     else add_run start at (runs_from next next cells)
 
+-- the runs of a region: each maximal sequence of free cells
 abbrev pub runs : List ℕ → List CellRange
 runs x = runs_from 0 0 (cut x).cells
 
--- free cells between components, or at an end of the cells
+-- A run is a maximal sequence of free cells: on each side stands a component, or no cell.
 pub record IsRunOf (cells : List (List ℕ)) (run : CellRange) : Type 0 where
   pub row : List (List ℕ)
-  pub range : IsRangeAmong cells row run
+  pub maximal : IsRowBetweenComponents cells row run
   pub free : AllFree row
   pub some : run.start < run.end
 
@@ -47,34 +50,40 @@ is_bad_align spot = false
 
 -- ---- as a relation
 
--- the content may begin at a place
+-- the spot allows a content that begins at `c`
 abbrev pub Allows : Spot → ℕ → Type 0
 Allows First c = ⊤
 Allows (Aligned unit) c = c % unit ≡ 0
 Allows (Fixed place) c = c ≡ place
 
--- the upper bound of the content's end, in a run with the given end
-abbrev pub limit_of : Spot → ℕ → ℕ → ℕ
-limit_of (Fixed place) size end = end
-limit_of spot size end = space_end size end
+-- The greatest end of a content in a run that ends at `end`, in a region of the given size. The
+-- last four bytes of the region stay free, because older images have a pointer there. Only a
+-- content at a fixed place can cover them: its user has chosen these bytes, as for a bootblock that
+-- has to end with its region.
+abbrev pub content_limit : Spot → ℕ → ℕ → ℕ
+content_limit (Fixed place) size end = end
+content_limit spot size end = space_end size end
 
--- at the largest multiple of 64 with room for the metadata
+-- the header stands at the largest multiple of 64 with room for the metadata before the content
 pub record IsHeaderOf (wanted : Wanted) (place : Place) : Type 0 where
   pub aligned : place.header % 64 ≡ 0
   pub room : place.header + wanted.metadata_len ≤ place.content
   pub largest : place.content < place.header + 64 + wanted.metadata_len
 
 module _ (wanted : Wanted) (size : ℕ) where
-  -- the content may begin at `c`
+  -- the content can begin at `c` in the run: the metadata has room before it, the spot allows it,
+  -- and it ends inside the limit
   pub record IsAllowed (run : CellRange) (c : ℕ) : Type 0 where
     pub after_header : run.start + wanted.metadata_len ≤ c
     pub meets : Allows wanted.spot c
-    pub ends : c + wanted.len ≤ limit_of wanted.spot size run.end
+    pub ends : c + wanted.len ≤ content_limit wanted.spot size run.end
 
+  -- the content can't begin anywhere in the run
   abbrev pub HasNoRoom : CellRange → Type 0
   HasNoRoom run = (c : ℕ) → IsAllowed run c → ⊥
 
-  pub record Fits (place : Place) : Type 0 where
+  -- header, metadata and content lie in the run of the place, in this order
+  pub record LiesInItsRun (place : Place) : Type 0 where
     pub run : IsCellRange place.run size
     pub start_below : place.run.start ≤ place.header
     pub header : IsHeaderOf wanted place
@@ -92,26 +101,44 @@ module _ (wanted : Wanted) (size : ℕ) where
 
 -- ---- as a function
 
--- the least allowed place from `from` on; lower if the spot allows none
-abbrev pub least_from : Spot → ℕ → ℕ
-least_from First from = from
-least_from (Aligned unit) from = next_multiple_of from unit
-least_from (Fixed place) from = place
+-- The least start of a content that the spot allows from `from` on. A fixed place is the only one
+-- that its spot allows, so it is the result even if it is below `from`; then the run has no room.
+abbrev pub least_allowed_from : Spot → ℕ → ℕ
+least_allowed_from First from = from
+least_allowed_from (Aligned unit) from = next_multiple_of from unit
+least_allowed_from (Fixed place) from = place
 
+-- the place in a run whose content begins at `c`
+abbrev pub place_at : Wanted → CellRange → ℕ → Place
+place_at wanted run c = record {
+  run = run;
+  header = (c - wanted.metadata_len) / 64 * 64;
+  content = c;
+}
+
+-- the place with the least allowed start in a run, if the run has room
 abbrev pub place_in : Wanted → ℕ → CellRange → Option Place
 place_in wanted size run =
-    let from = run.start + wanted.metadata_len in let c = least_from wanted.spot from in
-    if nat_le from c && nat_le (c + wanted.len) (limit_of wanted.spot size run.end)
-    then Some (record { run = run; header = (c - wanted.metadata_len) / 64 * 64; content = c })
-    else None
+    let from = run.start + wanted.metadata_len in
+    let c = least_allowed_from wanted.spot from in
+    if nat_le from c && nat_le (c + wanted.len) (content_limit wanted.spot size run.end)
+    then Some (place_at wanted run c) else None
 
+-- the place in the first run with room
 abbrev pub first_place : Wanted → ℕ → List CellRange → Option Place
 first_place wanted size runs = slice_get (filter_map (place_in wanted size) runs) 0
 
 -- ---- with errors
 
--- the place, or the first error
+abbrev pub has_component : List ℕ → List ℕ → Bool
+has_component name x = is_some (first_named name (components x))
+
+-- the place in the first run with room, or no space
+abbrev pub place_or_no_space : List ℕ → Wanted → Result Place EditFault
+place_or_no_space x wanted = ok_or (first_place wanted (length x) (runs x)) NoSpace
+
+-- The place of a new component in a region, or the first error in this order: a fault of the
+-- region's shape, damage at the end of its cells, a component with the name, no space.
 unfoldable pub placing_in : List ℕ → List ℕ → Wanted → Result Place EditFault
 placing_in x name wanted =
-    unless_unsound x (if is_some (first_named name (components x)) then Err Exists
-    else ok_or (first_place wanted (length x) (runs x)) NoSpace)
+    unless_unsound x (if has_component name x then Err Exists else place_or_no_space x wanted)

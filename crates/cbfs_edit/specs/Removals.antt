@@ -52,8 +52,9 @@ IsComponent c = is_free (head_of c) ≡ false
 abbrev pub IsNot : List ℕ → List ℕ → Type 0
 IsNot name c = IsComponent c → bytes_eq (cell_name c) name ≡ false
 
--- a row of cells between components, or at an end of the cells
-pub record IsRangeAmong (cells row : List (List ℕ)) (range : CellRange) : Type 0 where
+-- The range has the bytes of a row of neighbouring cells. Directly before and after the row stands
+-- a component, or no cell: so no free cell beside the row is left out.
+pub record IsRowBetweenComponents (cells row : List (List ℕ)) (range : CellRange) : Type 0 where
   pub before : List (List ℕ)
   pub after : List (List ℕ)
   pub whole : cells ≡ before ++ (row ++ after)
@@ -62,12 +63,12 @@ pub record IsRangeAmong (cells row : List (List ℕ)) (range : CellRange) : Type
   pub start_is : length (concat before) ≡ range.start
   pub end_is : range.start + length (concat row) ≡ range.end
 
--- the first component with the name, and all adjacent free cells
+-- A group is the first component with the name, and all adjacent free cells.
 pub record IsGroupOf (name : List ℕ) (cells : List (List ℕ)) (group : CellRange) : Type 0 where
   pub row_before : List (List ℕ)
   pub component : List ℕ
   pub row_after : List (List ℕ)
-  pub range : IsRangeAmong cells (row_before ++ (component ∷ row_after)) group
+  pub range : IsRowBetweenComponents cells (row_before ++ (component ∷ row_after)) group
   pub is_component : IsComponent component
   pub named : bytes_eq (cell_name component) name ≡ true
   pub first : All (IsNot name) range.before

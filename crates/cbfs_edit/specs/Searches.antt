@@ -11,7 +11,7 @@ use Rattle.flash_format.specs.Components.{components_from}
 use Rattle.cbfs_walk.specs.Search.{first_named}
 use Rattle.cbfs_edit.specs.Removals.{IsCellRange, group_from, row_end}
 use Rattle.cbfs_edit.specs.Places.{runs_from}
-use Rattle.cbfs_edit.specs.Places.{Fits, first_place, is_bad_align}
+use Rattle.cbfs_edit.specs.Places.{LiesInItsRun, first_place, is_bad_align}
 use Rattle.cbfs_edit.specs.declared.fault.EditFault.{EditFault}
 use Rattle.cbfs_edit.specs.declared.fault.EditFault.TheVariants.{Device, Source, NotFound}
 use Rattle.cbfs_edit.specs.declared.fault.EditFault.TheVariants.{Exists, NoSpace}
@@ -56,4 +56,4 @@ pub record IsSurvey (wanted : Wanted) (size at : ℕ) (s : Survey) : Type 0 wher
   pub small : size < 2 ^ 32
   pub here : s.row.end ≡ at
   pub row : (s.row.start ≡ s.row.end) ⊎ IsCellRange s.row size
-  pub place : IfSome s.place (Fits wanted size)
+  pub place : IfSome s.place (LiesInItsRun wanted size)

@@ -64,7 +64,7 @@ fn search_over<F: Flash>(
     requires cell { IsCellOn IsCellIn region cell.now paged.old.device }
     requires before { IsBefore cell.now.at search }
 
-    ensures after { HasAnswered 1 paged.old paged.new result }
+    ensures calls { HasAnswered 1 paged.old paged.new result }
     ensures before { IfOk result (IsBefore (cell.now.at + cell.now.span)) }
     ensures passed { OnHonestIn paged.old.device region (λ x. StandsIn x cell.now → IfOk result
         (λ next. (cells : List (List ℕ)) → group_by name.now search cell.now.at (cell_in x cell.now

@@ -10,7 +10,7 @@ ghost use Rattle.flash_device.specs.Regions.{LiesOn, Reaches, bytes_in};
 ghost use Rattle.flash_format.specs.Made.{empty_header, hash_len, header_length, meta_length};
 ghost use Rattle.cbfs_edit.specs.Additions.{described};
 ghost use Rattle.cbfs_edit.specs.Changes.{HasWrittenIn, Shows, before_last_commit, written_to};
-ghost use Rattle.cbfs_edit.specs.Places.{Fits};
+ghost use Rattle.cbfs_edit.specs.Places.{LiesInItsRun};
 
 use crate::place::{Place, Wanted};
 use crate::region_writes::{commit_in, write_in};
@@ -63,7 +63,7 @@ pub fn describe<F: Flash>(
     place: Place,
 ) -> Result<(), FlashFault>
     requires region { LiesOn region paged.old.device }
-    requires fits { Fits wanted region.size place }
+    requires fits { LiesInItsRun wanted region.size place }
     requires name { length name.now ≤ 127 }
     requires metadata { wanted.metadata_len ≡ meta_length (length name.now) (hash_len digest.now) }
 

@@ -8,7 +8,7 @@ ghost use Rattle.cbfs_walk.specs.Cells.{IsCellOn, IsCellIn, cell_in};
 ghost use Rattle.cbfs_walk.specs.Walks.{StandsIn};
 ghost use Rattle.cbfs_edit.specs.Removals.{IsCellRange};
 ghost use Rattle.cbfs_edit.specs.Changes.{IsOwn};
-ghost use Rattle.cbfs_edit.specs.Places.{Fits, is_bad_align, limit_of, least_from};
+ghost use Rattle.cbfs_edit.specs.Places.{LiesInItsRun, is_bad_align, content_limit, least_allowed_from};
 ghost use Rattle.cbfs_edit.specs.Places.{place_in, placing_in};
 ghost use Rattle.cbfs_edit.specs.Searches.{HasSearched, IsSurvey, place_by};
 
@@ -68,8 +68,8 @@ pub fn find_place<F: Flash>(
     requires region { LiesOn region paged.old.device }
     requires spot { is_bad_align wanted.spot ≡ false }
 
-    ensures { HasSearched (λ x. placing_in x name.now wanted) region (Fits wanted region.size)
-        paged.old paged.new result }
+    ensures { HasSearched (λ x. placing_in x name.now wanted) region
+        (LiesInItsRun wanted region.size) paged.old paged.new result }
 {
     let mut walk = Walk::new(region);
     let mut survey = Survey {
@@ -100,7 +100,7 @@ fn survey_over<F: Flash>(
     requires cell { IsCellOn IsCellIn region cell.now paged.old.device }
     requires before { IsSurvey wanted region.size cell.now.at survey }
 
-    ensures after { HasAnswered 1 paged.old paged.new result }
+    ensures calls { HasAnswered 1 paged.old paged.new result }
     ensures before { IfOk result (IsSurvey wanted region.size (cell.now.at + cell.now.span)) }
     ensures passed { OnHonestIn paged.old.device region (λ x. StandsIn x cell.now
         → IfOk result (λ next. (cells : List (List ℕ)) → place_by name.now wanted region.size survey
@@ -131,7 +131,7 @@ fn answer_of(wanted: Wanted, region: Region, survey: Survey) -> Result<Place, Ed
     requires { IsSurvey wanted region.size survey.row.end survey }
 
     ensures is { (name : List ℕ) → result ≡ place_by name wanted region.size survey [] }
-    ensures fits { IfOk result (Fits wanted region.size) }
+    ensures fits { IfOk result (LiesInItsRun wanted region.size) }
     ensures fault { IfErr result IsOwn }
 {
     if survey.exists {
@@ -149,7 +149,7 @@ fn place_so_far(wanted: Wanted, region: Region, survey: Survey) -> Option<Place>
 
     ensures is { result ≡ option_or survey.place (if nat_lt survey.row.start survey.row.end
         then place_in wanted region.size survey.row else None) }
-    ensures fits { IfSome result (Fits wanted region.size) }
+    ensures fits { IfSome result (LiesInItsRun wanted region.size) }
 {
     match survey.place {
         Some(place) => Some(place),
@@ -170,14 +170,14 @@ fn place_in(wanted: Wanted, region: Region, run: CellRange) -> Option<Place>
     requires small { region.size < 2 ^ 32 }
 
     ensures is { result ≡ place_in wanted region.size run }
-    ensures fits { IfSome result (Fits wanted region.size) }
+    ensures fits { IfSome result (LiesInItsRun wanted region.size) }
 {
     let from = run.start + u64::from(wanted.metadata_len);
-    let content = least_from(wanted.spot, from);
+    let content = least_allowed_from(wanted.spot, from);
     if content < from {
         return None;
     }
-    let limit = limit_of(wanted.spot, region, run.end);
+    let limit = content_limit(wanted.spot, region, run.end);
     if limit < content + u64::from(wanted.len) {
         return None;
     }
@@ -189,10 +189,10 @@ fn place_in(wanted: Wanted, region: Region, run: CellRange) -> Option<Place>
 }
 
 /// Returns the least allowed place from `from` on, or a lower place if the spot allows none.
-fn least_from(spot: Spot, from: u64) -> u64
+fn least_allowed_from(spot: Spot, from: u64) -> u64
     requires small { from < 2 ^ 33 }
     requires some { is_bad_align spot ≡ false }
-    ensures is { result ≡ least_from spot from }
+    ensures is { result ≡ least_allowed_from spot from }
     ensures small { result < 2 ^ 34 }
 {
     match spot {
@@ -203,9 +203,9 @@ fn least_from(spot: Spot, from: u64) -> u64
 }
 
 /// Returns the upper bound of the content's end.
-fn limit_of(spot: Spot, region: Region, end: u64) -> u64
+fn content_limit(spot: Spot, region: Region, end: u64) -> u64
     requires { 64 ≤ end }
-    ensures { result ≡ limit_of spot region.size end }
+    ensures { result ≡ content_limit spot region.size end }
 {
     match spot {
         Spot::First | Spot::Aligned(_) => space_end(region, end),

@@ -7,18 +7,18 @@ use Rattle.std.proofs.lemmas.Bool.{le-ltb}
 use Rattle.flash_format.specs.declared.attribute.AttrHead.{AttrHead}
 use Rattle.flash_format.specs.declared.head.Head.{Head}
 use Rattle.flash_format.specs.Head.{head_of, is_free}
-use Rattle.flash_format.specs.Entry.{Attribute, attribute, attributes, attr_head_of, ends_list, is_unused, has_bad_len, least_len, attribute_field, name_end}
+use Rattle.flash_format.specs.Entry.{Attribute, at_end, at_malformed, attribute, attributes, attr_head_of, ends_list, is_unused, has_bad_len, least_len, attribute_field, name_end, attribute_then, scan_of}
 use Rattle.flash_format.specs.Components.{cell_attributes}
 use Rattle.flash_format.proofs.Fronts.{attr_head_of-take}
-use Rattle.flash_format.proofs.AttributeSteps.{attribute_len, attributes_end, attributes_malformed, attributes_more, is_malformed}
+use Rattle.flash_format.proofs.AttributeSteps.{attribute_len, attributes_end, attributes_malformed, attributes_more, is_malformed, scan-end, scan-malformed, scan-more}
 use Rattle.flash_device.specs.Regions.{Range, LiesIn, bytes_in}
 use Rattle.cbfs_walk.specs.Cells.{cell_in}
 use Rattle.cbfs_walk.specs.Walks.{StandsIn}
 use Rattle.cbfs_walk.specs.AttrWalks.{attributes_left, head_of_attribute, next_attribute}
 use Rattle.cbfs_walk.specs.declared.cell.Cell.{Cell}
-use Rattle.cbfs_walk.specs.declared.attribute_walk.Listed as declared
-use Rattle.cbfs_walk.specs.declared.attribute_walk.Listed.TheVariants.{End, Malformed}
-use Rattle.cbfs_walk.specs.declared.attribute_walk.Listed.TheVariants as listed
+use Rattle.cbfs_walk.specs.declared.attribute_walk.AttributeItem as declared
+use Rattle.cbfs_walk.specs.declared.attribute_walk.AttributeItem.TheVariants.{End, Malformed}
+use Rattle.cbfs_walk.specs.declared.attribute_walk.AttributeItem.TheVariants as listed
 use Rattle.cbfs_walk.proofs.Parts.{length-region, length-range, range-take, range-after, range-drop}
 use Rattle.cbfs_walk.proofs.CutLaws.{standing, standing_good, cell_head, cell_part, component_whole}
 
@@ -34,13 +34,13 @@ listed_tested r image at end h unused bad lies inside room head is_unused_is is_
 
 -- ---- the rest
 
-inverted : (a b : Bool) (k h : AttrHead) → (let v : declared.Listed = cond a End (cond b Malformed (listed.Attribute k)) in listed.Attribute h ≡ v) → (a ≡ false) × (b ≡ false) × (h ≡ k)
+inverted : (a b : Bool) (k h : AttrHead) → (let v : declared.AttributeItem = cond a End (cond b Malformed (listed.Attribute k)) in listed.Attribute h ≡ v) → (a ≡ false) × (b ≡ false) × (h ≡ k)
 inverted a b k h e = grind (arith, common_steps)
 
-inverted_end : (a b : Bool) (k : AttrHead) → (let v : declared.Listed = cond a End (cond b Malformed (listed.Attribute k)) in End ≡ v) → a ≡ true
+inverted_end : (a b : Bool) (k : AttrHead) → (let v : declared.AttributeItem = cond a End (cond b Malformed (listed.Attribute k)) in End ≡ v) → a ≡ true
 inverted_end a b k e = grind (arith, common_steps)
 
-inverted_malformed : (a b : Bool) (k : AttrHead) → (let v : declared.Listed = cond a End (cond b Malformed (listed.Attribute k)) in Malformed ≡ v) → (a ≡ false) × (b ≡ true)
+inverted_malformed : (a b : Bool) (k : AttrHead) → (let v : declared.AttributeItem = cond a End (cond b Malformed (listed.Attribute k)) in Malformed ≡ v) → (a ≡ false) × (b ≡ true)
 inverted_malformed a b k e = grind (arith, common_steps)
 
 -- the first attribute, and the others
@@ -49,6 +49,7 @@ pub record Goes (y : List ℕ) (h : AttrHead) : Type 0 where
   pub least : 8 ≤ h.len
   pub enough : least_len h.tag ≤ h.len
   pub inside : h.len ≤ length y
+  pub scan : scan_of y ≡ attribute_then (attribute y) (scan_of (drop h.len y))
   pub all : attributes y ≡ option_map (λ others. attribute y ∷ others) (attributes (drop h.len y))
 
 pub goes : (y : List ℕ) (h : AttrHead) → listed.Attribute h ≡ next_attribute y → Goes y h
@@ -61,8 +62,15 @@ goes y h e =
       least = omega (arith, len.head, n);
       enough = subst (λ (k : AttrHead). least_len k.tag ≤ k.len) (sym v.2) len.least;
       inside = omega (arith, len.inside, n);
+      scan = scan-more y v.0 v.1 ∙ ap (λ k. attribute_then (attribute y) (scan_of (drop k y))) n;
       all = attributes_more y v.0 v.1 ∙ ap (λ k. option_map (λ others. attribute y ∷ others) (attributes (drop k y))) n;
     }
+
+pub scan_ends : (y : List ℕ) → End ≡ next_attribute y → scan_of y ≡ at_end
+scan_ends y e = scan-end y (inverted_end (ends_list y) (is_malformed y) (attr_head_of y) e)
+
+pub scan_is_malformed : (y : List ℕ) → Malformed ≡ next_attribute y → scan_of y ≡ at_malformed
+scan_is_malformed y e = let v = inverted_malformed (ends_list y) (is_malformed y) (attr_head_of y) e in scan-malformed y v.0 v.1
 
 pub goes_end : (y : List ℕ) → End ≡ next_attribute y → attributes y ≡ Some []
 goes_end y e = attributes_end y (inverted_end (ends_list y) (is_malformed y) (attr_head_of y) e)
@@ -120,12 +128,12 @@ walk_all x c stands used =
     ∙ listed_all x c stands used
 
 -- a walk's result at a position, and its rest
-abbrev pub GivesListed : List ℕ → Cell → ℕ → List Attribute → declared.Listed → Type 0
+abbrev pub GivesListed : List ℕ → Cell → ℕ → List Attribute → declared.AttributeItem → Type 0
 GivesListed x k a all (listed.Attribute h) = (Some h ≡ first_head all) × (attributes_left x (record { cell = k; at = a + h.len }) ≡ Some (drop 1 all))
 GivesListed x k a all End = (None ≡ first_head all) × (attributes_left x (record { cell = k; at = k.head.offset }) ≡ Some (drop 1 all))
 GivesListed x k a all Malformed = ⊥
 
-pub walk_step : (r : Range) (image : List ℕ) (k : Cell) (a p q : ℕ) (l : declared.Listed) → LiesIn r image → k.at + k.head.offset ≤ r.size
+pub walk_step : (r : Range) (image : List ℕ) (k : Cell) (a p q : ℕ) (l : declared.AttributeItem) → LiesIn r image → k.at + k.head.offset ≤ r.size
     → p ≡ k.at + a → q ≡ k.at + k.head.offset → l ≡ next_attribute (slice_range (bytes_in r image) p q)
     → (all : List Attribute) → attributes_left (bytes_in r image) (record { cell = k; at = a }) ≡ Some all → GivesListed (bytes_in r image) k a all l
 walk_step r image k a p q l lies room from to is all left = go l is
@@ -142,7 +150,7 @@ walk_step r image k a p q l lies room from to is all left = go l is
     none_left : attributes_left x (record { cell = k; at = k.head.offset }) ≡ Some []
     none_left = ap (λ n. attributes (take n (drop (k.at + k.head.offset) x))) {x = k.at + k.head.offset - (k.at + k.head.offset)} {y = 0} (omega arith) ∙ attributes_end [] refl
 
-    go : (m : declared.Listed) → m ≡ next_attribute (slice_range x p q) → GivesListed x k a all m
+    go : (m : declared.AttributeItem) → m ≡ next_attribute (slice_range x p q) → GivesListed x k a all m
     go (listed.Attribute h) is =
         let g = goes (slice_range x p q) h is in
         let on = goes_on (slice_range x p q) h all g here in
@@ -158,6 +166,6 @@ walk_step r image k a p q l lies room from to is all left = go l is
         (ap first_head (sym none), none_left ∙ ap (λ (l : List Attribute). Some (drop 1 l)) (sym none))
     go Malformed is = let e : (let o : Option (List Attribute) = None in o) ≡ Some all = sym (goes_malformed (slice_range x p q) is) ∙ here in absurd cc
 
-pub gives_none : (x : List ℕ) (k : Cell) (a : ℕ) (all : List Attribute) (l : declared.Listed) → ((h : AttrHead) → l ≡ listed.Attribute h → ⊥) → GivesListed x k a all l
+pub gives_none : (x : List ℕ) (k : Cell) (a : ℕ) (all : List Attribute) (l : declared.AttributeItem) → ((h : AttrHead) → l ≡ listed.Attribute h → ⊥) → GivesListed x k a all l
     → (None ≡ first_head all) × (attributes_left x (record { cell = k; at = k.head.offset }) ≡ Some (drop 1 all))
 gives_none x k a all l other gives = grind (arith, common_steps)

@@ -7,20 +7,20 @@ use Rattle.std.specs.Option.{option_map}
 use Rattle.byteorder.specs.Endian.{big_number}
 use Rattle.flash_format.specs.declared.attribute.AttrHead.{AttrHead}
 use Rattle.flash_format.specs.Head.{be32}
-use Rattle.flash_format.specs.Entry.{Attribute, attribute, attributes, attributes_after, attr_head_of, data_of, least_len, COMPRESSION}
+use Rattle.flash_format.specs.Entry.{AttributeScan, Attribute, attribute, attributes, data_of, least_len, scan_of, COMPRESSION}
 use Rattle.flash_format.specs.Components.{cell_attributes}
 use Rattle.flash_device.specs.Pages.{Pages}
 use Rattle.flash_device.specs.Regions.{Range, LiesIn, LiesOn, bytes_in}
 use Rattle.cbfs_walk.specs.Walks.{Passes, StandsIn}
 use Rattle.cbfs_walk.specs.Cells.{attributes_start, content_start, IsComponentIn, cell_in}
-use Rattle.cbfs_walk.specs.AttrWalks.{IsAttrIn, next_attribute, formed_after, attributes_in}
+use Rattle.cbfs_walk.specs.AttrWalks.{IsAttrIn, next_attribute, attributes_in}
 use Rattle.cbfs_walk.specs.declared.cell.Cell.{Cell}
-use Rattle.cbfs_walk.specs.declared.attribute_walk.Listed as declared
-use Rattle.cbfs_walk.specs.declared.attribute_walk.Listed.TheVariants as listed
+use Rattle.cbfs_walk.specs.declared.attribute_walk.AttributeItem as declared
+use Rattle.cbfs_walk.specs.declared.attribute_walk.AttributeItem.TheVariants as listed
 use Rattle.flash_device.proofs.DeviceLemmas.{honest_still, LiesOn-calls}
 use Rattle.cbfs_walk.proofs.ReadSequences.{Passes-none, Passes-then}
 use Rattle.cbfs_walk.proofs.Parts.{range-inner, range-after}
-use Rattle.cbfs_walk.proofs.AttributeLists.{goes, goes_end, goes_malformed, listed_all}
+use Rattle.cbfs_walk.proofs.AttributeLists.{goes, goes_end, goes_malformed, listed_all, scan_ends, scan_is_malformed}
 
 -- a scan up to a position, with its remaining result
 pub record Scanning {F : Type 0} (r : Range) (from end at : ℕ) (old now : Pages F) (Asked : Type 0) : Type 0 where
@@ -61,7 +61,7 @@ list_at r image at end = slice_range (bytes_in r image) at end
 abbrev pub AsksRest : {A : Type 0} → (List ℕ → A) → Range → List ℕ → ℕ → ℕ → ℕ → Type 0
 AsksRest ask r image from end at = ask (list_at r image at end) ≡ ask (list_at r image from end)
 
-module _ {F A : Type 0} (ask : List ℕ → A) (r : Range) (from end at : ℕ) (old now : Pages F) (l : declared.Listed)
+module _ {F A : Type 0} (ask : List ℕ → A) (r : Range) (from end at : ℕ) (old now : Pages F) (l : declared.AttributeItem)
     (s : Scanning r from end at old now (AsksRest ask r old.device.content from end at))
     (told : IsTrue now.device.honest → l ≡ next_attribute (list_at r now.device.content at end)) where
   told_there : IsTrue old.device.honest → l ≡ next_attribute (list_at r old.device.content at end)
@@ -100,25 +100,20 @@ formed_malformed y told = sym (ap (λ (o : Option (List Attribute)). is_some o) 
 
 -- ---- the first attribute with a tag
 
--- bytes of the previous attribute don't count
-formed_after-drop : (skip : ℕ) (y : List ℕ) → formed_after skip y ≡ formed_after 0 (drop skip y)
-unfolding formed_after
-formed_after-drop zero y = refl
-formed_after-drop (suc skip) [] = refl
-formed_after-drop (suc skip) (b ∷ y) = formed_after-drop skip y
-
-formed_later : (n b : ℕ) (y : List ℕ) → 0 < n → formed_after (pred n) y ≡ formed_after 0 (drop n (b ∷ y))
-formed_later n b y some = grind (arith, common_steps, formed_after-drop)
+-- the attributes of a list, up to the first malformed one
+abbrev pub found_in : List ℕ → List Attribute
+found_in y = (scan_of y).found
 
 -- by what a list begins with
-formed_with : declared.Listed → List ℕ → List Attribute
-formed_with (listed.Attribute h) y = attribute y ∷ formed_after 0 (drop h.len y)
-formed_with l y = []
+found_with : declared.AttributeItem → List ℕ → List Attribute
+found_with (listed.Attribute h) y = attribute y ∷ found_in (drop h.len y)
+found_with l y = []
 
-formed_by : (l : declared.Listed) (y : List ℕ) → l ≡ next_attribute y → formed_after 0 y ≡ formed_with l y
-unfolding formed_after formed_with
-formed_by l [] told = ap (λ (k : declared.Listed). formed_with k []) (sym told)
-formed_by l (b ∷ y) told = grind (arith, common_steps, formed_later, goes)
+found_by : (l : declared.AttributeItem) (y : List ℕ) → l ≡ next_attribute y → found_in y ≡ found_with l y
+unfolding found_with
+found_by (listed.Attribute h) y told = ap (λ (s : AttributeScan). s.found) (goes y h told).scan
+found_by listed.End y told = ap (λ (s : AttributeScan). s.found) (scan_ends y told)
+found_by listed.Malformed y told = ap (λ (s : AttributeScan). s.found) (scan_is_malformed y told)
 
 -- the data of an attribute at a position
 abbrev pub data_at : List ℕ → ℕ × AttrHead → List ℕ
@@ -126,14 +121,14 @@ data_at x found = slice_range x (found.0 + 8) (found.0 + found.1.len)
 
 -- the data of the first attribute with the tag
 abbrev pub data_with : ℕ → List ℕ → Option (List ℕ)
-data_with tag y = data_of tag (formed_after 0 y)
+data_with tag y = data_of tag (found_in y)
 
 first_by : (tag : ℕ) (h : AttrHead) (y : List ℕ) (b : Bool) → eqb h.tag tag ≡ b → listed.Attribute h ≡ next_attribute y
-    → data_with tag y ≡ option_map (λ (a : Attribute). a.contents) (cond b (Some (attribute y)) (find (λ (a : Attribute). eqb a.tag tag) (formed_after 0 (drop h.len y))))
-unfolding formed_with
+    → data_with tag y ≡ option_map (λ (a : Attribute). a.contents) (cond b (Some (attribute y)) (find (λ (a : Attribute). eqb a.tag tag) (found_in (drop h.len y))))
+unfolding found_with
 first_by tag h y b e told =
-    ap (data_of tag) (formed_by (listed.Attribute h) y told)
-    ∙ ap (λ t. option_map (λ (a : Attribute). a.contents) (cond t (Some (attribute y)) (find (λ (a : Attribute). eqb a.tag tag) (formed_after 0 (drop h.len y))))) (ap (λ (k : AttrHead). eqb k.tag tag) (sym (goes y h told).head) ∙ e)
+    ap (data_of tag) (found_by (listed.Attribute h) y told)
+    ∙ ap (λ t. option_map (λ (a : Attribute). a.contents) (cond t (Some (attribute y)) (find (λ (a : Attribute). eqb a.tag tag) (found_in (drop h.len y))))) (ap (λ (k : AttrHead). eqb k.tag tag) (sym (goes y h told).head) ∙ e)
 
 pub first_more : (tag : ℕ) (h : AttrHead) (y : List ℕ) → eqb h.tag tag ≡ false → listed.Attribute h ≡ next_attribute y → data_with tag y ≡ data_with tag (drop h.len y)
 first_more tag h y other told = first_by tag h y false other told
@@ -144,26 +139,26 @@ first_here tag at end h x fits this told =
     let y = slice_range x at end in
     sym (first_by tag h y true this told ∙ ap Some (ap (λ (k : AttrHead). slice_range y 8 k.len) (sym (goes y h told).head) ∙ range-inner x at end 8 h.len (omega (arith, fits))))
 
-pub first_none : (tag : ℕ) (l : declared.Listed) (y : List ℕ) → ((h : AttrHead) → l ≡ listed.Attribute h → ⊥) → l ≡ next_attribute y → None ≡ data_with tag y
-unfolding formed_with
+pub first_none : (tag : ℕ) (l : declared.AttributeItem) (y : List ℕ) → ((h : AttrHead) → l ≡ listed.Attribute h → ⊥) → l ≡ next_attribute y → None ≡ data_with tag y
+unfolding found_with
 first_none tag (listed.Attribute h) y other told = absurd (other h refl)
-first_none tag listed.End y other told = ap (data_of tag) (sym (formed_by listed.End y told))
-first_none tag listed.Malformed y other told = ap (data_of tag) (sym (formed_by listed.Malformed y told))
+first_none tag listed.End y other told = ap (data_of tag) (sym (found_by listed.End y told))
+first_none tag listed.Malformed y other told = ap (data_of tag) (sym (found_by listed.Malformed y told))
 
 pub first_is : (x : List ℕ) (tag : ℕ) (c : Cell) (from end : ℕ) (told : Option (List ℕ)) → from ≡ attributes_start c → end ≡ content_start c → told ≡ data_with tag (slice_range x from end) → told ≡ data_of tag (attributes_in x c)
-first_is x tag c from end told begins ends is = rw (← begins, ← ends) is
+first_is x tag c from end told begins ends is =
+    is
+    ∙ ap (λ n. data_with tag (slice_range x n end)) begins
+    ∙ ap (λ n. data_with tag (slice_range x (attributes_start c) n)) ends
 
 -- ---- the attributes of a component in the region
 
-formed_all : (skip : ℕ) (y : List ℕ) (all : List Attribute) → attributes_after skip y ≡ Some all → formed_after skip y ≡ all
-unfolding formed_after attributes_after
-formed_all zero [] all e = cc
-formed_all (suc skip) [] all e = cc
-formed_all (suc skip) (b ∷ y) all e = formed_all skip y all e
-formed_all zero (b ∷ y) all e = grind (arith, common_steps, formed_all (pred (attr_head_of (b ∷ y)).len) y)
+found-all : (malformed : Bool) (found all : List Attribute) → cond malformed None (Some found) ≡ Some all → found ≡ all
+found-all true found all e = absurd cc
+found-all false found all e = cc
 
 pub attributes_found : (r : Range) (image : List ℕ) (c : Cell) → LiesIn r image → IsComponentIn r.size c → StandsIn (bytes_in r image) c → attributes_in (bytes_in r image) c ≡ cell_attributes (cell_in (bytes_in r image) c)
-attributes_found r image c lies is stands = formed_all 0 _ _ (listed_all (bytes_in r image) c stands is.used)
+attributes_found r image c lies is stands = found-all _ _ _ (listed_all (bytes_in r image) c stands is.used)
 
 -- ---- the value of the first compression attribute
 

@@ -1,14 +1,14 @@
 -- Attribute lists.
-use Rattle.std.specs.Prelude.{ℕ, ◌+◌, ◌≤◌, ◌≡◌, false, List, slice_get, drop, length, slice_range, Option, Some, None, Result, Ok, Err, zero, suc, pred, [], ◌∷◌, ⊤, ◌||◌, if◌then◌else◌}
+use Rattle.std.specs.Prelude.{ℕ, ◌+◌, ◌≤◌, ◌≡◌, false, List, slice_get, drop, length, slice_range, Option, Some, None, Result, Ok, Err, ⊤, if◌then◌else◌}
 use Rattle.std.specs.Option.{option_map}
 use Rattle.flash_format.specs.declared.attribute.AttrHead.{AttrHead}
-use Rattle.flash_format.specs.Entry.{Attribute, attribute, attributes, is_unused, least_len, attr_head_of, ends_list, has_bad_len}
+use Rattle.flash_format.specs.Entry.{Attribute, attributes, is_unused, least_len, attr_head_of, ends_list, has_bad_len, scan_of}
 use Rattle.flash_device.specs.declared.flash.FlashFault.{FlashFault}
 use Rattle.cbfs_walk.specs.Cells.{content_start, attributes_start}
 use Rattle.cbfs_walk.specs.declared.attribute_walk.AttrWalk.{AttrWalk}
 use Rattle.cbfs_walk.specs.declared.cell.Cell.{Cell}
-use Rattle.cbfs_walk.specs.declared.attribute_walk.Listed.{Listed}
-use Rattle.cbfs_walk.specs.declared.attribute_walk.Listed.TheVariants as listed
+use Rattle.cbfs_walk.specs.declared.attribute_walk.AttributeItem.{AttributeItem}
+use Rattle.cbfs_walk.specs.declared.attribute_walk.AttributeItem.TheVariants as listed
 
 -- a fault doesn't move the walk; the end moves it to the content
 abbrev pub attr_moved : AttrWalk → Result (Option AttrHead) FlashFault → AttrWalk
@@ -36,28 +36,19 @@ GivesNext left left_now found = (all : List Attribute) → left ≡ Some all
     → (found ≡ option_map head_of_attribute (slice_get all 0)) × (left_now ≡ Some (drop 1 all))
 
 -- what a list begins with
-abbrev pub next_attribute : List ℕ → Listed
+abbrev pub next_attribute : List ℕ → AttributeItem
 next_attribute x = let h = attr_head_of x in if ends_list x then listed.End
     else (if has_bad_len h (length x) then listed.Malformed else listed.Attribute h)
 
-abbrev pub IsListedAttribute : ℕ → ℕ → Listed → Type 0
+abbrev pub IsListedAttribute : ℕ → ℕ → AttributeItem → Type 0
 IsListedAttribute at end (listed.Attribute head) = IsAttrIn at end head
 IsListedAttribute at end _ = ⊤
 
 -- ---- the first attribute with a tag
 
--- up to the list's end or first malformed attribute; the first `skip` bytes belong to the previous
--- attribute
-unfoldable pub formed_after : ℕ → List ℕ → List Attribute
-formed_after skip [] = []
-formed_after (suc skip) (b ∷ rest) = formed_after skip rest
-formed_after zero (b ∷ rest) = let x = b ∷ rest in let h = attr_head_of x in
-    if ends_list x || has_bad_len h (length x) then []
-    else attribute x ∷ formed_after (pred h.len) rest
-
 -- a component's attributes in the region, up to the first malformed one
 abbrev pub attributes_in : List ℕ → Cell → List Attribute
-attributes_in x c = formed_after 0 (slice_range x (attributes_start c) (content_start c))
+attributes_in x c = (scan_of (slice_range x (attributes_start c) (content_start c))).found
 
 -- the end of a search: the attribute, or the content
 abbrev pub searched_to : Cell → Result (Option (ℕ × AttrHead)) FlashFault → ℕ

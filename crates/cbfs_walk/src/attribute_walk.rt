@@ -3,7 +3,7 @@ ghost use Rattle.std.specs.Prelude.{◌≡◌, ℕ, ◌+◌, ◌-◌, ◌/◌, �
 ghost use Rattle.std.specs.Option.{option_map};
 ghost use Rattle.flash_format.specs.Head.{is_free, be32};
 ghost use Rattle.flash_format.specs.Entry.{attributes, data_of, name_end};
-ghost use Rattle.flash_format.specs.Components.{cell_attributes, packing};
+ghost use Rattle.flash_format.specs.Components.{cell_attributes, compression_of};
 ghost use Rattle.flash_device.specs.Pages.{HasAnswered, OnHonestIn, ReadsAs, IfFound};
 ghost use Rattle.flash_device.specs.Regions.{Reaches};
 ghost use Rattle.cbfs_walk.specs.Walks.{Passes, ReadsIn, reads_over, StandsIn, ReadsCellAs};
@@ -59,7 +59,7 @@ impl AttrWalk {
             → (result ≡ Ok None) × (paged.new ≡ paged.old) }
 
         // At most one call, and none if fewer than eight bytes are left.
-        ensures after { HasAnswered (min 1 ((self.old.cell.head.offset - self.old.at) / 8))
+        ensures calls { HasAnswered (min 1 ((self.old.cell.head.offset - self.old.at) / 8))
             paged.old paged.new result }
         ensures passes { let at = self.old.cell.at + self.old.at in
             Passes region at at (refusals result) paged.old paged.new }
@@ -67,7 +67,7 @@ impl AttrWalk {
         let at = self.cell.at + u64::from(self.at);
         let end = self.cell.at + u64::from(self.cell.head.offset);
         match listed_at(paged, region, at, end)? {
-            Listed::Attribute(head) => {
+            AttributeItem::Attribute(head) => {
                 self.at += head.len;
                 Ok(Some(head))
             }
@@ -88,11 +88,12 @@ pub fn packing<F: Flash>(
 ) -> Result<u32, FlashFault>
     requires { IsCellOn IsComponentIn region cell.now paged.old.device }
 
-    ensures after { HasAnswered (reads_over cell.now.head.offset) paged.old paged.new result }
+    ensures calls { HasAnswered (reads_over cell.now.head.offset) paged.old paged.new result }
 
-    ensures value { ReadsAs paged.old region result (λ x. packing (attributes_in x cell.now)) }
-    ensures packing { ReadsCellAs paged.old region cell.now result
-        (λ x. packing (cell_attributes x)) }
+    ensures value { ReadsAs paged.old region result
+        (λ x. compression_of (attributes_in x cell.now)) }
+    ensures compression { ReadsCellAs paged.old region cell.now result
+        (λ x. compression_of (cell_attributes x)) }
 {
     match first_attribute(paged, region, cell, AttrHead::COMPRESSION)? {
         Some((at, _)) => value_at(paged, region, at + 8),
@@ -122,7 +123,7 @@ pub fn first_attribute<F: Flash>(
     let mut at = cell.at + u64::from(name_end(&cell.head));
     loop {
         match listed_at(paged, region, at, end)? {
-            Listed::Attribute(head) => {
+            AttributeItem::Attribute(head) => {
                 if head.tag == tag {
                     return Ok(Some((at, head)));
                 }
@@ -149,15 +150,15 @@ pub fn are_well_formed<F: Flash>(
     let mut at = from;
     loop {
         match listed_at(paged, region, at, end)? {
-            Listed::Attribute(head) => at += u64::from(head.len),
-            Listed::End => return Ok(true),
-            Listed::Malformed => return Ok(false),
+            AttributeItem::Attribute(head) => at += u64::from(head.len),
+            AttributeItem::End => return Ok(true),
+            AttributeItem::Malformed => return Ok(false),
         }
     }
 }
 
 #[derive(Clone, Copy)]
-enum Listed {
+enum AttributeItem {
     Attribute(AttrHead),
     End,
     Malformed,
@@ -168,27 +169,27 @@ fn listed_at<F: Flash>(
     region: Region,
     at: u64,
     end: u64,
-) -> Result<Listed, FlashFault>
+) -> Result<AttributeItem, FlashFault>
     requires { Reaches region end paged.old.device }
 
     ensures passes { Passes region at at (refusals result) paged.old paged.new }
-    ensures few { end < at + 8 → (result ≡ Ok Listed.End) × (paged.new ≡ paged.old) }
+    ensures few { end < at + 8 → (result ≡ Ok AttributeItem.End) × (paged.new ≡ paged.old) }
     ensures attribute { IfOk result (IsListedAttribute at end) }
     ensures listed { ReadsAs paged.old region result (λ x. next_attribute (slice_range x at end)) }
 {
     if end.saturating_sub(at) < 8 {
-        return Ok(Listed::End);
+        return Ok(AttributeItem::End);
     }
     let mut bytes = [0; 8];
     read_in(paged, region, at, &mut bytes)?;
     let head = AttrHead::read(&bytes);
     if head.is_unused() {
-        return Ok(Listed::End);
+        return Ok(AttributeItem::End);
     }
     if head.has_bad_len(end - at) {
-        return Ok(Listed::Malformed);
+        return Ok(AttributeItem::Malformed);
     }
-    Ok(Listed::Attribute(head))
+    Ok(AttributeItem::Attribute(head))
 }
 
 /// Returns a big-endian number of four bytes at a position in the region.

@@ -42,7 +42,7 @@ pub fn check_hash<F: Flash>(
 ) -> Result<HashState, FlashFault>
     requires { IsCellOn IsComponentIn region cell.now paged.old.device }
 
-    ensures after { HasAnswered (reads_over cell.now.span) paged.old paged.new result }
+    ensures calls { HasAnswered (reads_over cell.now.span) paged.old paged.new result }
     ensures unread { (result ≡ Ok HashState.Absent) ⊎ (result ≡ Ok HashState.Unsupported)
         → HasRead (reads_over cell.now.head.offset) 0 paged.old paged.new }
 

@@ -26,7 +26,7 @@ pub fn name<F: Flash>(
 ) -> Result<usize, FlashFault>
     requires { IsCellOn IsComponentIn region cell.now paged.old.device }
 
-    ensures after { HasAnswered 1 paged.old paged.new result }
+    ensures calls { HasAnswered 1 paged.old paged.new result }
     ensures short { IfOk result (λ n. n ≤ 255) }
 
     ensures name { OnHonestIn paged.old.device region (λ x. StandsIn x cell.now
@@ -49,7 +49,7 @@ pub fn name_is<F: Flash>(
 ) -> Result<bool, FlashFault>
     requires { IsCellOn IsComponentIn region cell.now paged.old.device }
 
-    ensures after { HasAnswered 1 paged.old paged.new result }
+    ensures calls { HasAnswered 1 paged.old paged.new result }
 
     ensures named { ReadsCellAs paged.old region cell.now result
         (λ x. bytes_eq (cell_name x) name.now) }

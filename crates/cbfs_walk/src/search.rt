@@ -26,7 +26,7 @@ pub fn find<F: Flash>(
 ) -> Result<Option<Cell>, WalkFault>
     requires { LiesOn region paged.old.device }
 
-    ensures after { HasReadBy by_device (region.size / 16 + 2) paged.old paged.new result }
+    ensures calls { HasReadBy by_device (region.size / 16 + 2) paged.old paged.new result }
     ensures found { IfFound result (λ c. HasRead ((c.at + c.span) / 16) 0 paged.old paged.new) }
     ensures cell { IfFound result (λ c. IsCellIn region.size c × (is_free c.head ≡ false)) }
 
@@ -57,7 +57,7 @@ pub fn is_component<F: Flash>(
 ) -> Result<bool, FlashFault>
     requires { IsCellOn PassesChecks region cell.now paged.old.device }
 
-    ensures after { HasAnswered 1 paged.old paged.new result }
+    ensures calls { HasAnswered 1 paged.old paged.new result }
     ensures component { IfOk result (λ is. IsTrue is → is_free cell.now.head ≡ false) }
     ensures no_call { IsTrue (is_free cell.now.head) → paged.new ≡ paged.old }
 

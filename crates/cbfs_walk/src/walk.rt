@@ -103,7 +103,7 @@ impl Walk {
     pub fn next<F: Flash>(&mut self, paged: &mut Paged<F>) -> Result<Step, WalkFault>
         requires { LiesOn self.old.region paged.old.device }
 
-        ensures after { HasReadBy by_device
+        ensures calls { HasReadBy by_device
             (reads_at self.old.region.size self.old.at result) paged.old paged.new result }
         ensures cell { GivesCell self.old.region.size self.old.at result }
         ensures moved { self.new ≡ walk_after self.old result }

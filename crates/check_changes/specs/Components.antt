@@ -87,6 +87,7 @@ abbrev pub spans : List Listed → ℕ
 spans all = sum_by (λ l. l.cell.span) all
 
 -- the map has exactly the first component of each name
-abbrev pub Notes : {S : Type 0} → HashMap (Bor (List ℕ)) (Bor Listed) S → List Listed → Type 0
-Notes first all = (name : List ℕ)
+abbrev pub HasFirstComponents : {S : Type 0} → HashMap (Bor (List ℕ)) (Bor Listed) S
+    → List Listed → Type 0
+HasFirstComponents first all = (name : List ℕ)
     → option_copied (get_by (λ k. bytes_eq name k.now) first) ≡ first_of name all

@@ -62,7 +62,7 @@ impl<F: Flash, G: Flash> Images<F, G> {
         requires regions { LieOn self.old regions }
         requires begins { 4096 * number ≤ min regions.old.size regions.new.size }
 
-        ensures after { HasCompared 1 self.old self.new result }
+        ensures calls { HasCompared 1 self.old self.new result }
         ensures different { OnBothIn self.old regions (λ x y. Returns result (differs x y number)) }
     {
         let start = number * BLOCK;

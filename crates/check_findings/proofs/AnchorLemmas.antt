@@ -16,7 +16,7 @@ use Rattle.flash_map.specs.Fmap.{found_in}
 use Rattle.flash_map.specs.declared.search.FoundMap.{FoundMap}
 use Rattle.cbfs_anchor.specs.declared.fault.SealFault.TheVariants as faults
 use Rattle.cbfs_anchor.specs.declared.fault.SealFault.{SealFault}
-use Rattle.cbfs_anchor.specs.declared.place.Place.{Place}
+use Rattle.cbfs_anchor.specs.declared.place.AnchorPlace.{AnchorPlace}
 use Rattle.cbfs_anchor.specs.Faults.{and_then}
 use Rattle.cbfs_anchor.specs.Places.{place_in, place_with}
 use Rattle.cbfs_anchor.specs.Seals.{Survey, stored_map, stored_metadata, survey_at, survey_in}
@@ -35,13 +35,13 @@ unfolding image_anchor anchor_findings place_in
 without_map image checked none anchor findings = record { anchor = rw none anchor; findings = rw none findings }
 
 pub without_place : (image : List ℕ) (map : FoundMap) (fault : SealFault) (checked : CheckedAnchor) → found_in image ≡ Some map → (fault ≡ faults.Device → ⊥)
-    → (let a : Result Place SealFault = Err fault in IsErrOf a faults.Device ⊎ (a ≡ place_with image map)) → checked.anchor ≡ None → checked.findings.items ≡ [] → IsAnchorCheck image checked
+    → (let a : Result AnchorPlace SealFault = Err fault in IsErrOf a faults.Device ⊎ (a ≡ place_with image map)) → checked.anchor ≡ None → checked.findings.items ≡ [] → IsAnchorCheck image checked
 unfolding image_anchor anchor_findings place_in
 without_place image map fault checked there other (inl device) anchor findings = absurd (other cc)
 without_place image map fault checked there other (inr is) anchor findings = record { anchor = rw (there, sym is) anchor; findings = rw (there, sym is) findings }
 
-pub with_place : (image : List ℕ) (map : FoundMap) (place : Place) (result : Result CheckedAnchor CheckFault) → found_in image ≡ Some map
-    → (let a : Result Place SealFault = Ok place in IsErrOf a faults.Device ⊎ (a ≡ place_with image map))
+pub with_place : (image : List ℕ) (map : FoundMap) (place : AnchorPlace) (result : Result CheckedAnchor CheckFault) → found_in image ≡ Some map
+    → (let a : Result AnchorPlace SealFault = Ok place in IsErrOf a faults.Device ⊎ (a ≡ place_with image map))
     → IfOk result (λ checked. checked.anchor ≡ result_ok (anchor_at image place)) → IfOk result (λ checked. checked.findings.items ≡ findings_at image place (anchor_at image place))
     → IfOk result (IsAnchorCheck image)
 unfolding image_anchor anchor_findings place_in
@@ -71,12 +71,12 @@ module _ (image : List ℕ) where
       let parts = or_parts (not (bytes_eq (stored_metadata s.anchor image) s.metadata)) _ fit in
       (s, refl, record { metadata = same _ _ parts.0; map = same _ _ (or_parts (not (bytes_eq (stored_map s.anchor image) s.map)) false parts.1).0 })
 
-  sealed_at : (place : Place) (found : Result Anchor SealFault) (a : Anchor) → result_ok found ≡ Some a
+  sealed_at : (place : AnchorPlace) (found : Result Anchor SealFault) (a : Anchor) → result_ok found ≡ Some a
       → list_any is_bad_anchor (findings_at image place found) ≡ false → IsSealed (and_then found (survey_at Nothing image place))
   sealed_at place (Err fault) a there fit = absurd cc
   sealed_at place (Ok b) a there fit = sealed_by _ b.algorithm (survey_at Nothing image place b) fit
 
-  sealed_in : (place : Result Place SealFault) (a : Anchor) → result_ok (and_then place (anchor_at image)) ≡ Some a
+  sealed_in : (place : Result AnchorPlace SealFault) (a : Anchor) → result_ok (and_then place (anchor_at image)) ≡ Some a
       → list_any is_bad_anchor (option_map_or (λ p. findings_at image p (anchor_at image p)) (result_ok place) []) ≡ false
       → IsSealed (and_then place (λ p. and_then (anchor_at image p) (survey_at Nothing image p)))
   sealed_in (Err fault) a there fit = absurd cc
@@ -105,7 +105,7 @@ module _ (image : List ℕ) where
   Reports s found = ((list_any is_other_metadata found ≡ true) ↔ (stored_metadata s.anchor image ≢ s.metadata))
       × ((list_any is_other_map found ≡ true) ↔ (stored_map s.anchor image ≢ s.map))
 
-  reports_in : (place : Result Place SealFault) (s : Survey) → and_then place (λ p. and_then (anchor_at image p) (survey_at Nothing image p)) ≡ Ok s
+  reports_in : (place : Result AnchorPlace SealFault) (s : Survey) → and_then place (λ p. and_then (anchor_at image p) (survey_at Nothing image p)) ≡ Ok s
       → Reports s (option_map_or (λ p. findings_at image p (anchor_at image p)) (result_ok place) [])
   unfolding Reports
   reports_in (Err fault) s is = absurd cc

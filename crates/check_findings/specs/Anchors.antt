@@ -9,7 +9,7 @@ use Rattle.cbfs_anchor.specs.declared.anchor.Anchor.{Anchor}
 use Rattle.cbfs_anchor.specs.declared.demand.Demand.TheVariants.{Nothing}
 use Rattle.cbfs_anchor.specs.declared.fault.SealFault.{SealFault}
 use Rattle.cbfs_anchor.specs.declared.fault.SealFault.TheVariants as faults
-use Rattle.cbfs_anchor.specs.declared.place.Place.{Place}
+use Rattle.cbfs_anchor.specs.declared.place.AnchorPlace.{AnchorPlace}
 use Rattle.cbfs_anchor.specs.Faults.{and_then}
 use Rattle.cbfs_anchor.specs.Layout.{anchor_in}
 use Rattle.cbfs_anchor.specs.Places.{place_in}
@@ -22,18 +22,18 @@ use Rattle.check_findings.specs.declared.anchor.finding.Bootblock.{Bootblock}
 use Rattle.check_findings.specs.declared.anchor.finding.Bootblock.TheVariants.{Area, Component}
 
 -- the anchor in the range of a place
-abbrev pub anchor_at : List ℕ → Place → Result Anchor SealFault
+abbrev pub anchor_at : List ℕ → AnchorPlace → Result Anchor SealFault
 anchor_at image place = anchor_in place.anchor.start (bytes_in place.anchor image)
 
 -- the image's anchor, if any
 unfoldable pub image_anchor : List ℕ → Option Anchor
 image_anchor image = result_ok (and_then (place_in image) (anchor_at image))
 
-abbrev pub bootblock_of : Place → Bootblock
+abbrev pub bootblock_of : AnchorPlace → Bootblock
 bootblock_of place = if place.in_component then Component else Area
 
 -- the anchor's offset in COREBOOT or BOOTBLOCK
-abbrev pub spot_of : Place → Anchor → AnchorSpot
+abbrev pub spot_of : AnchorPlace → Anchor → AnchorSpot
 spot_of place a = let start = if place.in_component then place.coreboot.start
     else place.anchor.start in record { bootblock = bootblock_of place; at = a.at - start }
 
@@ -51,7 +51,7 @@ fault_finding bootblock faults.UnknownAlgorithm = Some (UnknownAlgorithm bootblo
 fault_finding bootblock faults.CutOff = Some (CutOff bootblock)
 fault_finding bootblock _ = None
 
-abbrev pub findings_at : List ℕ → Place → Result Anchor SealFault → List AnchorFinding
+abbrev pub findings_at : List ℕ → AnchorPlace → Result Anchor SealFault → List AnchorFinding
 findings_at image place (Ok a) =
     digest_findings image (spot_of place a) a.algorithm (survey_at Nothing image place a)
 findings_at image place (Err fault) = option_to_list (fault_finding (bootblock_of place) fault)

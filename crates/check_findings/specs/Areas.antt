@@ -29,5 +29,5 @@ abbrev pub area_for : AreaNames → List ℕ → Option NumberedArea
 area_for names name = get_by (λ k. slice_cmp nat_cmp name k.now) names.first
 
 -- the table has exactly the first area of each name
-abbrev pub Notes : AreaNames → List NumberedArea → Type 0
-Notes names areas = (name : List ℕ) → area_for names name ≡ find (has_name name) areas
+abbrev pub HasFirstAreas : AreaNames → List NumberedArea → Type 0
+HasFirstAreas names areas = (name : List ℕ) → area_for names name ≡ find (has_name name) areas

@@ -11,7 +11,7 @@ use Rattle.flash_format.specs.Made.{algorithm}
 use Rattle.flash_format.specs.Entry.{front}
 use Rattle.flash_format.specs.Cut.{End, complete, tail, damage, cut}
 use Rattle.flash_format.specs.Components.{Component, component_at}
-use Rattle.flash_format.specs.Components.{packing}
+use Rattle.flash_format.specs.Components.{compression_of}
 use Rattle.cbfs_anchor.specs.Metadata.{stored_hash}
 use Rattle.cbfs_walk.specs.Hashes.{hash_state}
 use Rattle.cbfs_walk.specs.declared.hashes.HashState.{HashState}
@@ -41,7 +41,7 @@ component_content c = let head = head_of c.bytes in record {
   start = c.at + head.offset;
   kind = head.kind;
   len = head.len;
-  compression = packing c.attributes;
+  compression = compression_of c.attributes;
   hash = hash_finding (hash_state c.attributes c.content);
   stored = stored_hash c.attributes;
 }

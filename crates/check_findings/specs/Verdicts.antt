@@ -1,4 +1,5 @@
--- Bad findings break a command or the boot, or report an omitted check. Others are remarks.
+-- The verdict on a finding: bad, or a remark. A bad finding breaks a command or the boot, or
+-- reports a check that was asked for and not made.
 use Rattle.std.specs.Prelude.{ℕ, ◌-◌, Bool, true, false, not, ◌&&◌, ◌||◌, ◌==◌, List, Option, is_some, nat_le, nat_lt}
 use Rattle.std.specs.List.{list_any}
 use Rattle.std.specs.Option.{option_map_or}
@@ -22,6 +23,10 @@ use Rattle.check_findings.specs.declared.image.finding.ImageFinding.{ImageFindin
 use Rattle.check_findings.specs.declared.image.finding.ImageFinding.TheVariants.{Anchor as OfAnchor, Map, Region}
 use Rattle.check_findings.specs.declared.image.finding.ImageFinding.TheVariants.{NotChecked, NoArea}
 
+-- A finding of the map is bad if the image has no map or another size than its map says, if an
+-- area is outside of the image, overlaps another or has the name of an earlier one, if the area
+-- FMAP doesn't contain the map, or if overlaps were not searched. The map itself, a further map,
+-- empty areas and names that aren't text are remarks.
 abbrev pub is_bad_map : MapFinding → Bool
 is_bad_map of_map.NoMap = true
 is_bad_map of_map.OtherSize = true
@@ -35,7 +40,8 @@ is_bad_map (of_map.OtherMap map) = false
 is_bad_map (of_map.AreaEmpty a) = false
 is_bad_map (of_map.AreaNameNotText a) = false
 
--- a digest of the anchor is bad if it isn't the stated one
+-- A finding of the anchor is bad if a digest of the anchor isn't that of the image, or if no digest
+-- was compared: COREBOOT is damaged, or the anchor can't be used.
 abbrev pub is_bad_anchor : AnchorFinding → Bool
 is_bad_anchor (of_anchor.Metadata spot algorithm valid) = not valid
 is_bad_anchor (of_anchor.FlashMap spot algorithm valid) = not valid
@@ -45,9 +51,10 @@ is_bad_anchor (of_anchor.CutOff bootblock) = true
 
 -- ---- components
 
--- the firmware can't find a component with more bytes before its content
-abbrev pub is_too_long : ℕ → Content → Bool
-is_too_long at c = nat_lt longest_metadata (c.start - at)
+-- The metadata of a component, which are the bytes of its entry before the content, are too long
+-- for the firmware: it can't find the component. The entry begins at `at`.
+abbrev pub has_long_metadata : ℕ → Content → Bool
+has_long_metadata at c = nat_lt longest_metadata (c.start - at)
 
 -- stages, payloads and fsp: only the firmware loads them
 abbrev pub is_firmware : ℕ → Bool
@@ -58,43 +65,56 @@ is_firmware kind =
 abbrev pub is_exempt : ℕ → Bool
 is_exempt kind = kind == bootblock_type || kind == header_type
 
--- a hash attribute has a digest of one of the anchor's algorithms
-abbrev pub has_digest : Option StoredHash → Bool
-has_digest stored = option_map_or (λ (h : StoredHash). option_map_or
-    (λ a. nat_le (digest_len a) h.len) (algorithm_numbered h.number) false) stored false
+-- the hash attribute has the number of an algorithm that anchors can have, and room for its digest
+abbrev pub is_digest_of_some_algorithm : StoredHash → Bool
+is_digest_of_some_algorithm h =
+    option_map_or (λ a. nat_le (digest_len a) h.len) (algorithm_numbered h.number) false
 
--- the firmware refuses to load a component without a digest, if there is an anchor
-abbrev pub refuses : HashRules → Content → Bool
-refuses rules c = is_some rules.anchor && (is_firmware c.kind && not (has_digest c.stored))
+-- a component's hash attribute, if any, has a digest of any algorithm that anchors can have
+abbrev pub has_digest_of_some_algorithm : Option StoredHash → Bool
+has_digest_of_some_algorithm stored = option_map_or is_digest_of_some_algorithm stored false
 
--- the firmware needs a digest of the component, or the user does
+-- under an anchor, the firmware refuses to load a component of its own types without a digest
+abbrev pub firmware_refuses : HashRules → Content → Bool
+firmware_refuses rules c = is_some rules.anchor
+    && (is_firmware c.kind && not (has_digest_of_some_algorithm c.stored))
+
+-- The component has to have a digest, by the user's request or for the firmware. This is no
+-- verdict: it decides whether the report names a missing digest at all, as a remark or as bad.
 abbrev pub needs_hash : HashRules → Content → Bool
 needs_hash rules c = rules.needs_all || (is_some rules.anchor && not (is_exempt c.kind))
 
--- a hash attribute, but no digest of the anchor's algorithm
-abbrev pub has_other_hash : HashRules → Content → Bool
-has_other_hash rules c = option_map_or (λ (a : Anchor). is_some c.stored
+-- under an anchor, a component has a hash attribute, but no digest of the anchor's algorithm in it
+abbrev pub has_hash_not_of_anchor : HashRules → Content → Bool
+has_hash_not_of_anchor rules c = option_map_or (λ (a : Anchor). is_some c.stored
     && not (has_hash_of a.algorithm c.stored)) rules.anchor false
 
 -- ifittool changes the content of this component after coreboot's tool has stored its digest
 abbrev pub changes_later : Option Anchor → List ℕ → Bool
 changes_later anchor name = is_some anchor && bytes_eq name (codes "intel_fit")
 
--- a digest is bad if it doesn't match, or if it is missing but required
-abbrev pub is_bad_state : HashRules → List ℕ → Content → HashFinding → Bool
-is_bad_state rules name c (hashes.Invalid algorithm) = not (changes_later rules.anchor name)
-is_bad_state rules name c (hashes.Valid algorithm) = false
-is_bad_state rules name c hashes.Missing = rules.needs_all || refuses rules c
-is_bad_state rules name c hashes.Unsupported = rules.needs_all || refuses rules c
+-- The state of a component's digest is bad if the digest doesn't match the content, or if it is
+-- missing or of an unsupported algorithm, and the user requires it or the firmware refuses the
+-- component.
+abbrev pub is_bad_hash_state : HashRules → List ℕ → Content → HashFinding → Bool
+is_bad_hash_state rules name c (hashes.Invalid algorithm) = not (changes_later rules.anchor name)
+is_bad_hash_state rules name c (hashes.Valid algorithm) = false
+is_bad_hash_state rules name c hashes.Missing = rules.needs_all || firmware_refuses rules c
+is_bad_hash_state rules name c hashes.Unsupported = rules.needs_all || firmware_refuses rules c
 
+-- the digest of the component with this name and content is bad
 abbrev pub is_bad_hash : HashRules → List ℕ → Content → Bool
-is_bad_hash rules name c = is_bad_state rules name c c.hash
+is_bad_hash rules name c = is_bad_hash_state rules name c c.hash
 
+-- A finding of a region is bad if commands refuse the region, if an entry is damaged, if a
+-- component can't be found or has a bad digest, or if the tail, which has to be unused, has filled
+-- bytes or entries: no command lists these. That the entries end with the region or with a tail,
+-- deleted components and the counts are remarks.
 abbrev pub is_bad_region : HashRules → RegionFinding → Bool
 is_bad_region rules of_region.BadSize = true
 is_bad_region rules of_region.NotCbfs = true
 is_bad_region rules (of_region.Component at name shadowed c) =
-    shadowed || (is_too_long at c || is_bad_hash rules name c)
+    shadowed || (has_long_metadata at c || is_bad_hash rules name c)
 is_bad_region rules (of_region.TailFilled at) = true
 is_bad_region rules (of_region.TailEntry at) = true
 is_bad_region rules (of_region.Damaged at kind) = true
@@ -107,13 +127,17 @@ is_bad_region rules (of_region.LargestContent n) = false
 
 -- ---- the image
 
--- the rules of a region, by whether each component needs a digest
+-- the rules of a region: whether the user requires a digest of each component, and the anchor
 abbrev pub rules_of : Bool → Option Anchor → HashRules
-rules_of needs anchor = record { needs_all = needs; anchor = anchor }
+rules_of needs_all anchor = record { needs_all = needs_all; anchor = anchor }
 
+-- A finding of an image is bad if it is a bad finding of the map or the anchor, if a checked area
+-- has a bad finding, or if an expected area was left out or doesn't exist. `needs_all` says whether
+-- the user requires a digest of each component.
 abbrev pub is_bad : Bool → ImageFinding → Bool
-is_bad needs (Map finding) = is_bad_map finding
-is_bad needs (OfAnchor finding) = is_bad_anchor finding
-is_bad needs (Region a anchor findings) = list_any (is_bad_region (rules_of needs anchor)) findings
-is_bad needs (NotChecked a named) = named
-is_bad needs (NoArea number) = true
+is_bad needs_all (Map finding) = is_bad_map finding
+is_bad needs_all (OfAnchor finding) = is_bad_anchor finding
+is_bad needs_all (Region a anchor findings) =
+    list_any (is_bad_region (rules_of needs_all anchor)) findings
+is_bad needs_all (NotChecked a expected) = expected
+is_bad needs_all (NoArea number) = true

@@ -29,7 +29,7 @@ pub struct ImageMap {
 
 /// Returns the image's map and areas, or `Device` exactly if a read failed.
 pub fn image_map<F: Flash>(alloc: Global, paged: &mut Paged<F>) -> Result<ImageMap, CheckFault>
-    ensures after { HasReadBy by_device (map_reads paged.old.device) paged.old paged.new result }
+    ensures calls { HasReadBy by_device (map_reads paged.old.device) paged.old paged.new result }
     ensures inside { IfOk result (λ map.
         IfSome map.found (λ found. map_end found ≤ length paged.old.device.content)) }
     ensures fits { IfOk result (λ map.
@@ -56,7 +56,7 @@ fn map_areas<F: Flash>(
 ) -> Result<Vec<NumberedArea>, CheckFault>
     requires { map_end map.now ≤ length paged.old.device.content }
 
-    ensures after { HasReadBy by_device map.now.head.nareas paged.old paged.new result }
+    ensures calls { HasReadBy by_device map.now.head.nareas paged.old paged.new result }
     ensures count { IfOk result (λ areas. length areas.items ≡ map.now.head.nareas) }
     ensures areas { OnHonest paged.old.device (λ image. Lists result (map_areas image map.now)) }
 {

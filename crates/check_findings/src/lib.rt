@@ -16,7 +16,7 @@ pub use areas::{ImageMap, NumberedArea, image_map};
 pub use fault::CheckFault;
 pub use image::{
     CheckedImage, HashRules, ImageFinding, NameSet, Need, NeedFinding, NeededPlace, RegionFindings,
-    cbfs_areas, check_image, is_too_long, unmet,
+    cbfs_areas, check_image, has_long_metadata, unmet,
 };
 pub use laws::{
     blank_tails_are_known, clean_maps_are_sound, counts_are_of_the_entries, fit_images_are_sealed,

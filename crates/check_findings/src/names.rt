@@ -14,11 +14,11 @@ pub struct AreaNames<'a> {
 }
 
 impl<'a> AreaNames<'a> {
-    ghost use Rattle.check_findings.specs.Areas.{area_for, Notes};
+    ghost use Rattle.check_findings.specs.Areas.{area_for, HasFirstAreas};
 
     /// Returns the names of these areas.
     pub fn of(alloc: Global, areas: &'a [NumberedArea]) -> Result<AreaNames<'a>, AllocError>
-        ensures { IfOk result (λ names. Notes names areas.now) }
+        ensures { IfOk result (λ names. HasFirstAreas names areas.now) }
     {
         let mut names = AreaNames {
             first: BTreeMap::new(alloc),
@@ -37,8 +37,8 @@ impl<'a> AreaNames<'a> {
     }
 
     fn add(&mut self, area: &'a NumberedArea) -> Result<(), AllocError>
-        ensures { (before : List NumberedArea) → Notes self.old before →
-            OnOk result (Notes self.new (before ++ area.now ∷ [])) }
+        ensures { (before : List NumberedArea) → HasFirstAreas self.old before →
+            OnOk result (HasFirstAreas self.new (before ++ area.now ∷ [])) }
     {
         let name = area.area.text();
         if self.get(name).is_none() {

@@ -5,7 +5,7 @@ use Rattle.std.specs.Str.{chars, is_utf8}
 use lib.Chars.{codes}
 use lib.Utf8
 use Rattle.flash_format.specs.Head.{head_of, head_at, extent_of}
-use Rattle.flash_format.specs.Entry.{entry, attr_head_of, attributes_after}
+use Rattle.flash_format.specs.Entry.{entry, attr_head_of, scan_after}
 use Rattle.flash_format.specs.Cut.{cut_after}
 use Rattle.flash_format.specs.Flashmap.{area_of, areas_from, fmap_head_of, has_signature, is_map, is_valid_head, map_from}
 use Rattle.flash_device.specs.Regions.{bytes_in}
@@ -32,15 +32,15 @@ unfolding map_findings map_from is_map has_signature is_valid_head fmap_head_of 
 only_the_map = refl
 
 pub no_bad_finding : list_any (is_bad false) (image_findings small_image [] []) ≡ false
-unfolding image_findings anchor_findings image_anchor place_in component_in components_from image_areas map_findings map_from is_map has_signature is_valid_head fmap_head_of areas_from area_of is_utf8 chars lib.Utf8.encode region_findings walk_findings cells_findings tail_findings cut_after entry head_of head_at extent_of attributes_after attr_head_of small_image small_map small_region component_cell free_cell
+unfolding image_findings anchor_findings image_anchor place_in component_in components_from image_areas map_findings map_from is_map has_signature is_valid_head fmap_head_of areas_from area_of is_utf8 chars lib.Utf8.encode region_findings walk_findings cells_findings tail_findings cut_after entry head_of head_at extent_of scan_after attr_head_of small_image small_map small_region component_cell free_cell
 no_bad_finding = refl
 
 pub one_region : region_areas (image_findings small_image [] []) ≡ coreboot_area ∷ []
-unfolding image_findings anchor_findings image_anchor place_in component_in components_from image_areas map_findings map_from is_map has_signature is_valid_head fmap_head_of areas_from area_of is_utf8 chars lib.Utf8.encode region_findings walk_findings cells_findings tail_findings cut_after entry head_of head_at extent_of attributes_after attr_head_of small_image small_map small_region component_cell free_cell
+unfolding image_findings anchor_findings image_anchor place_in component_in components_from image_areas map_findings map_from is_map has_signature is_valid_head fmap_head_of areas_from area_of is_utf8 chars lib.Utf8.encode region_findings walk_findings cells_findings tail_findings cut_after entry head_of head_at extent_of scan_after attr_head_of small_image small_map small_region component_cell free_cell
 one_region = refl
 
 pub one_to_check : areas_to_check small_image [] [] ≡ coreboot_area ∷ []
-unfolding image_findings anchor_findings image_anchor place_in component_in components_from image_areas map_findings map_from is_map has_signature is_valid_head fmap_head_of areas_from area_of is_utf8 chars lib.Utf8.encode region_findings walk_findings cells_findings tail_findings cut_after entry head_of head_at extent_of attributes_after attr_head_of small_image small_map small_region component_cell free_cell
+unfolding image_findings anchor_findings image_anchor place_in component_in components_from image_areas map_findings map_from is_map has_signature is_valid_head fmap_head_of areas_from area_of is_utf8 chars lib.Utf8.encode region_findings walk_findings cells_findings tail_findings cut_after entry head_of head_at extent_of scan_after attr_head_of small_image small_map small_region component_cell free_cell
 one_to_check = refl
 
 pub few_bytes : sum_sizes (coreboot_area ∷ []) ≤ 2 * length small_image
@@ -56,7 +56,7 @@ by_parts : (all : List ImageFinding) (need : Need) (area name : List ℕ) (place
 by_parts all need area name place is_area is_name is_place = rw (is_area, is_name, is_place) refl
 
 literal_met : (need : Need) → unmet (image_findings small_image [] []) (record { area = record need.area { now = codes "COREBOOT" }; name = record need.name { now = codes "a" }; place = At 28 }) ≡ None
-unfolding image_findings anchor_findings image_anchor place_in component_in components_from image_areas map_findings map_from is_map has_signature is_valid_head fmap_head_of areas_from area_of is_utf8 chars lib.Utf8.encode region_findings walk_findings cells_findings tail_findings cut_after entry head_of head_at extent_of attributes_after attr_head_of small_image small_map small_region component_cell free_cell
+unfolding image_findings anchor_findings image_anchor place_in component_in components_from image_areas map_findings map_from is_map has_signature is_valid_head fmap_head_of areas_from area_of is_utf8 chars lib.Utf8.encode region_findings walk_findings cells_findings tail_findings cut_after entry head_of head_at extent_of scan_after attr_head_of small_image small_map small_region component_cell free_cell
 literal_met need = refl
 
 pub need_met : (need : Need) → need.area.now ≡ codes "COREBOOT" → need.name.now ≡ codes "a" → need.place ≡ At 28 → unmet (image_findings small_image [] []) need ≡ None

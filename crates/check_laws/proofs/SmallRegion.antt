@@ -4,7 +4,7 @@ use Rattle.std.specs.Prelude.{Contains}
 use Rattle.std.specs.List.{list_any}
 use lib.Chars.{codes}
 use Rattle.flash_format.specs.Head.{head_of, head_at, extent_of}
-use Rattle.flash_format.specs.Entry.{entry, attr_head_of, attributes_after}
+use Rattle.flash_format.specs.Entry.{entry, attr_head_of, scan_after}
 use Rattle.flash_format.specs.Cut.{cut, cut_after, complete}
 use Rattle.flash_format.specs.Components.{Component, component_at, components, components_from}
 use Rattle.cbfs_walk.specs.Shapes.{shape_fault}
@@ -13,11 +13,11 @@ use Rattle.check_findings.specs.Verdicts.{is_bad_region, rules_of}
 use Rattle.check_laws.specs.Samples.{component_cell, free_cell, small_region}
 
 pub cells_are : cut small_region ≡ record { cells = component_cell ∷ free_cell ∷ []; end = complete }
-unfolding cut_after entry head_of head_at extent_of attributes_after attr_head_of small_region component_cell free_cell
+unfolding cut_after entry head_of head_at extent_of scan_after attr_head_of small_region component_cell free_cell
 cells_are = refl
 
 pub none_bad : list_any (is_bad_region (rules_of false None)) (region_findings small_region) ≡ false
-unfolding region_findings walk_findings cells_findings tail_findings cut_after entry head_of head_at extent_of attributes_after attr_head_of small_region component_cell free_cell
+unfolding region_findings walk_findings cells_findings tail_findings cut_after entry head_of head_at extent_of scan_after attr_head_of small_region component_cell free_cell
 none_bad = refl
 
 pub shaped : shape_fault small_region ≡ None
@@ -28,7 +28,7 @@ abbrev pub its_component : Component
 its_component = component_at 0 component_cell
 
 pub one_component : components small_region ≡ its_component ∷ []
-unfolding components_from cut_after entry head_of head_at extent_of attributes_after attr_head_of small_region component_cell free_cell
+unfolding components_from cut_after entry head_of head_at extent_of scan_after attr_head_of small_region component_cell free_cell
 one_component = refl
 
 pub its_name : its_component.name ≡ codes "a"

@@ -16,7 +16,7 @@ use Rattle.clap.specs.Simple.{new_shape}
 use Rattle.clap.specs.declared.builder.action.ArgAction.TheVariants.{SetTrue}
 use Rattle.clap.specs.declared.error.kind.ErrorKind.{ErrorKind}
 use Rattle.clap.specs.declared.error.kind.ErrorKind.TheVariants as reason
-use Rattle.check_findings.specs.Needs.{wish_of}
+use Rattle.check_findings.specs.Needs.{NeedBytes, need_bytes}
 use Rattle.check_findings.specs.declared.image.needs.NeededPlace.{NeededPlace}
 use Rattle.check_findings.specs.declared.image.needs.NeededPlace.TheVariants.{Any, At, End}
 use Rattle.check_line.specs.declared.fault.LineFault.{LineFault}
@@ -70,10 +70,11 @@ named_in text = option_map_or (λ parts. option_map (λ place. (parts.0, place))
 
 -- The area ends at the first colon (58); without a colon, the name is empty. Area and name aren't
 -- empty.
-abbrev pub need_in : List ℕ → Option (List ℕ × List ℕ × NeededPlace)
+abbrev pub need_in : List ℕ → Option NeedBytes
 need_in text = let area = before_first (λ b. b == 58) text in option_and_then
     (λ named. if length named.0 == 0 || length area == 0 then None
-    else Some (area, named.0, named.1)) (named_in (after_first (λ b. b == 58) text))
+    else Some (record { area = area; name = named.0; place = named.1 }))
+    (named_in (after_first (λ b. b == 58) text))
 
 -- ---- the options
 
@@ -123,7 +124,7 @@ pub record IsLineOf (rows : List Row) (line : CheckLine) : Type 0 where
   pub kept : texts line.kept.items ≡ parts_of (value "keep" rows)
   pub keeps_preserved : line.keeps_preserved ≡ is_set (value "keep-preserved" rows)
   pub needs_hashes : line.needs_hashes ≡ is_set (value "all-hashed" rows)
-  pub needs : map wish_of line.needs.items ≡ filter_map need_in (parts_of (value "need" rows))
+  pub needs : map need_bytes line.needs.items ≡ filter_map need_in (parts_of (value "need" rows))
 
 -- a value with the property, or else the complaint; or an allocation fails
 abbrev pub Gives : {T : Type 0} → Option Complaint → (T → Type 0) → Result T LineFault → Type 0

@@ -4,7 +4,7 @@ ghost use Rattle.std.specs.Prelude.{◌≡◌, ◌==◌, ◌<◌, ◌∷◌, IfO
 ghost use Rattle.std.specs.Option.{option_copied};
 ghost use Rattle.std.specs.List.{list_any};
 ghost use Rattle.clap.specs.Words.{first_of, found_of, rows_of};
-ghost use Rattle.check_findings.specs.Needs.{wish_of};
+ghost use Rattle.check_findings.specs.Needs.{need_bytes};
 ghost use Rattle.check_line.specs.CheckWords.{Gives, IsLineOf, bad_areas, bad_need, complaint_in};
 ghost use Rattle.check_line.specs.CheckWords.{is_set, need_in, parts_of, texts};
 
@@ -87,7 +87,7 @@ fn first_part<'a>(list: &'a str) -> (&'a str, Option<&'a str>)
 
 /// Returns the needs in an option's list. Refuses the first bad part.
 fn needs_given<'a>(alloc: Global, list: Option<&'a str>) -> Result<Vec<Need<'a>>, LineFault<'a>>
-    ensures { Gives (bad_need (option_copied list.entry)) (λ needs. map wish_of needs.items
+    ensures { Gives (bad_need (option_copied list.entry)) (λ needs. map need_bytes needs.items
         ≡ filter_map need_in (parts_of (option_copied list.entry))) result }
 {
     let mut needs = Vec::new(alloc);

@@ -2,7 +2,7 @@
 
 ghost use Rattle.std.specs.Path.{rsplit_once};
 ghost use Rattle.std.specs.Prelude.{◌≡◌, option_map};
-ghost use Rattle.check_findings.specs.Needs.{wish_of};
+ghost use Rattle.check_findings.specs.Needs.{need_bytes};
 ghost use Rattle.check_line.specs.CheckWords.{named_in, need_in, needed_place};
 
 use check_findings::{Need, NeededPlace};
@@ -38,7 +38,7 @@ fn named_place<'a>(text: &'a str) -> Option<(&'a str, NeededPlace)>
 /// Parses `AREA:NAME` or `AREA:NAME@OFFSET`.
 #[tactic(auto, unfolding(std::specs::Path::rsplit_once))]
 pub fn need_of<'a>(text: &'a str) -> Option<Need<'a>>
-    ensures { option_map wish_of result ≡ need_in text.entry.now }
+    ensures { option_map need_bytes result ≡ need_in text.entry.now }
 {
     let (area, rest) = text.split_once(':')?;
     let (name, place) = named_place(rest)?;

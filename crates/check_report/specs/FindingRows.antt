@@ -36,7 +36,7 @@ use Rattle.check_findings.specs.declared.image.needs.Need.{Need}
 use Rattle.check_findings.specs.declared.image.needs.NeedFinding.{NeedFinding}
 use Rattle.check_findings.specs.declared.image.needs.NeedFinding.TheVariants.{Missing, Elsewhere}
 use Rattle.check_findings.specs.Lists.{only_if}
-use Rattle.check_findings.specs.Verdicts.{has_other_hash, is_bad_hash, is_too_long, needs_hash}
+use Rattle.check_findings.specs.Verdicts.{has_hash_not_of_anchor, is_bad_hash, has_long_metadata, needs_hash}
 use Rattle.check_findings.specs.Verdicts.{rules_of}
 use Rattle.check_findings.specs.declared.image.verdict.HashRules.{HashRules}
 use Rattle.check_findings.specs.declared.region.finding.Content.{Content}
@@ -91,7 +91,7 @@ hash_row rules name content = row_of (if is_bad_hash rules name content then Bad
 abbrev pub hash_rows : Asked → HashRules → List ℕ → ℕ → List ℕ → Content → List SeenRow
 hash_rows asked rules region at name content = let here = at_component region at name in
     only_if (has_hash_row asked rules content) (here (hash_row rules name content))
-    ++ only_if (has_other_hash rules content)
+    ++ only_if (has_hash_not_of_anchor rules content)
     (here (row Remark "hash-other-algorithm" "hash isn't of the anchor's algorithm"))
 
 -- rows of a component: an earlier namesake, too long metadata, a name that isn't UTF-8, a type
@@ -100,7 +100,7 @@ abbrev pub component_rows : Asked → HashRules → List ℕ → RegionFinding �
 component_rows asked rules region (Component at name shadowed content) =
     let here = at_component region at name in
     only_if shadowed (here (row Bad "component-shadowed" "has the name of an earlier component"))
-    ++ (only_if (is_too_long at content) (here (row Bad "metadata-too-long"
+    ++ (only_if (has_long_metadata at content) (here (row Bad "metadata-too-long"
     "metadata longer than 256 bytes: firmware can't find it"))
     ++ (only_if (not (is_utf8 name)) (here (row Remark "component-name" "name isn't UTF-8"))
     ++ (only_if (is_none (name_of_type content.kind))

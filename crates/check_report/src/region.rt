@@ -8,7 +8,7 @@ ghost use Rattle.check_report.specs.FindingRows.{hash_rows, hash_words, plain_ro
 use crate::fault::WriteFault;
 use crate::request::Asked;
 use crate::rows::{Row, RowWriter, Verdict};
-use check_findings::{Content, HashFinding, HashRules, RegionFinding, is_text, is_too_long};
+use check_findings::{Content, HashFinding, HashRules, RegionFinding, has_long_metadata, is_text};
 use flash_device::Sink;
 use flash_format::{Algorithm, DamageKind, type_name};
 
@@ -88,7 +88,7 @@ fn add_component<W: Sink + Drop>(
     let what = "metadata longer than 256 bytes: firmware can't find it";
     let row = Verdict::Bad.row("metadata-too-long", what);
     rows.add_if(
-        is_too_long(at, *content),
+        has_long_metadata(at, *content),
         row.at_component(region, at, name),
     )?;
     let row = Verdict::Remark.row("component-name", "name isn't UTF-8");

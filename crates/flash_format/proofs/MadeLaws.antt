@@ -16,10 +16,11 @@ use Rattle.flash_format.specs.declared.digest.Digest.{Digest}
 use Rattle.flash_format.specs.declared.digest.Algorithm.{Algorithm}
 use Rattle.flash_format.specs.declared.digest.Algorithm.TheVariants.{Sha256, Sha512}
 use Rattle.flash_format.specs.Head.{head_of, head_at, head_bytes, round64}
-use Rattle.flash_format.specs.Made.{name_padding, padding, IsDigest, IsMade, name_room, meta_length, algorithm_row, digest_bytes, hash_attribute, hash_contents, hash_bytes, hash_len, made_head, made_metadata, made}
-use Rattle.flash_format.specs.Entry.{Attribute, attr_head_of, attributes, attributes_after, ends_list, HASH, cell, present, component, is_nul, name_end, name_field, is_terminated, attribute_field}
+use Rattle.flash_format.specs.Made.{name_padding, padding, IsDigest, IsMade, name_room, name_with_nuls, meta_length, algorithm_row, digest_bytes, hash_attribute, hash_contents, hash_bytes, hash_len, made_head, made_metadata, made}
+use Rattle.flash_format.specs.Entry.{Attribute, attr_head_of, attributes, scan_after, ends_list, HASH, cell, present, component, is_nul, name_end, name_field, is_terminated, attribute_field}
 use Rattle.flash_format.specs.Components.{component_at}
-use Rattle.flash_format.specs.Placings.{IsReadAs, made_component}
+pub use Rattle.flash_format.specs.Placings.{made_attributes}
+use Rattle.flash_format.specs.Placings.{DecodesAs, made_component}
 use Rattle.flash_format.proofs.AttributeSteps.{attributes_end, attributes_more}
 use Rattle.flash_format.proofs.EmptyEntryLaws.{length-head_bytes, head_in_front, checked_passes}
 use Rattle.flash_format.proofs.CutSteps.{head_is}
@@ -28,9 +29,6 @@ use Rattle.flash_format.proofs.EntryLaws.{from_head, present_by, up}
 -- four bytes, if any
 abbrev pub KeepsFour : Option (List ℕ) → Type 0
 KeepsFour last = IfSome last (λ bytes. length bytes ≡ 4)
-
-abbrev pub made_attributes : Option Digest → List Attribute
-made_attributes digest = option_map_or (λ d. record { tag = HASH; contents = hash_contents d } ∷ []) digest []
 
 pub room_is_least : (k : ℕ) → (k < name_room k) × (name_room k % name_padding ≡ 0) × (name_room k ≤ k + name_padding)
 room_is_least k = (omega arith, omega arith, omega arith)
@@ -94,16 +92,13 @@ few_bytes Sha512 = omega arith
 
 -- ---- the parts of metadata
 
-abbrev padded_name : List ℕ → List ℕ
-padded_name name = name ++ replicate (name_room (length name) - length name) 0
-
-pub length-padded : (name : List ℕ) → length (padded_name name) ≡ name_room (length name)
+pub length-padded : (name : List ℕ) → length (name_with_nuls name) ≡ name_room (length name)
 length-padded name = omega (arith, length-append name (replicate (name_room (length name) - length name) 0), length-replicate {A = ℕ} (name_room (length name) - length name) 0)
 
 pub length-metadata : (name : List ℕ) (kind : ℕ) (digest : Option Digest) (gap n : ℕ) → length (made_metadata name kind digest gap n) ≡ (made_head name kind digest gap n).offset
 length-metadata name kind digest gap n = simp (length-append, length-head_bytes, length-replicate) (omega arith)
 
-padded_is : (name : List ℕ) → padded_name name ≡ name ++ (0 ∷ replicate (name_room (length name) - length name - 1) 0)
+padded_is : (name : List ℕ) → name_with_nuls name ≡ name ++ (0 ∷ replicate (name_room (length name) - length name - 1) 0)
 padded_is name = ap (λ (l : List ℕ). name ++ l) (zeros_begin (name_room (length name) - length name) (omega arith))
 
 range_of : (a b c : List ℕ) (from to : ℕ) → length a ≡ from → from + length b ≡ to → slice_range (a ++ (b ++ c)) from to ≡ b
@@ -111,7 +106,7 @@ range_of a b c from to begins ends = grind (arith, drop_at, take_at)
 
 attributes_read : (name : List ℕ) (kind : ℕ) (digest : Option Digest) (gap n : ℕ) (more : List ℕ) → IsDigest digest
     → attributes (attribute_field (made_head name kind digest gap n) (made_metadata name kind digest gap n ++ more)) ≡ Some (made_attributes digest)
-unfolding attributes_after
+unfolding scan_after
 attributes_read name kind None gap n more is = refl
 attributes_read name kind (Some d) gap n more is = grind (arith, nat_tests, append_assoc, ne_eqb, range_of, length-append, length-head_bytes, length-padded, length-replicate, hash_read, few_bytes)
 
@@ -131,7 +126,7 @@ regroup head name nuls hash spare content more = simp append_assoc
 
 pub metadata_is_read : (name : List ℕ) (kind : ℕ) (digest : Option Digest) (gap : ℕ) (content more : List ℕ) → IsMade name kind digest gap content
     → let whole = made_metadata name kind digest gap (length content) ++ content in
-    IsReadAs name kind digest content (whole ++ more) (round64 (length whole))
+    DecodesAs name kind digest content (whole ++ more) (round64 (length whole))
 metadata_is_read name kind digest gap content more is =
     let n = length content in
     let h : Head = made_head name kind digest gap n in
@@ -181,7 +176,7 @@ pub length-made : (name : List ℕ) (kind : ℕ) (digest : Option Digest) (gap :
 length-made name kind digest gap content last four = grind (arith, nat_tests, length-append, length-padding, up)
 
 pub made_alone : (name : List ℕ) (kind : ℕ) (digest : Option Digest) (gap : ℕ) (content : List ℕ) (last : Option (List ℕ)) → IsMade name kind digest gap content → KeepsFour last
-    → IsReadAs name kind digest content (made name kind digest gap content last) (length (made name kind digest gap content last))
+    → DecodesAs name kind digest content (made name kind digest gap content last) (length (made name kind digest gap content last))
 made_alone name kind digest gap content last is four =
     let whole : List ℕ = made_metadata name kind digest gap (length content) ++ content in
     rw (length-made name kind digest gap content last four) (metadata_is_read name kind digest gap content (padding (round64 (length whole) - length whole) last) is)

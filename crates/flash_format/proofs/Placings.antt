@@ -10,7 +10,7 @@ use Rattle.flash_format.specs.Cut.{Cut, cut, IsCell}
 use Rattle.flash_format.specs.Components.{Component, component_at, components_from}
 use Rattle.flash_format.specs.declared.digest.Digest.{Digest}
 use Rattle.flash_format.specs.Splices.{AllFree, CellsBetween, splice}
-use Rattle.flash_format.specs.Placings.{HasOneMore, IsReadAs, IsSpace, space_cells, made_component}
+use Rattle.flash_format.specs.Placings.{HasOneMoreComponent, DecodesAs, IsFreeSpace, space_cells, made_component}
 use Rattle.flash_format.proofs.CutLaws.{cut_unique}
 use Rattle.flash_format.proofs.CutSteps.{cell_span}
 use Rattle.flash_format.proofs.CellLists.{components-append}
@@ -19,12 +19,12 @@ use Rattle.flash_format.proofs.MadeLaws.{KeepsFour, length-padding}
 use Rattle.flash_format.proofs.Splices.{concat-append, space_each, concat-space, components-free, length-concat-cells, cells-before, cells-group, splice-cut, splice-components, group-components}
 
 -- the cut's end is the same
-pub one_more-end : (x : List ℕ) (start end : ℕ) (g : CellsBetween x start end) (cells : List (List ℕ)) (component : Component) (y : List ℕ) → HasOneMore x start end g cells component y → (cut y).end ≡ (cut x).end
+pub one_more-end : (x : List ℕ) (start end : ℕ) (g : CellsBetween x start end) (cells : List (List ℕ)) (component : Component) (y : List ℕ) → HasOneMoreComponent x start end g cells component y → (cut y).end ≡ (cut x).end
 one_more-end x start end g cells component y more = ap (λ (c : Cut). c.end) (cut_unique y (g.before ++ cells ++ g.after) g.rest g.ending more.is_cut ∙ sym (ap (λ (c : Cut). record c { cells = g.before ++ cells ++ g.after }) (cut_unique x (g.before ++ g.group ++ g.after) g.rest g.ending g.is)))
 
 -- ---- free space
 
-pub empty_is_space : (size : ℕ) (last : Option (List ℕ)) → 64 ≤ size → KeepsFour last → IsSpace size (empty_entry size last)
+pub empty_is_space : (size : ℕ) (last : Option (List ℕ)) → 64 ≤ size → KeepsFour last → IsFreeSpace size (empty_entry size last)
 empty_is_space size last some four = grind (arith, nat_tests, length-append, length-empty_header, length-padding)
 
 -- ---- the component
@@ -43,7 +43,7 @@ component_among start at a b x free_before free_after used place = simp (compone
 concat-three : (before bytes after : List ℕ) → concat (space_cells before ++ (bytes ∷ []) ++ space_cells after) ≡ before ++ (bytes ++ after)
 concat-three before bytes after = simp (concat-append, concat-space, append_assoc)
 
-pub placed : (x : List ℕ) (start end : ℕ) (g : CellsBetween x start end) (before used after : List ℕ) → AllFree g.group → IsSpace (length before) before → IsSpace (length after) after → IsCell used → is_free (head_of used) ≡ false → length before % 64 ≡ 0 → start + length (before ++ (used ++ after)) ≡ end → end - start < 2 ^ 32 → HasOneMore x start end g (space_cells before ++ (used ∷ []) ++ space_cells after) (component_at (start + length before) used) (splice x start end (before ++ (used ++ after)))
+pub placed : (x : List ℕ) (start end : ℕ) (g : CellsBetween x start end) (before used after : List ℕ) → AllFree g.group → IsFreeSpace (length before) before → IsFreeSpace (length after) after → IsCell used → is_free (head_of used) ≡ false → length before % 64 ≡ 0 → start + length (before ++ (used ++ after)) ≡ end → end - start < 2 ^ 32 → HasOneMoreComponent x start end g (space_cells before ++ (used ∷ []) ++ space_cells after) (component_at (start + length before) used) (splice x start end (before ++ (used ++ after)))
 placed x start end g before used after free space_before space_after is_cell is_used aligned size small =
     let cells : List (List ℕ) = space_cells before ++ (used ∷ []) ++ space_cells after in
     let at = start + length before in
@@ -73,15 +73,15 @@ pub record IsPlacing (start end at : ℕ) (before cell after : List ℕ) : Type 
   pub from_start : start ≤ at
   pub to_end : at + length cell ≤ end
   pub small : end - start < 2 ^ 32
-  pub space_before : IsSpace (at - start) before
-  pub space_after : IsSpace (end - (at + length cell)) after
+  pub space_before : IsFreeSpace (at - start) before
+  pub space_after : IsFreeSpace (end - (at + length cell)) after
 
 pub components_placed : (x : List ℕ) (start end : ℕ) (g : CellsBetween x start end) (at : ℕ) (before whole after name : List ℕ) (kind : ℕ) (digest : Option Digest) (content : List ℕ)
-    → AllFree g.group → IsPlacing start end at before whole after → IsReadAs name kind digest content whole (length whole)
-    → HasOneMore x start end g (space_cells before ++ (whole ∷ []) ++ space_cells after) (made_component at name kind digest content whole) (splice x start end (before ++ (whole ++ after)))
+    → AllFree g.group → IsPlacing start end at before whole after → DecodesAs name kind digest content whole (length whole)
+    → HasOneMoreComponent x start end g (space_cells before ++ (whole ∷ []) ++ space_cells after) (made_component at name kind digest content whole) (splice x start end (before ++ (whole ++ after)))
 components_placed x start end g at before whole after name kind digest content free place read =
     let start_whole : start % 64 ≡ 0 = omega (arith, g.start_is, length-concat-cells g.before (cells-before x start end g)) in
     let begins : start + length before ≡ at = omega (arith, place.space_before.long, place.from_start) in
     let size : start + length (before ++ (whole ++ after)) ≡ end = omega (arith, length-append before (whole ++ after), length-append whole after, place.space_before.long, place.space_after.long, place.from_start, place.to_end) in
     let more = placed x start end g before whole after free (rw place.space_before.long place.space_before) (rw place.space_after.long place.space_after) read.is_cell read.is_used (omega (arith, begins, place.aligned, start_whole)) size place.small in
-    subst (λ (c : Component). HasOneMore x start end g (space_cells before ++ (whole ∷ []) ++ space_cells after) c (splice x start end (before ++ (whole ++ after)))) (ap (λ n. component_at n whole) begins ∙ read.component at) more
+    subst (λ (c : Component). HasOneMoreComponent x start end g (space_cells before ++ (whole ∷ []) ++ space_cells after) c (splice x start end (before ++ (whole ++ after)))) (ap (λ n. component_at n whole) begins ∙ read.component at) more

@@ -6,7 +6,7 @@ use Rattle.std.proofs.lemmas.List.{take_at, drop_at, append-nil}
 use Rattle.std.proofs.lemmas.List.Elements.{All-nil, All-cons, All-head, All-tail, All-append}
 use Rattle.flash_format.specs.Head.{head_of, is_free}
 use Rattle.flash_format.specs.Made.{header_length, empty_header}
-use Rattle.flash_format.specs.Placings.{IsSpace, space_cells}
+use Rattle.flash_format.specs.Placings.{IsFreeSpace, space_cells}
 use Rattle.flash_format.proofs.EmptyEntryLaws.{empty_header-cell, length-empty_header}
 use Rattle.flash_format.specs.Cut.{cut, IsCell, IsCut}
 use Rattle.flash_format.specs.Components.{component_at, components_from, components}
@@ -48,14 +48,14 @@ components-three a b c = simp (concat-append, length-append, components-append) 
 
 -- ---- free space
 
-pub space_cell : (size : ℕ) (bytes : List ℕ) → IsSpace size bytes → 0 < size → size % 64 ≡ 0 → size < 2 ^ 32 → IsCell bytes × (is_free (head_of bytes) ≡ true)
+pub space_cell : (size : ℕ) (bytes : List ℕ) → IsFreeSpace size bytes → 0 < size → size % 64 ≡ 0 → size < 2 ^ 32 → IsCell bytes × (is_free (head_of bytes) ≡ true)
 space_cell size bytes is some whole small =
     let (kept, more, shape) = is.header some in
     let room : header_length + length more ≡ size = omega (arith, is.long, ap length shape, length-append (empty_header size kept) more, length-empty_header size kept) in
     let read = empty_header-cell size kept more (omega arith) whole small room in
     grind arith
 
-pub space_each : (size : ℕ) (bytes : List ℕ) → IsSpace size bytes → size % 64 ≡ 0 → size < 2 ^ 32 → All IsCell (space_cells bytes) × AllFree (space_cells bytes)
+pub space_each : (size : ℕ) (bytes : List ℕ) → IsFreeSpace size bytes → size % 64 ≡ 0 → size < 2 ^ 32 → All IsCell (space_cells bytes) × AllFree (space_cells bytes)
 space_each size [] is whole small = (All-nil IsCell, All-nil (λ c. is_free (head_of c) ≡ true))
 space_each size (b ∷ bytes) is whole small =
     let read = space_cell size (b ∷ bytes) is (omega (arith, is.long)) whole small in

@@ -27,13 +27,19 @@ abbrev pub cell_content : List ℕ → List ℕ
 cell_content x = let h = head_of x in slice_range x h.offset (h.offset + h.len)
 
 -- the compression of the first compression attribute, or 0
-abbrev pub packing : List Attribute → ℕ
-packing all = option_map_or (be32 0) (data_of COMPRESSION all) 0
+abbrev pub compression_of : List Attribute → ℕ
+compression_of all = option_map_or (be32 0) (data_of COMPRESSION all) 0
 
+-- the decoded parts of a cell at an offset of the region
 abbrev pub component_at : ℕ → List ℕ → Component
-component_at at x = let name = cell_name x in let kind = (head_of x).kind in
-    let all = cell_attributes x in let content = cell_content x in
-    record { at = at; name = name; kind = kind; attributes = all; content = content; bytes = x }
+component_at at x = record {
+  at = at;
+  name = cell_name x;
+  kind = (head_of x).kind;
+  attributes = cell_attributes x;
+  content = cell_content x;
+  bytes = x;
+}
 
 -- the components of neighbouring cells from a position on
 unfoldable pub components_from : ℕ → List (List ℕ) → List Component

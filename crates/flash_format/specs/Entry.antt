@@ -1,7 +1,7 @@
 -- CBFS entries (coreboot's CBFS file header, and bytes up to the region's end) and attributes
 -- (`struct cbfs_file_attribute`, with the head in its length). This project's rules: the five
 -- checks and their order, the end of an attribute list, and valid attribute lengths.
-use Rattle.std.specs.Prelude.{ℕ, zero, suc, pred, Bool, ◌||◌, List, [], ◌∷◌, length, slice_range, Option, Some, None, nat_lt, ◌==◌, if◌then◌else◌, not, take, Result, Ok, Err, is_some}
+use Rattle.std.specs.Prelude.{ℕ, zero, suc, pred, Bool, true, false, ◌||◌, List, [], ◌∷◌, length, slice_range, Option, Some, None, nat_lt, ◌==◌, if◌then◌else◌, not, take, Result, Ok, Err, is_some}
 use Rattle.std.specs.List.{find, list_any}
 use Rattle.std.specs.Option.{option_map, option_map_or}
 use Rattle.flash_format.specs.declared.attribute.AttrHead.{AttrHead}
@@ -43,17 +43,41 @@ has_bad_len h left = nat_lt h.len (least_len h.tag) || nat_lt left h.len
 abbrev pub attribute : List ℕ → Attribute
 attribute x = let h = attr_head_of x in record { tag = h.tag; contents = slice_range x 8 h.len }
 
--- after the first `skip` bytes, part of the previous attribute
-unfoldable pub attributes_after : ℕ → List ℕ → Option (List Attribute)
-attributes_after skip [] = Some []
-attributes_after (suc skip) (b ∷ rest) = attributes_after skip rest
-attributes_after zero (b ∷ rest) = let x = b ∷ rest in
-    if ends_list x then Some [] else (if has_bad_len (attr_head_of x) (length x) then None
-    else option_map (◌∷◌ (attribute x)) (attributes_after (pred (attr_head_of x).len) rest))
+-- the attributes before the end of a list, or before its first malformed attribute
+pub record AttributeScan : Type 0 where
+  pub found : List Attribute
+  -- a malformed attribute follows
+  pub is_malformed : Bool
 
--- None for a malformed attribute
+abbrev pub at_end : AttributeScan
+at_end = record { found = []; is_malformed = false }
+
+abbrev pub at_malformed : AttributeScan
+at_malformed = record { found = []; is_malformed = true }
+
+-- an attribute, and the scan after it
+abbrev pub attribute_then : Attribute → AttributeScan → AttributeScan
+attribute_then a later = record later { found = a ∷ later.found }
+
+-- the scan after the first `skip` bytes, which belong to the previous attribute
+unfoldable pub scan_after : ℕ → List ℕ → AttributeScan
+scan_after skip [] = at_end
+scan_after (suc skip) (b ∷ rest) = scan_after skip rest
+scan_after zero (b ∷ rest) = let x = b ∷ rest in
+    if ends_list x then at_end
+    else (if has_bad_len (attr_head_of x) (length x) then at_malformed
+    else attribute_then (attribute x) (scan_after (pred (attr_head_of x).len) rest))
+
+abbrev pub scan_of : List ℕ → AttributeScan
+scan_of x = scan_after 0 x
+
+-- all attributes of a list, if none is malformed
+abbrev pub all_formed : AttributeScan → Option (List Attribute)
+all_formed scan = if scan.is_malformed then None else Some scan.found
+
+-- the attributes of a list, or None if one is malformed
 abbrev pub attributes : List ℕ → Option (List Attribute)
-attributes x = attributes_after 0 x
+attributes x = all_formed (scan_of x)
 
 -- the first attribute with the tag
 abbrev pub data_of : ℕ → List Attribute → Option (List ℕ)

@@ -9,7 +9,7 @@ use Rattle.flash_format.specs.declared.flashmap.FmapHead.{FmapHead}
 use Rattle.flash_format.specs.declared.flashmap.Area.{Area}
 use Rattle.flash_format.specs.Entry.{is_nul}
 
--- little-endian, n bytes at an offset
+-- the little-endian number of n bytes at an offset
 abbrev pub le : ℕ → ℕ → List ℕ → ℕ
 le n at x = little_number n (slice_range x at (at + n))
 
@@ -22,25 +22,43 @@ area_len = 42
 unfoldable pub has_signature : List ℕ → Bool
 has_signature x = starts_with nat_eq x (codes "__FMAP__")
 
--- after the signature
+-- the fields of `struct fmap` after its signature, which has eight bytes
 unfoldable pub fmap_head_of : List ℕ → FmapHead
-fmap_head_of x = let major = slice_index x 8 in let minor = slice_index x 9 in
-    let base = le 8 10 x in let size = le 4 18 x in
-    let name = slice_range x 22 54 in let nareas = le 2 54 x in
-    record { major = major; minor = minor; base = base; size = size; name = name; nareas = nareas }
+fmap_head_of x = record {
+  major = slice_index x 8;
+  minor = slice_index x 9;
+  base = le 8 10 x;
+  size = le 4 18 x;
+  name = slice_range x 22 54;
+  nareas = le 2 54 x;
+}
 
--- `struct fmap`
+-- `struct fmap`, field by field
 unfoldable pub fmap_head_bytes : FmapHead → List ℕ
-fmap_head_bytes h = codes "__FMAP__" ++ (h.major ∷ h.minor ∷ []) ++ little_bytes 8 h.base
-    ++ little_bytes 4 h.size ++ h.name ++ little_bytes 2 h.nareas
+fmap_head_bytes h =
+    codes "__FMAP__"
+    ++ (h.major ∷ h.minor ∷ [])
+    ++ little_bytes 8 h.base
+    ++ little_bytes 4 h.size
+    ++ h.name
+    ++ little_bytes 2 h.nareas
 
+-- the fields of `struct fmap_area`
 unfoldable pub area_of : List ℕ → Area
-area_of x =
-    record { offset = le 4 0 x; size = le 4 4 x; name = slice_range x 8 40; flags = le 2 40 x }
+area_of x = record {
+  offset = le 4 0 x;
+  size = le 4 4 x;
+  name = slice_range x 8 40;
+  flags = le 2 40 x;
+}
 
--- `struct fmap_area`
+-- `struct fmap_area`, field by field
 unfoldable pub area_bytes : Area → List ℕ
-area_bytes a = little_bytes 4 a.offset ++ little_bytes 4 a.size ++ a.name ++ little_bytes 2 a.flags
+area_bytes a =
+    little_bytes 4 a.offset
+    ++ little_bytes 4 a.size
+    ++ a.name
+    ++ little_bytes 2 a.flags
 
 -- up to the first NUL, if any
 abbrev pub text_of : List ℕ → List ℕ

@@ -14,22 +14,31 @@ use Rattle.flash_format.specs.declared.head.DamageKind.TheVariants as kinds
 abbrev pub round64 : ℕ → ℕ
 round64 n = (n + 63) / 64 * 64
 
--- big-endian, four bytes at an offset
+-- the big-endian number of four bytes at an offset
 abbrev pub be32 : ℕ → List ℕ → ℕ
 be32 at x = big_number 4 (slice_range x at (at + 4))
 
+-- the fields of `struct cbfs_file` after its magic, which has eight bytes
 unfoldable pub head_of : List ℕ → Head
-head_of x =
-    record { len = be32 8 x; kind = be32 12 x; attributes_offset = be32 16 x; offset = be32 20 x }
+head_of x = record {
+  len = be32 8 x;
+  kind = be32 12 x;
+  attributes_offset = be32 16 x;
+  offset = be32 20 x;
+}
 
 -- None without the magic
 unfoldable pub head_at : List ℕ → Option Head
 head_at x = then_some (starts_with nat_eq x (codes "LARCHIVE")) (head_of x)
 
--- `struct cbfs_file`
+-- `struct cbfs_file`, field by field
 unfoldable pub head_bytes : Head → List ℕ
-head_bytes h = codes "LARCHIVE" ++ big_bytes 4 h.len ++ big_bytes 4 h.kind
-    ++ big_bytes 4 h.attributes_offset ++ big_bytes 4 h.offset
+head_bytes h =
+    codes "LARCHIVE"
+    ++ big_bytes 4 h.len
+    ++ big_bytes 4 h.kind
+    ++ big_bytes 4 h.attributes_offset
+    ++ big_bytes 4 h.offset
 
 -- deleted or null
 abbrev pub is_free : Head → Bool

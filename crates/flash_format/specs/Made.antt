@@ -25,11 +25,19 @@ name_padding = 4
 abbrev pub header_length : ℕ
 header_length = 24 + name_padding
 
--- For a cell of the given size. With `kept`, the free space excludes the last four bytes.
+-- The head of an empty entry in a cell of the given size: its content is all that follows an empty
+-- name. With `kept`, the content excludes the last four bytes.
+abbrev pub empty_head : ℕ → Bool → Head
+empty_head size kept = record {
+  len = size - header_length - (if kept then 4 else 0);
+  kind = 0xffffffff;
+  attributes_offset = 0;
+  offset = header_length;
+}
+
+-- the head and the empty name
 unfoldable pub empty_header : ℕ → Bool → List ℕ
-empty_header size kept = let n = size - header_length - (if kept then 4 else 0) in head_bytes
-    (record { len = n; kind = 0xffffffff; attributes_offset = 0; offset = header_length })
-    ++ replicate (header_length - 24) 0
+empty_header size kept = head_bytes (empty_head size kept) ++ replicate (header_length - 24) 0
 
 -- n bytes 0xff, except preserved last bytes
 abbrev pub padding : ℕ → Option (List ℕ) → List ℕ
@@ -43,6 +51,10 @@ empty_entry size last = empty_header size (is_some last) ++ padding (size - head
 -- the padded field of k bytes and a NUL
 abbrev pub name_room : ℕ → ℕ
 name_room k = (k / name_padding + 1) * name_padding
+
+-- the padded field of a name: the name, and NULs
+abbrev pub name_with_nuls : List ℕ → List ℕ
+name_with_nuls name = name ++ replicate (name_room (length name) - length name) 0
 
 -- without the gap
 abbrev pub meta_length : ℕ → ℕ → ℕ
@@ -100,14 +112,22 @@ IsDigest digest = IfSome digest (λ d. length (digest_bytes d) ≡ (algorithm_ro
 -- ---- a component
 
 module _ (name : List ℕ) (kind : ℕ) (digest : Option Digest) (gap : ℕ) where
+  -- the head of a component with a content of n bytes; the attributes, if any, follow the name
   abbrev pub made_head : ℕ → Head
-  made_head n = let attributes = if is_some digest then 24 + name_room (length name) else 0 in
-      let offset = meta_length (length name) (length (hash_bytes digest)) + gap in
-      record { len = n; kind = kind; attributes_offset = attributes; offset = offset }
+  made_head n = record {
+    len = n;
+    kind = kind;
+    attributes_offset = if is_some digest then 24 + name_room (length name) else 0;
+    offset = meta_length (length name) (length (hash_bytes digest)) + gap;
+  }
 
+  -- the bytes before a content of n bytes
   abbrev pub made_metadata : ℕ → List ℕ
-  made_metadata n = let nuls = replicate (name_room (length name) - length name) 0 in
-      head_bytes (made_head n) ++ (name ++ nuls) ++ hash_bytes digest ++ replicate gap 0xff
+  made_metadata n =
+      head_bytes (made_head n)
+      ++ name_with_nuls name
+      ++ hash_bytes digest
+      ++ replicate gap 0xff
 
   -- a component's cell, up to a multiple of 64; may preserve its last four bytes
   abbrev pub made : List ℕ → Option (List ℕ) → List ℕ

@@ -9,7 +9,7 @@ ghost use Rattle.flash_format.specs.Entry.{cell, entry};
 ghost use Rattle.flash_format.specs.Cut.{End, cut, IsCell, IsCut};
 ghost use Rattle.flash_format.specs.Components.{component_at};
 ghost use Rattle.flash_format.specs.Splices.{AllFree, CellsBetween, splice};
-ghost use Rattle.flash_format.specs.Placings.{HasOneMore, IsReadAs, IsSpace, space_cells};
+ghost use Rattle.flash_format.specs.Placings.{HasOneMoreComponent, DecodesAs, IsFreeSpace, space_cells};
 ghost use Rattle.flash_format.specs.TypeNames.{name_of_type, type_of_text};
 ghost use Rattle.flash_format.specs.Flashmap.{fmap_head_len, fmap_head_of, fmap_head_bytes, area_len, area_of, area_bytes, is_map, is_map_name, map_from};
 ghost use Rattle.flash_format.specs.Laws.{EntriesAreReadAlike, CutsGoOn, GroupsAreReplaced, NoMapBelow, IsReadAsMap, PrintedTextsAreReadBack};
@@ -45,7 +45,7 @@ pub fn cuts_go_on()
 
 /// Proves that an empty entry is a free cell, whatever follows its header.
 pub fn empty_headers_are_free_cells()
-    ensures { (size : ℕ) (bytes : List ℕ) → IsSpace size bytes → 0 < size → size % 64 ≡ 0
+    ensures { (size : ℕ) (bytes : List ℕ) → IsFreeSpace size bytes → 0 < size → size % 64 ≡ 0
         → size < 2 ^ 32 → IsCell bytes × (is_free (head_of bytes) ≡ true) }
 {}
 
@@ -60,7 +60,7 @@ pub fn made_cells_are_read_as_made()
     ensures made { (name : List ℕ) (kind : ℕ) (digest : Option Digest) (gap : ℕ)
         (content more : List ℕ) → IsMade name kind digest gap content
         → let component = made_metadata name kind digest gap (length content) ++ content in
-        IsReadAs name kind digest content (component ++ more) (round64 (length component)) }
+        DecodesAs name kind digest content (component ++ more) (round64 (length component)) }
     ensures len { (name : List ℕ) (kind : ℕ) (digest : Option Digest) (gap : ℕ) (content : List ℕ)
         (last : Option (List ℕ)) → IsDigest digest → IfSome last (λ bytes. length bytes ≡ 4)
         → length (made name kind digest gap content last)
@@ -72,15 +72,15 @@ pub fn made_cells_are_read_as_made()
 /// Proves that placing a component adds exactly one component, and changes no other.
 pub fn components_are_placed()
     ensures placed { (x : List ℕ) (start end : ℕ) (g : CellsBetween x start end)
-        (before used after : List ℕ) → AllFree g.group → IsSpace (length before) before
-        → IsSpace (length after) after → IsCell used → is_free (head_of used) ≡ false
+        (before used after : List ℕ) → AllFree g.group → IsFreeSpace (length before) before
+        → IsFreeSpace (length after) after → IsCell used → is_free (head_of used) ≡ false
         → length before % 64 ≡ 0 → start + length (before ++ (used ++ after)) ≡ end
         → end - start < 2 ^ 32
-        → HasOneMore x start end g (space_cells before ++ (used ∷ []) ++ space_cells after)
+        → HasOneMoreComponent x start end g (space_cells before ++ (used ∷ []) ++ space_cells after)
         (component_at (start + length before) used)
         (splice x start end (before ++ (used ++ after))) }
     ensures empty_entries { (size : ℕ) (last : Option (List ℕ)) → 64 ≤ size
-        → IfSome last (λ bytes. length bytes ≡ 4) → IsSpace size (empty_entry size last) }
+        → IfSome last (λ bytes. length bytes ≡ 4) → IsFreeSpace size (empty_entry size last) }
 {}
 
 /// Proves that an image's map is the lowest valid map.

@@ -54,7 +54,7 @@ impl From<FlashFault> for StoreFault {
 
 /// Returns the lowest valid flash map.
 pub fn find_fmap<F: Flash>(paged: &mut Paged<F>) -> Result<Option<FoundMap>, FlashFault>
-    ensures after { HasAnswered (search_reads paged.old.device) paged.old paged.new result }
+    ensures calls { HasAnswered (search_reads paged.old.device) paged.old paged.new result }
     ensures fits { IfFound result (λ map. map_end map ≤ length paged.old.device.content) }
     ensures found { OnHonest paged.old.device (λ image. Returns result (found_in image)) }
 {
@@ -68,7 +68,7 @@ pub fn find_fmap_from<F: Flash>(
 ) -> Result<Option<FoundMap>, FlashFault>
     requires { from ≤ length paged.old.device.content }
 
-    ensures after { HasAnswered (search_reads paged.old.device) paged.old paged.new result }
+    ensures calls { HasAnswered (search_reads paged.old.device) paged.old paged.new result }
     ensures fits { IfFound result (λ map. map_end map ≤ length paged.old.device.content) }
     ensures found { OnHonest paged.old.device (λ image. Returns result (found_from from image)) }
 {
@@ -97,7 +97,7 @@ fn signature_in<F: Flash>(
 ) -> Result<Option<u64>, FlashFault>
     requires { IsPiece at n paged.old.device }
 
-    ensures after { HasAnswered 1 paged.old paged.new result }
+    ensures calls { HasAnswered 1 paged.old paged.new result }
     ensures within { IfFound result (λ place. (at ≤ place) × (place + 8 ≤ at + n)) }
     ensures first { OnHonest paged.old.device (λ image. IfOk result
         (IsFirst (λ q. has_signature (drop q image) ≡ true) at (at + n - 7))) }
@@ -117,7 +117,7 @@ fn map_head_at<F: Flash>(
 ) -> Result<Option<FmapHead>, FlashFault>
     requires { len ≡ length paged.old.device.content }
 
-    ensures after { HasAnswered 1 paged.old paged.new result }
+    ensures calls { HasAnswered 1 paged.old paged.new result }
     ensures head { OnHonest paged.old.device
         (λ image. Returns result (map_head (drop place image))) }
     ensures fits { IfFound result (λ head. place + map_len head ≤ len) }
@@ -148,7 +148,7 @@ pub fn area<F: Flash>(paged: &mut Paged<F>, map: &FoundMap, i: u16) -> Result<Ar
     requires inside { map_end map.now ≤ length paged.old.device.content }
     requires number { i < map.now.head.nareas }
 
-    ensures after { HasAnswered 1 paged.old paged.new result }
+    ensures calls { HasAnswered 1 paged.old paged.new result }
     ensures area { OnHonest paged.old.device (λ image.
         Returns result (area_of (drop (map.now.at + fmap_head_len + area_len * i) image))) }
 {
@@ -167,7 +167,7 @@ pub fn area_named<F: Flash>(
 ) -> Result<Option<Area>, FlashFault>
     requires inside { map_end map.now ≤ length paged.old.device.content }
 
-    ensures after { HasAnswered map.now.head.nareas paged.old paged.new result }
+    ensures calls { HasAnswered map.now.head.nareas paged.old paged.new result }
     ensures first { OnHonest paged.old.device
         (λ image. Returns result (first_area (areas_of image map.now) name.now)) }
 {
@@ -199,7 +199,7 @@ pub fn region_of_area(area: Option<Area>, image_len: u64) -> Result<Region, Stor
 /// outside the image (6); a device fault (1) at any read.
 #[tactic(auto, unfolding(crate::specs::Regions::region_of))]
 pub fn region<F: Flash>(paged: &mut Paged<F>, name: &[u8]) -> Result<Region, StoreFault>
-    ensures after { HasReadBy by_device (map_reads paged.old.device) paged.old paged.new result }
+    ensures calls { HasReadBy by_device (map_reads paged.old.device) paged.old paged.new result }
     ensures inside { IfOk result (λ region. LiesOn region paged.old.device) }
     ensures answer { OnHonest paged.old.device
         (λ image. IsErrOf result StoreFault.Device ⊎ (result ≡ region_of image name.now)) }

@@ -5,7 +5,7 @@ ghost use Rattle.std.specs.List.{list_any};
 ghost use Rattle.std.specs.Result.{result_map_both};
 ghost use Rattle.flash_format.specs.Flashmap.{area_len};
 ghost use Rattle.cbfs_commands.specs.Creations.{AnswersBySource, plan_for};
-ghost use Rattle.cbfs_commands.specs.Laws.{IsLaid};
+ghost use Rattle.cbfs_commands.specs.Laws.{IsSoundPlan};
 ghost use Rattle.cbfs_commands.specs.Creations.{region_places, share_bytes, some_overlap};
 
 use crate::create::flashmap::first_areas;
@@ -88,7 +88,7 @@ pub fn read_plan<S: Source>(
 
     ensures plan { AnswersBySource S.facts (length (S.facts source.old).content / area_len + 1)
         source.old source.new result (plan_for image_len (map (λ name. name.now) names.now)) }
-    ensures laid { IfOk result (IsLaid image_len (S.facts source.old).content) }
+    ensures sound { IfOk result (IsSoundPlan image_len (S.facts source.old).content) }
 {
     let Some(head) = map_in_source(source)? else {
         return Err(Refusal::TableBad);

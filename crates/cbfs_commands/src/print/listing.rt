@@ -25,7 +25,7 @@ fn set_cell_row<F: Flash>(
 ) -> Result<(), FlashFault>
     requires { IsCellOf region cell.now paged.old.device }
 
-    ensures after { HasAnswered (2 + cell.now.span / 3840) paged.old paged.new result }
+    ensures calls { HasAnswered (2 + cell.now.span / 3840) paged.old paged.new result }
     ensures row { OnHonest paged.old.device (λ image.
         OnOk result (buffer.new.items
         ≡ cell_row cell.now.at (cell_in (bytes_in region image) cell.now))) }

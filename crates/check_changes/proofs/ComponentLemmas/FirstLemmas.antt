@@ -11,7 +11,7 @@ use Rattle.std.proofs.lemmas.List.Elements.{All-head, All-tail}
 use Rattle.std.proofs.lemmas.Map.Text.{hash_map_updates_str}
 use Rattle.check_changes.specs.declared.components.listing.Listed.{Listed}
 use Rattle.check_changes.specs.Components.{first_of}
-use Rattle.check_changes.specs.Components.{Notes}
+use Rattle.check_changes.specs.Components.{HasFirstComponents}
 
 -- ---- the first element that passes a test
 
@@ -33,17 +33,17 @@ module _ {S : Type 0} (old new : HashMap (Bor (List ℕ)) (Bor Listed) S) where
   abbrev pub Puts : Bor Listed → List ℕ → Type 0
   Puts l text = UpdatesBy (λ x y. bytes_eq x.now y.now) (λ k. bytes_eq text k.now) old new (Some l)
 
-  notes-front : (l : Bor Listed) (behind : List Listed) → Puts l l.now.name → Notes old behind → Notes new (l.now ∷ behind)
+  notes-front : (l : Bor Listed) (behind : List Listed) → Puts l l.now.name → HasFirstComponents old behind → HasFirstComponents new (l.now ∷ behind)
   notes-front l behind puts notes name =
       let put = hash_map_updates_str l.now.name old new (Some l) puts name in
       grind (arith, common_steps, put, nat_list_eq_equiv.symm l.now.name name, notes name)
 
   -- another component, before the noted components
-  pub notes-more : (all : List Listed) (left i : ℕ) (l : Bor Listed) → left ≡ i + 1 → left ≤ length all → l.now ≡ get_or all i l.now → Puts l l.now.name → Notes old (drop left all) → Notes new (drop i all)
+  pub notes-more : (all : List Listed) (left i : ℕ) (l : Bor Listed) → left ≡ i + 1 → left ≤ length all → l.now ≡ get_or all i l.now → Puts l l.now.name → HasFirstComponents old (drop left all) → HasFirstComponents new (drop i all)
   notes-more all left i l one inside is puts notes =
       let lt : i < length all = omega (arith, one, inside) in
       rw (drop-cons all i l.now lt, sym is) (notes-front l (drop (suc i) all) puts (rw (one, add-one) at notes))
 
 -- an empty map
-pub notes-none : {S : Type 0} (first : HashMap (Bor (List ℕ)) (Bor Listed) S) (all : List Listed) → IsEmpty first → Notes first (drop (length all) all)
+pub notes-none : {S : Type 0} (first : HashMap (Bor (List ℕ)) (Bor Listed) S) (all : List Listed) → IsEmpty first → HasFirstComponents first (drop (length all) all)
 notes-none first all empty name = rw (drop-length all, empty) refl

@@ -49,7 +49,7 @@ fn push_content_changes<F: Flash, G: Flash>(
 ) -> Result<(), ChangeFault>
     requires { holders.now.lens ≡ lengths images.old }
 
-    ensures after { HasCompared (blocks_of (left.old - left.new)) images.old images.new result }
+    ensures calls { HasCompared (blocks_of (left.old - left.new)) images.old images.new result }
     ensures left { left.new ≡ left_after left.old (same_size_regions (lengths images.old) pair) }
     ensures changes { OnBoth images.old (λ x y. Gains changes.old changes.new result
         (map (area_change pair.new) (content_differences x y holders.now.pairs.now pair
@@ -73,7 +73,7 @@ fn push_changes<F: Flash, G: Flash>(
 ) -> Result<(), ChangeFault>
     requires { holders.now.lens ≡ lengths images.old }
 
-    ensures after { HasCompared
+    ensures calls { HasCompared
         (8 * (lengths images.old).new / 4096 + length holders.now.pairs.now)
         images.old images.new result }
     ensures changes { OnBoth images.old (λ x y. Gains changes.old changes.new result
@@ -91,7 +91,7 @@ fn different_blocks<F: Flash, G: Flash>(
     alloc: Global,
     images: &mut Images<F, G>,
 ) -> Result<u32, ChangeFault>
-    ensures after { HasCompared (blocks_of (lengths images.old).new) images.old images.new result }
+    ensures calls { HasCompared (blocks_of (lengths images.old).new) images.old images.new result }
     ensures blocks { OnBoth images.old (λ x y. Returns result (different_blocks x y)) }
 {
     let lens = images.lengths();
@@ -130,7 +130,7 @@ pub fn image_changes<'a, F: Flash, G: Flash>(
     areas: Areas<'a>,
 ) -> Result<ImageChanges, ChangeFault>
     // On any devices.
-    ensures after { HasCompared (9 * (lengths images.old).new / 4096
+    ensures calls { HasCompared (9 * (lengths images.old).new / 4096
         + length areas.entry.new.now + 1) images.old images.new result }
 
     // On honest devices.

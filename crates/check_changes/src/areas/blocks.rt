@@ -38,7 +38,7 @@ pub fn different_in<F: Flash, G: Flash>(
     requires lens { holders.now.lens ≡ lengths images.old }
     requires begin { len ≤ blocks_of (min regions.now.old.size regions.now.new.size) }
 
-    ensures after { HasCompared len images.old images.new result }
+    ensures calls { HasCompared len images.old images.new result }
     ensures few { IfOk result (λ n. n.blocks ≤ len) }
     ensures blocks { OnBoth images.old (λ x y.
         IfOk result (λ n. n.blocks ≡ count_below (is_difference x y regions.now) len)) }

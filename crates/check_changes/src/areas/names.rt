@@ -1,7 +1,7 @@
 //! Areas by name.
 ghost use Rattle.std.specs.Prelude.{◌≡◌, IfOk};
 ghost use Rattle.std.proofs.Props.{props};
-ghost use Rattle.check_findings.specs.Areas.{Notes};
+ghost use Rattle.check_findings.specs.Areas.{HasFirstAreas};
 ghost use Rattle.check_findings.specs.MapFindings.{namesake};
 ghost use Rattle.check_changes.specs.Areas.{is_first_of_name};
 
@@ -14,7 +14,7 @@ use std::alloc::{AllocError, Global};
 pub struct NamedAreas<'a> {
     pub all: &'a [NumberedArea],
     names: AreaNames<'a>,
-    ghost notes: { Notes names all.now } by { Prim.hlevel props },
+    ghost notes: { HasFirstAreas names all.now } by { Prim.hlevel props },
 }
 
 /// The areas of both maps.

@@ -27,7 +27,7 @@ pub fn difference<F: Flash, G: Flash>(
     requires regions { LieOn images.old regions }
     requires listed { IsListedIn regions.old.size old.now × IsListedIn regions.new.size new.now }
 
-    ensures after { HasCompared (2 + new.now.cell.span / 4096) images.old images.new result }
+    ensures calls { HasCompared (2 + new.now.cell.span / 4096) images.old images.new result }
     ensures difference { OnBothIn images.old regions
         (λ x y. Returns result (difference x y old.now.cell new.now.cell)) }
 {
@@ -79,7 +79,7 @@ fn same_range<F: Flash, G: Flash>(
     requires old { (old.start ≤ old.end) × (old.end ≤ regions.old.size) }
     requires new { (new.start ≤ new.end) × (new.end ≤ regions.new.size) }
 
-    ensures after { HasCompared (1 + (new.end - new.start) / 4096) images.old images.new result }
+    ensures calls { HasCompared (1 + (new.end - new.start) / 4096) images.old images.new result }
     ensures same { OnBothIn images.old regions (λ x y. Returns result
         (bytes_eq (slice_range x old.start old.end) (slice_range y new.start new.end))) }
 {
@@ -103,7 +103,7 @@ fn same_bytes<F: Flash, G: Flash>(
 ) -> Result<bool, ChangeFault>
     requires { LieOn images.old regions × (regions.old.size ≡ regions.new.size) }
 
-    ensures after { HasCompared (1 + regions.new.size / 4096) images.old images.new result }
+    ensures calls { HasCompared (1 + regions.new.size / 4096) images.old images.new result }
     ensures same { OnBothIn images.old regions (λ x y. Returns result (bytes_eq x y)) }
 {
     for number in 0..blocks_of(regions.new.size()) {

@@ -2,7 +2,7 @@
 ghost use Rattle.std.specs.Prelude.{◌≡◌, ◌∷◌, List, All, IfOk, IfSome, OnOk, option_copied};
 ghost use Rattle.std.proofs.Props.{props};
 ghost use Rattle.check_changes.specs.Components.{first_of, is_first_of};
-ghost use Rattle.check_changes.specs.Components.{IsListedIn, Notes};
+ghost use Rattle.check_changes.specs.Components.{IsListedIn, HasFirstComponents};
 ghost use Rattle.check_changes.specs.declared.components.listing.Listed.{Listed};
 
 use crate::components::listing::Listed;
@@ -20,7 +20,7 @@ pub struct Listing<'a> {
     pub region: Region,
     pub all: &'a [Listed],
     first: Firsts<'a>,
-    ghost notes: { Notes first all.now } by { Prim.hlevel props },
+    ghost notes: { HasFirstComponents first all.now } by { Prim.hlevel props },
     ghost cells: { All (IsListedIn region.size) all.now } by { Prim.hlevel props },
 }
 

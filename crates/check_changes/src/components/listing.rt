@@ -40,7 +40,7 @@ fn list_cell<F: Flash>(
 ) -> Result<(), CheckFault>
     requires { IsCellOn IsCellIn region cell.now paged.old.device }
 
-    ensures after { HasReadBy by_device 1 paged.old paged.new result }
+    ensures calls { HasReadBy by_device 1 paged.old paged.new result }
     ensures cells { OnOk result (All (IsListedIn region.size) all.old.items
         → All (IsListedIn region.size) all.new.items) }
     ensures room { OnOk result (spans all.new.items ≤ spans all.old.items + cell.now.span) }
@@ -66,7 +66,7 @@ pub fn components<F: Flash>(
 ) -> Result<Vec<Listed>, CheckFault>
     requires { LiesOn region paged.old.device }
 
-    ensures after { HasReadBy by_device (region.size / 24 + 2) paged.old paged.new result }
+    ensures calls { HasReadBy by_device (region.size / 24 + 2) paged.old paged.new result }
     ensures lists { IfOk result (λ all. All (IsListedIn region.size) all.items
         × (spans all.items ≤ region.size)
         × OnHonestIn paged.old.device region (λ x. all.items ≡ listed_in x)) }

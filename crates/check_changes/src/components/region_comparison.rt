@@ -68,7 +68,7 @@ fn push_changes_of<'a, F: Flash, G: Flash>(
     requires regions { LieOn images.old (listed_regions lists.now) }
     requires listed { IsListedIn lists.now.new.region.size listed.now }
 
-    ensures after { HasCompared (2 + listed.now.cell.span / 4096) images.old images.new result }
+    ensures calls { HasCompared (2 + listed.now.cell.span / 4096) images.old images.new result }
     ensures changes { OnBothIn images.old (listed_regions lists.now)
         (λ x y. Gains changes.old changes.new result
         (new_changes x y lists.now.old.all.now lists.now.new.all.now listed.now)) }
@@ -95,7 +95,7 @@ fn push_changes<'a, F: Flash, G: Flash>(
 ) -> Result<(), ChangeFault>
     requires regions { LieOn images.old (listed_regions lists.now) }
 
-    ensures after { HasCompared (spans lists.now.new.all.now / 24) images.old images.new result }
+    ensures calls { HasCompared (spans lists.now.new.all.now / 24) images.old images.new result }
     ensures changes { OnBothIn images.old (listed_regions lists.now) (λ x y.
         Gains changes.old changes.new result (flat_map (new_changes x y lists.now.old.all.now
         lists.now.new.all.now) lists.now.new.all.now)) }
@@ -135,7 +135,7 @@ fn list_changes<'a, F: Flash, G: Flash>(
     requires old { All (IsListedIn regions.old.size) old.now }
     requires new { All (IsListedIn regions.new.size) new.now }
 
-    ensures after { HasCompared (spans new.now / 24) images.old images.new result }
+    ensures calls { HasCompared (spans new.now / 24) images.old images.new result }
     ensures changes { OnBothIn images.old regions
         (λ x y. Lists result (changes_between x y old.now new.now)) }
 {
@@ -160,7 +160,7 @@ pub fn component_changes<F: Flash, G: Flash>(
     requires { LieOn images.old regions }
 
     // On any devices.
-    ensures after { HasReadFor ((regions.old.size + regions.new.size) / 24 + 2)
+    ensures calls { HasReadFor ((regions.old.size + regions.new.size) / 24 + 2)
         (regions.new.size / 12 + 2) images.old images.new result }
 
     // On honest devices.

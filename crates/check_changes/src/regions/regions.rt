@@ -28,7 +28,7 @@ fn push_changes<'a, F: Flash, G: Flash>(
     finding: &'a ImageFinding,
 ) -> Result<(), ChangeFault>
     ensures fewer { left.new ≤ left.old }
-    ensures after { let areas = region_area finding.now in let bytes = sum_sizes areas in
+    ensures calls { let areas = region_area finding.now in let bytes = sum_sizes areas in
         let compared = left.old - left.new in HasReadAreas
         (record { old_bytes = compared; new_bytes = bytes; count = length areas })
         images.old images.new result }
@@ -70,7 +70,7 @@ pub fn region_changes<'a, F: Flash, G: Flash>(
     requires total { sum_sizes (region_areas findings.now) ≤ 8 * (lengths images.old).new }
 
     // On any devices.
-    ensures after { let lens = lengths images.old in
+    ensures calls { let lens = lengths images.old in
         let count = length (region_areas findings.now) in
         HasReadAreas (record { old_bytes = lens.old; new_bytes = 8 * lens.new; count = count })
         images.old images.new result }

@@ -30,7 +30,7 @@ use Rattle.check_findings.proofs.MapLemmas.Sound.{none_of}
 use Rattle.check_findings.proofs.RegionLemmas.Shadows.{unshadowed_found}
 use Rattle.check_findings.proofs.RegionLemmas.Tails.{none_filled}
 use Rattle.check_findings.specs.Laws.{IsWhole}
-use Rattle.check_findings.specs.Verdicts.{changes_later, is_bad_region, is_too_long, rules_of}
+use Rattle.check_findings.specs.Verdicts.{changes_later, is_bad_region, has_long_metadata, rules_of}
 use Rattle.check_findings.specs.RegionFindings.{component_content}
 use Rattle.check_findings.specs.declared.image.verdict.HashRules.{HashRules}
 use Rattle.cbfs_anchor.specs.Metadata.{longest_metadata, metadata_len}
@@ -56,7 +56,7 @@ good_shape rules size absent rest fit = grind (arith, common_steps, fit)
 
 intact_component : (rules : HashRules) (c : Component) → list_any (is_bad_region rules) (component_finding false c ∷ []) ≡ false → IsIntact rules.anchor c
 intact_component rules c fit =
-    let parts = or_parts (is_too_long c.at (component_content c)) _ (or_parts _ false fit).0 in
+    let parts = or_parts (has_long_metadata c.at (component_content c)) _ (or_parts _ false fit).0 in
     (λ stored fixed is. grind (arith, common_steps, is, fixed, parts.1), not_long c.at (metadata_len c) parts.0)
 
 intact_cell : (rules : HashRules) (at : ℕ) (x : List ℕ) (others : List Component) (free : Bool)

@@ -16,7 +16,7 @@ use Rattle.cbfs_walk.specs.declared.walk.WalkFault.TheVariants as walk
 use Rattle.check_findings.specs.RegionFindings.{cells_findings, component_content, content_named, count_findings, end_findings, first_content, marked, entry_counts, region_findings, shape_findings, walk_findings}
 use Rattle.check_findings.proofs.RegionLemmas.PartNames.{all_marked}
 use Rattle.flash_format.specs.Flashmap.{is_area}
-use Rattle.check_findings.specs.Needs.{is_met, unmet}
+use Rattle.check_findings.specs.Needs.{is_met, unmet, unmet_by_content}
 use Rattle.check_findings.specs.declared.image.needs.Need.{Need}
 use Rattle.check_findings.specs.declared.image.needs.NeedFinding.TheVariants.{Missing, Elsewhere}
 use Rattle.std.specs.Bool.{then_some}
@@ -106,7 +106,7 @@ has_content x name content is = go (shape_fault x) refl (sym (of_marks name [] (
 
 module _ (image : List ℕ) (need : Need) where
   met_here : (a : NumberedArea) (areas : List NumberedArea) (o : Option Content) → is_area need.area.now a.area ≡ true
-      → first_content need.name.now (region_findings (bytes_of image a)) ≡ o → option_map_or (λ c. then_some (not (is_met need.place c a.area.size)) (Elsewhere c.start)) o (Some Missing) ≡ None → IsMet image (a ∷ areas) need
+      → first_content need.name.now (region_findings (bytes_of image a)) ≡ o → option_map_or (unmet_by_content need.place a.area.size) o (Some Missing) ≡ None → IsMet image (a ∷ areas) need
   met_here a areas None named first none = absurd cc
   met_here a areas (Some content) named first none =
       let has = has_content (bytes_of image a) need.name.now content first in

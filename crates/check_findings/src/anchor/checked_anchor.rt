@@ -13,7 +13,9 @@ ghost use Rattle.check_findings.specs.Anchors.{IsAnchorCheck, anchor_at, bootblo
 
 use crate::anchor::finding::{AnchorFinding, AnchorSpot, Bootblock};
 use crate::fault::CheckFault;
-use cbfs_anchor::{Anchor, Demand, Place, SealFault, find_anchor, inspect_anchor, place_with_map};
+use cbfs_anchor::{
+    Anchor, AnchorPlace, Demand, SealFault, find_anchor, inspect_anchor, place_with_map,
+};
 use flash_device::{Flash, Paged};
 use flash_map::FoundMap;
 use std::alloc::{AllocError, Global};
@@ -35,7 +37,7 @@ fn no_anchor(alloc: Global) -> CheckedAnchor
     }
 }
 
-fn bootblock_of(place: &Place) -> Bootblock
+fn bootblock_of(place: &AnchorPlace) -> Bootblock
     ensures { result ≡ bootblock_of place.now }
 {
     if place.in_component {
@@ -45,7 +47,7 @@ fn bootblock_of(place: &Place) -> Bootblock
     }
 }
 
-fn spot_of(place: &Place, anchor: Anchor) -> AnchorSpot
+fn spot_of(place: &AnchorPlace, anchor: Anchor) -> AnchorSpot
     ensures { result ≡ spot_of place.now anchor }
 {
     let start = if place.in_component {
@@ -74,7 +76,7 @@ fn fault_finding(bootblock: Bootblock, fault: SealFault) -> Option<AnchorFinding
 fn digest_findings<F: Flash>(
     alloc: Global,
     paged: &mut Paged<F>,
-    place: &Place,
+    place: &AnchorPlace,
     anchor: Anchor,
 ) -> Result<Vec<AnchorFinding>, CheckFault>
     requires map { LiesOn place.now.map paged.old.device }
@@ -82,7 +84,7 @@ fn digest_findings<F: Flash>(
     requires range { LiesOn place.now.anchor paged.old.device }
     requires inside { anchor.at + anchor_len anchor.algorithm ≤ length paged.old.device.content }
 
-    ensures after { HasReadBy by_device (length paged.old.device.content / 16
+    ensures calls { HasReadBy by_device (length paged.old.device.content / 16
         + length paged.old.device.content / 3840 + 5) paged.old paged.new result }
     ensures findings { OnHonest paged.old.device (λ image. Lists result (of.digest_findings image
         (spot_of place.now anchor) anchor.algorithm (survey_at Nothing image place.now anchor))) }
@@ -116,13 +118,13 @@ fn digest_findings<F: Flash>(
 fn check_place<F: Flash>(
     alloc: Global,
     paged: &mut Paged<F>,
-    place: &Place,
+    place: &AnchorPlace,
 ) -> Result<CheckedAnchor, CheckFault>
     requires map { LiesOn place.now.map paged.old.device }
     requires coreboot { LiesOn place.now.coreboot paged.old.device }
     requires range { LiesOn place.now.anchor paged.old.device }
 
-    ensures after { HasReadBy by_device (length paged.old.device.content / 16
+    ensures calls { HasReadBy by_device (length paged.old.device.content / 16
         + length paged.old.device.content / 1920 + 7) paged.old paged.new result }
     ensures anchor { OnHonest paged.old.device (λ image. IfOk result (λ checked.
         checked.anchor ≡ result_ok (anchor_at image place.now))) }
@@ -158,7 +160,7 @@ pub fn check_anchor<F: Flash>(
 ) -> Result<CheckedAnchor, CheckFault>
     requires { IfSome found (λ map. map_end map ≤ length paged.old.device.content) }
 
-    ensures after { HasReadBy by_device (length paged.old.device.content / 5 + 16)
+    ensures calls { HasReadBy by_device (length paged.old.device.content / 5 + 16)
         paged.old paged.new result }
     ensures checked { OnHonest paged.old.device (λ image. found ≡ found_in image
         → IfOk result (IsAnchorCheck image)) }

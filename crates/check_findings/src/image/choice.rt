@@ -22,7 +22,7 @@ pub fn cbfs_areas<F: Flash>(
     paged: &mut Paged<F>,
     areas: &[NumberedArea],
 ) -> Result<Vec<NumberedArea>, CheckFault>
-    ensures after { HasReadBy by_device (length areas.now) paged.old paged.new result }
+    ensures calls { HasReadBy by_device (length areas.now) paged.old paged.new result }
     ensures areas { OnHonest paged.old.device (λ image. Lists result (cbfs_areas image areas.now)) }
 {
     let none = NameSet::new(alloc);
@@ -36,7 +36,7 @@ pub fn wanted_areas<F: Flash>(
     expected: &NameSet,
     areas: &[NumberedArea],
 ) -> Result<Vec<NumberedArea>, CheckFault>
-    ensures after { HasReadBy by_device (length areas.now) paged.old paged.new result }
+    ensures calls { HasReadBy by_device (length areas.now) paged.old paged.new result }
     ensures inside { IfOk result (λ wanted.
         All (λ a. area_end a.area ≤ length paged.old.device.content) wanted.items) }
     ensures count { IfOk result (λ wanted. length wanted.items ≤ length areas.now) }
@@ -58,7 +58,7 @@ fn is_wanted<F: Flash>(
     starts: &Starts,
     area: &NumberedArea,
 ) -> Result<bool, FlashFault>
-    ensures after { HasAnswered 1 paged.old paged.new result }
+    ensures calls { HasAnswered 1 paged.old paged.new result }
     ensures inside { IfOk result (λ wanted. IsTrue wanted →
         area_end area.now.area ≤ length paged.old.device.content) }
     ensures wanted { OnHonest paged.old.device (λ image. Returns result

@@ -55,7 +55,7 @@ fn area_finding<F: Flash>(
 ) -> Result<ImageFinding, CheckFault>
     requires { area_end area.area ≤ length paged.old.device.content }
 
-    ensures after { HasReadBy by_device
+    ensures calls { HasReadBy by_device
         ((left.old - left.new) / 12 + 2) paged.old paged.new result }
     ensures left { left.new ≡ left_after left.old area }
     ensures area { IfOk result (λ finding. region_area finding
@@ -91,7 +91,7 @@ fn areas_findings<F: Flash>(
 ) -> Result<Vec<ImageFinding>, CheckFault>
     requires { All (λ a. area_end a.area ≤ length paged.old.device.content) areas.now }
 
-    ensures after { HasReadBy by_device
+    ensures calls { HasReadBy by_device
         (length paged.old.device.content / 2 + 2 * length areas.now) paged.old paged.new result }
     ensures checked { IfOk result (λ all. AreChecked (length paged.old.device.content)
         (length areas.now) 0 (region_areas all.items)) }
@@ -154,7 +154,7 @@ pub fn check_image<F: Flash>(
     expected: &[&[u8]],
 ) -> Result<CheckedImage, CheckFault>
     // On any device.
-    ensures after { HasReadBy by_device (call_limit paged.old.device) paged.old paged.new result }
+    ensures calls { HasReadBy by_device (call_limit paged.old.device) paged.old paged.new result }
     ensures count { IfOk result (λ checked.
         area_len * length checked.areas.items ≤ length paged.old.device.content) }
     ensures regions { IfOk result (λ checked. AreChecked (length paged.old.device.content)

@@ -14,4 +14,4 @@ pub use finding::{ImageFinding, RegionFindings};
 pub use image::{CheckedImage, check_image};
 pub use names::NameSet;
 pub use needs::{Need, NeedFinding, NeededPlace, unmet};
-pub use verdict::{HashRules, is_too_long};
+pub use verdict::{HashRules, has_long_metadata};

@@ -8,10 +8,10 @@ use cbfs_anchor::{Algorithm, Anchor, StoredHash, has_hash_of};
 /// The maximum number of bytes before a content.
 const LONGEST_METADATA: u64 = 256;
 
-/// Returns whether the firmware can't find a component with this content, because more than 256
-/// bytes precede it.
-pub fn is_too_long(at: u64, content: Content) -> bool
-    ensures { result ≡ verdicts.is_too_long at content }
+/// Returns whether the firmware can't find the component whose entry begins at `at`, because its
+/// metadata, the bytes of the entry before the content, are longer than 256 bytes.
+pub fn has_long_metadata(at: u64, content: Content) -> bool
+    ensures { result ≡ verdicts.has_long_metadata at content }
 {
     content.start.saturating_sub(at) > LONGEST_METADATA
 }
@@ -30,9 +30,10 @@ fn is_exempt(kind: u32) -> bool
     kind == 1 || kind == 2
 }
 
-/// Returns whether a hash attribute has a digest of an anchor's algorithm.
-fn has_digest(stored: Option<StoredHash>) -> bool
-    ensures { result ≡ verdicts.has_digest stored }
+/// Returns whether a component's hash attribute, if any, has a digest of any algorithm that anchors
+/// can have.
+fn has_digest_of_some_algorithm(stored: Option<StoredHash>) -> bool
+    ensures { result ≡ verdicts.has_digest_of_some_algorithm stored }
 {
     let Some(hash) = stored else {
         return false;
@@ -60,17 +61,18 @@ impl HashRules {
         match content.hash {
             HashFinding::Invalid(_) => !(self.anchor.is_some() && name == b"intel_fit".as_slice()),
             HashFinding::Missing | HashFinding::Unsupported => {
-                self.needs_all || self.refuses(content)
+                self.needs_all || self.firmware_refuses(content)
             }
             HashFinding::Valid(_) => false,
         }
     }
 
     /// Returns whether the firmware refuses to load a component, because it has no digest.
-    fn refuses(self, content: Content) -> bool
-        ensures { result ≡ verdicts.refuses self content }
+    fn firmware_refuses(self, content: Content) -> bool
+        ensures { result ≡ verdicts.firmware_refuses self content }
     {
-        self.anchor.is_some() && (is_firmware(content.kind) && !has_digest(content.stored))
+        self.anchor.is_some()
+            && (is_firmware(content.kind) && !has_digest_of_some_algorithm(content.stored))
     }
 
     /// Returns whether a component needs a digest: each one on request, and under an anchor each
@@ -84,7 +86,7 @@ impl HashRules {
     /// Returns whether a component under an anchor has a hash attribute, but no digest of the
     /// anchor's algorithm.
     pub fn differ(self, content: Content) -> bool
-        ensures { result ≡ verdicts.has_other_hash self content }
+        ensures { result ≡ verdicts.has_hash_not_of_anchor self content }
     {
         match self.anchor {
             Some(anchor) => {

@@ -29,7 +29,7 @@ pub struct CheckedMap {
 /// Returns the findings of the image's map in the order of `MapFinding`, or `Device` exactly if a
 /// read failed.
 pub fn check_map<F: Flash>(alloc: Global, paged: &mut Paged<F>) -> Result<CheckedMap, CheckFault>
-    ensures after { HasReadBy by_device (length paged.old.device.content
+    ensures calls { HasReadBy by_device (length paged.old.device.content
         + length paged.old.device.content / area_len + 16) paged.old paged.new result }
     ensures inside { IfOk result (λ map.
         IfSome map.found (λ found. map_end found ≤ length paged.old.device.content)) }

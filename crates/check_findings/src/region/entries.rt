@@ -32,7 +32,7 @@ fn push_cell<F: Flash>(
 ) -> Result<(), CheckFault>
     requires { IsCellOn IsCellIn region cell.now paged.old.device }
 
-    ensures after { HasReadBy by_device (4 + cell.now.span / 1280) paged.old paged.new result }
+    ensures calls { HasReadBy by_device (4 + cell.now.span / 1280) paged.old paged.new result }
     ensures found { OnHonestIn paged.old.device region (λ x. StandsIn x cell.now → Gains
         findings.old findings.new result (cell_findings cell.now.at (cell_in x cell.now))) }
 {
@@ -70,7 +70,7 @@ fn walk_region<F: Flash>(
 ) -> Result<Vec<RegionFinding>, CheckFault>
     requires { LiesOn region paged.old.device }
 
-    ensures after { HasReadBy by_device (region.size / 12 + 2) paged.old paged.new result }
+    ensures calls { HasReadBy by_device (region.size / 12 + 2) paged.old paged.new result }
     ensures findings { OnHonestIn paged.old.device region (λ x. Lists result (walk_findings x)) }
 {
     let mut findings = Vec::new(alloc);
@@ -118,7 +118,7 @@ pub fn check_region<F: Flash>(
     requires { LiesOn region paged.old.device }
 
     // On any device.
-    ensures after { HasReadBy by_device (region.size / 12 + 2) paged.old paged.new result }
+    ensures calls { HasReadBy by_device (region.size / 12 + 2) paged.old paged.new result }
 
     // On an honest device.
     ensures findings { OnHonestIn paged.old.device region (λ x. Lists result (region_findings x)) }

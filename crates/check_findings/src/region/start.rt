@@ -15,7 +15,7 @@ pub fn has_entry_at<F: Flash>(
     requires { Reaches region at paged.old.device }
 
     // On any device.
-    ensures after { HasAnswered 1 paged.old paged.new result }
+    ensures calls { HasAnswered 1 paged.old paged.new result }
 
     // On an honest device.
     ensures has { ReadsAs paged.old region result (has_entry_at at) }

@@ -35,7 +35,7 @@ fn find_filled<F: Flash>(
 ) -> Result<Option<u64>, FlashFault>
     requires { Reaches region at paged.old.device }
 
-    ensures after { HasAnswered ((region.size - at + 4095) / 4096) paged.old paged.new result }
+    ensures calls { HasAnswered ((region.size - at + 4095) / 4096) paged.old paged.new result }
     ensures found { ReadsAs paged.old region result (first_filled at) }
 {
     let len = (region.size() - at).saturating_sub(4);
@@ -59,7 +59,7 @@ fn push_entries<F: Flash>(
 ) -> Result<(), CheckFault>
     requires { Reaches region at paged.old.device }
 
-    ensures after { HasReadBy by_device ((region.size - at) / 64) paged.old paged.new result }
+    ensures calls { HasReadBy by_device ((region.size - at) / 64) paged.old paged.new result }
     ensures found { OnHonestIn paged.old.device region
         (λ x. Gains findings.old findings.new result (later_entries at x)) }
 {
@@ -81,7 +81,7 @@ pub fn push_tail<F: Flash>(
 ) -> Result<(), CheckFault>
     requires { Reaches region at paged.old.device }
 
-    ensures after { HasReadBy by_device (1 + (region.size - at) / 32) paged.old paged.new result }
+    ensures calls { HasReadBy by_device (1 + (region.size - at) / 32) paged.old paged.new result }
     ensures found { OnHonestIn paged.old.device region
         (λ x. Gains findings.old findings.new result (tail_findings at x)) }
 {

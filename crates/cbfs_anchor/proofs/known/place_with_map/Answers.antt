@@ -10,6 +10,6 @@ returns-in_err-coreboot-clause-place g c = λ h.
 
 pub returns-clause-place : goal.returns-clause-place
 returns-clause-place g c = λ h.
-    let more = c.in_ok-coreboot.ensures.after.device in
+    let more = c.in_ok-coreboot.ensures.calls.device in
     let place = rw (more.unchanged h) at (c.place_by.ensures.place (honest_still more.calls.same_honesty h)) in
     with_found _ c.args.map.now c.in_ok-coreboot.coreboot _ (c.in_ok-coreboot.ensures.range h) place

@@ -12,7 +12,7 @@ pub returns-in_ok-hash_terminated-clause-hashed : goal.returns-in_ok-hash_termin
 returns-in_ok-hash_terminated-clause-hashed g c = λ h stands message holds.
     let its = c.args.cell.now in
     let x = bytes_in c.args.region c.args.paged.now.device.content in
-    let first = c.in_ok-fault.ensures.after.read.device in
+    let first = c.in_ok-fault.ensures.calls.read.device in
     let hashed = rw (first.unchanged h) at (c.in_ok-hash_terminated.ensures.hashed (honest_still first.calls.same_honesty h)) in (
       terminated (name_end its.head) its.head.offset (drop its.at x),
       hashed message holds,

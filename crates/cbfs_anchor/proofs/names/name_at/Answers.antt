@@ -12,16 +12,16 @@ returns-in_err-region-clause-name g c = λ h.
 pub returns-then-at-len-clause-name : goal.returns-then-at-len-clause-name
 returns-then-at-len-clause-name g c = λ h.
     no_name_there _ c.args.at c.in_ok-region.region (c.in_ok-region.ensures.answer h)
-    (omega (arith, c.if-at-len.true, c.len-len.ensures.length, c.region.ensures.after.device.calls.same_length))
+    (omega (arith, c.if-at-len.true, c.len-len.ensures.length, c.region.ensures.calls.device.calls.same_length))
 
 pub returns-then-start-len-clause-name : goal.returns-then-start-len-clause-name
 returns-then-start-len-clause-name g c = λ h.
     no_name_there _ c.args.at c.in_ok-region.region (c.in_ok-region.ensures.answer h)
-    (omega (arith, c.if-start-len.true, c.start.ensures, c.len-len.ensures.length, c.region.ensures.after.device.calls.same_length))
+    (omega (arith, c.if-start-len.true, c.start.ensures, c.len-len.ensures.length, c.region.ensures.calls.device.calls.same_length))
 
 pub returns-clause-name : goal.returns-clause-name
 returns-clause-name g c = λ h.
-    let calls = c.region.ensures.after.device in
+    let calls = c.region.ensures.calls.device in
     let same = calls.unchanged h in
     let still = honest_still calls.calls.same_honesty h in
     let image = c.args.paged.now.device.content in

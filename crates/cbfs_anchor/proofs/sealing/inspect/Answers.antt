@@ -10,6 +10,6 @@ returns-in_err-place-clause-report g c = λ h.
 
 pub returns-clause-report : goal.returns-clause-report
 returns-clause-report g c = λ h.
-    let first = c.in_ok-place.ensures.after.device in
+    let first = c.in_ok-place.ensures.calls.device in
     let report = rw (first.unchanged h) at (c.inspect_place.ensures.report (honest_still first.calls.same_honesty h)) in
     place_inspected c.args.demand c.args.paged.now.device.content c.in_ok-place.place c.inspect_place.result (c.in_ok-place.ensures.place h) report

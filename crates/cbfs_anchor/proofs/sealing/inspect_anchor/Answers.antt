@@ -8,8 +8,8 @@ use Rattle.cbfs_anchor.proofs.sealing.inspect_anchor.Goals as goal
 pub returns-clause-report : goal.returns-clause-report
 returns-clause-report g c = λ h.
     let old = c.args.paged.now.device.content in
-    let first = c.in_ok-fault.ensures.after.read.device in
-    let second = c.in_ok-metadata.ensures.after.device in
+    let first = c.in_ok-fault.ensures.calls.read.device in
+    let second = c.in_ok-metadata.ensures.calls.device in
     let third = c.in_ok-map.ensures.hashed.passed.read.device in
     let once = honest_still first.calls.same_honesty h in
     let twice = honest_still second.calls.same_honesty once in

@@ -10,6 +10,6 @@ returns-in_err-anchor-clause-report g c = λ h.
 
 pub returns-clause-report : goal.returns-clause-report
 returns-clause-report g c = λ h.
-    let first = c.in_ok-anchor.ensures.after.device in
+    let first = c.in_ok-anchor.ensures.calls.device in
     let report = rw (first.unchanged h) at (c.inspect_anchor.ensures.report (honest_still first.calls.same_honesty h)) in
     inspected c.args.demand c.args.paged.now.device.content c.args.place.now c.in_ok-anchor.anchor c.inspect_anchor.result (c.in_ok-anchor.ensures.anchor h) report

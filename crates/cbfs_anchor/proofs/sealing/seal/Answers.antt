@@ -9,5 +9,5 @@ returns-then-report-2-clause-effect g c = λ h.
       told.0,
       told.1,
       told.2,
-      c.in_ok-report.ensures.after.device.unchanged h ∙ sealed_already told.0 c.args.paged.now.device.content c.in_ok-report.report told.2 (omega (arith, inside)) c.if-report.true c.if-report-2.true,
+      c.in_ok-report.ensures.calls.device.unchanged h ∙ sealed_already told.0 c.args.paged.now.device.content c.in_ok-report.report told.2 (omega (arith, inside)) c.if-report.true c.if-report-2.true,
     )

@@ -12,7 +12,7 @@ loop-i-preserved g c =
     let map = c.args.map.now in
     let listed = c.in_ok-listed.ensures in
     let put = c.in_ok-put_all.ensures in
-    let row = printout-put listed.after.read put.faults (rw (c.as_slice.ensures.value, c.set_area_row.ensures) at put.put) in
+    let row = printout-put listed.calls.read put.faults (rw (c.as_slice.ensures.value, c.set_area_row.ensures) at put.put) in
     so_far-more c.loop-i.invariant _ _ row (λ h. one_less _ (map.at + 56) map.head.nareas c.loop-i.i _ c.loop-i-test.true (listed.area h)) (omega arith)
 
 pub returns-in_err-put_all : goal.returns-in_err-put_all
@@ -20,13 +20,13 @@ returns-in_err-put_all g c =
     let map = c.args.map.now in
     let listed = c.in_ok-listed.ensures in
     let put = c.in_err-put_all.ensures in
-    let stopped = printout-part listed.after.read _ put.cause (rw (c.as_slice.ensures.value, c.set_area_row.ensures) at put.part) c.from_residual-in_err-put_all.ensures.1 (λ image. rows_left image (map.at + 56) map.head.nareas (c.loop-i.i + 1)) in
+    let stopped = printout-part listed.calls.read _ put.cause (rw (c.as_slice.ensures.value, c.set_area_row.ensures) at put.part) c.from_residual-in_err-put_all.ensures.1 (λ image. rows_left image (map.at + 56) map.head.nareas (c.loop-i.i + 1)) in
     so_far-ends c.loop-i.invariant _ stopped (λ h. one_less _ (map.at + 56) map.head.nareas c.loop-i.i _ c.loop-i-test.true (listed.area h)) (omega (arith, c.loop-i-test.true))
 
 pub returns-in_err-listed : goal.returns-in_err-listed
 returns-in_err-listed g c =
     let map = c.args.map.now in
-    let failed = printout-refusal (λ image. rows_left image (map.at + 56) map.head.nareas c.loop-i.i) c.from_residual.ensures.1 c.in_err-listed.ensures.after.read (λ e. cc) (λ e. cc) (λ h. inl refl) in
+    let failed = printout-refusal (λ image. rows_left image (map.at + 56) map.head.nareas c.loop-i.i) c.from_residual.ensures.1 c.in_err-listed.ensures.calls.read (λ e. cc) (λ e. cc) (λ h. inl refl) in
     so_far-ends c.loop-i.invariant _ failed (λ h. refl) (omega (arith, c.loop-i-test.true))
 
 pub returns : goal.returns

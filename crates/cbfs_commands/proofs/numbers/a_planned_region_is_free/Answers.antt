@@ -15,5 +15,5 @@ planned = refl
 
 pub returns : goal.returns
 returns c =
-    let laid = c.plans_are_laid.ensures 320 (codes "COREBOOT" ∷ []) small_map small_plan planned in
+    let laid = c.plans_are_sound.ensures 320 (codes "COREBOOT" ∷ []) small_map small_plan planned in
     All-head (λ (place : Range). IsOneFreeCell (bytes_in place (created_image 320 small_plan small_map))) (record { start = 192; size = 64 }) [] (laid.free (omega arith))

@@ -32,10 +32,10 @@ read_here : printed_in small_image (codes "COREBOOT") shows ≡ shows free_cell
 read_here = rw (here, entry_here) refl
 
 pub returns-clause-back : goal.returns-clause-back
-returns-clause-back c = c.outcomes_are_of_the_image.ensures.written_back small_image (codes "COREBOOT") free_cell read_here
+returns-clause-back c = c.outcomes_depend_on_bytes.ensures.written_back small_image (codes "COREBOOT") free_cell read_here
 
 pub returns-clause-changed : goal.returns-clause-changed
-returns-clause-changed c = (c.outcomes_are_of_the_image.ensures.of_region (codes "COREBOOT") read coreboot small_image changed_image [] here there same_entry).0 ∙ read_here
+returns-clause-changed c = (c.outcomes_depend_on_bytes.ensures.of_region (codes "COREBOOT") read coreboot small_image changed_image [] here there same_entry).printout ∙ read_here
 
 pub returns-clause-own : goal.returns-clause-own
-returns-clause-own c = c.outcomes_are_of_the_image.ensures.faultless layout small_image []
+returns-clause-own c = c.outcomes_depend_on_bytes.ensures.faultless layout small_image []

@@ -1,7 +1,7 @@
 use Rattle.std.proofs.Common.{◌≡◌, Ok, length, refl, arith}
 use Rattle.flash_format.specs.Components.{components_from}
 use Rattle.flash_format.specs.Cut.{cut_after}
-use Rattle.flash_format.specs.Entry.{attr_head_of, attributes_after, entry}
+use Rattle.flash_format.specs.Entry.{attr_head_of, scan_after, entry}
 use Rattle.flash_format.specs.Head.{extent_of, head_at, head_of}
 use Rattle.cbfs_anchor.specs.Samples.{free_cell}
 use Rattle.cbfs_edit.specs.Additions.{addition_in}
@@ -16,7 +16,7 @@ unfolding free_cell
 its_length = refl
 
 its_place : addition_in free_cell new_data First ≡ Ok place_in_free
-unfolding addition_in placing_in runs_from components_from cut_after entry head_of head_at extent_of attributes_after attr_head_of free_cell
+unfolding addition_in placing_in runs_from components_from cut_after entry head_of head_at extent_of scan_after attr_head_of free_cell
 its_place = refl
 
 is_added : IsAdded free_cell new_data First place_in_free

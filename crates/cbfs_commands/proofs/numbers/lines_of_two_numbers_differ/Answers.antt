@@ -2,7 +2,7 @@ use Rattle.std.proofs.Common.{◌≡◌, ◌<◌, ◌^◌, ℕ, All, List, [], �
 use lib.Chars.{codes}
 use Rattle.std.specs.Prelude.{slice_index}
 use Rattle.std.proofs.lemmas.List.Elements.{All-cons, All-nil}
-use Rattle.flash_format.specs.Entry.{attributes_after}
+use Rattle.flash_format.specs.Entry.{scan_after}
 use Rattle.flash_format.specs.Head.{head_of}
 use Rattle.cbfs_anchor.specs.Samples.{named_cell, small_found}
 use Rattle.cbfs_commands.specs.Laws.{row_values}
@@ -16,7 +16,7 @@ three : (a b c : ℕ) → IsSmall a → IsSmall b → IsSmall c → All IsSmall 
 three a b c x y z = All-cons IsSmall a (b ∷ c ∷ []) x (All-cons IsSmall b (c ∷ []) y (All-cons IsSmall c [] z (All-nil IsSmall)))
 
 cell_values : (at : ℕ) → row_values (at, named_cell 97) ≡ (Some (codes "a"), at ∷ 0x50 ∷ 4 ∷ 0 ∷ [])
-unfolding head_of attributes_after named_cell
+unfolding head_of scan_after named_cell
 cell_values at = refl
 
 four : (at : ℕ) → IsSmall at → All IsSmall (row_values (at, named_cell 97)).1

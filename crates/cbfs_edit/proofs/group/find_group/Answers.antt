@@ -11,13 +11,13 @@ loop-cell-init g c = rw c.new-walk.ensures (surveying_start c.args.region (group
 pub loop-cell-preserved : goal.loop-cell-preserved
 loop-cell-preserved g c =
     surveying_more c.args.region (group_by c.args.name.now) _ IsBefore c.loop-cell.walk c.loop-cell.search _ _ c.requires c.loop-cell.invariant c.in-Cell.cell _ c.in_ok-search-in-Cell.search _ _ _
-    (rw c.in-Cell.is at c.in_ok-cell.ensures.cell) (rw c.in-Cell.is at c.in_ok-cell.ensures.after) refl c.in_ok-search-in-Cell.ensures.after.read (rw c.in-Cell.is at c.in_ok-cell.ensures.answer) (rw c.in-Cell.is at c.in_ok-cell.ensures.moved) c.in_ok-search-in-Cell.ensures.before c.in_ok-search-in-Cell.ensures.passed
+    (rw c.in-Cell.is at c.in_ok-cell.ensures.cell) (rw c.in-Cell.is at c.in_ok-cell.ensures.calls) refl c.in_ok-search-in-Cell.ensures.calls.read (rw c.in-Cell.is at c.in_ok-cell.ensures.answer) (rw c.in-Cell.is at c.in_ok-cell.ensures.moved) c.in_ok-search-in-Cell.ensures.before c.in_ok-search-in-Cell.ensures.passed
 
 pub returns-in-Tail : goal.returns-in-Tail
 returns-in-Tail g c =
     searched c.args.region (group_by c.args.name.now) _ _ c.loop-cell.walk c.loop-cell.search _ _ c.requires c.loop-cell.invariant _ c.in-Tail.is _ _ c.group_in.result (IfErr-weaker c.group_in.result _ _ (λ fault is. rw is tt) c.group_in.ensures.fault)
     (IfOk-weaker c.group_in.result _ _ (λ group within. search rules) (c.group_in.ensures.group c.loop-cell.walk.at c.loop-cell.invariant.before))
-    (c.group_in.ensures.is c.args.name.now _) c.in_ok-cell.ensures.after c.in_ok-cell.ensures.answer
+    (c.group_in.ensures.is c.args.name.now _) c.in_ok-cell.ensures.calls c.in_ok-cell.ensures.answer
 
 pub returns-in_err-cell : goal.returns-in_err-cell
 returns-in_err-cell g c =

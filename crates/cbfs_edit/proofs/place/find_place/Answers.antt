@@ -18,12 +18,12 @@ loop-cell-init g c =
 pub loop-cell-preserved : goal.loop-cell-preserved
 loop-cell-preserved g c =
     surveying_more c.args.region (λ s at cells. place_by c.args.name.now c.args.wanted c.args.region.size s cells) _ (IsSurvey c.args.wanted c.args.region.size) c.loop-cell.walk c.loop-cell.survey _ _ c.requires.region c.loop-cell.invariant c.in-Cell.cell _ c.in_ok-survey-in-Cell.survey _ _ _
-    (rw c.in-Cell.is at c.in_ok-cell.ensures.cell) (rw c.in-Cell.is at c.in_ok-cell.ensures.after) refl c.in_ok-survey-in-Cell.ensures.after.read (rw c.in-Cell.is at c.in_ok-cell.ensures.answer) (rw c.in-Cell.is at c.in_ok-cell.ensures.moved) c.in_ok-survey-in-Cell.ensures.before c.in_ok-survey-in-Cell.ensures.passed
+    (rw c.in-Cell.is at c.in_ok-cell.ensures.cell) (rw c.in-Cell.is at c.in_ok-cell.ensures.calls) refl c.in_ok-survey-in-Cell.ensures.calls.read (rw c.in-Cell.is at c.in_ok-cell.ensures.answer) (rw c.in-Cell.is at c.in_ok-cell.ensures.moved) c.in_ok-survey-in-Cell.ensures.before c.in_ok-survey-in-Cell.ensures.passed
 
 pub returns-in-Tail : goal.returns-in-Tail
 returns-in-Tail g c =
     searched c.args.region (λ s at cells. place_by c.args.name.now c.args.wanted c.args.region.size s cells) _ _ c.loop-cell.walk c.loop-cell.survey _ _ c.requires.region c.loop-cell.invariant _ c.in-Tail.is _ _ c.answer_of.result
-    c.answer_of.ensures.fault c.answer_of.ensures.fits (c.answer_of.ensures.is c.args.name.now) c.in_ok-cell.ensures.after c.in_ok-cell.ensures.answer
+    c.answer_of.ensures.fault c.answer_of.ensures.fits (c.answer_of.ensures.is c.args.name.now) c.in_ok-cell.ensures.calls c.in_ok-cell.ensures.answer
 
 pub returns-in_err-cell : goal.returns-in_err-cell
 returns-in_err-cell g c =

@@ -10,5 +10,5 @@ returns-in_default-clause-areas g c = λ h. rw (sym (c.in_ok-found.ensures.found
 pub returns-clause-areas : goal.returns-clause-areas
 unfolding image_areas
 returns-clause-areas g c = λ h.
-    let search = c.find_fmap.ensures.after.read.device in
+    let search = c.find_fmap.ensures.calls.read.device in
     rw (sym (c.in_ok-found.ensures.found h), c.in-Some.is) (rw (search.unchanged h) at (c.in_ok-areas.ensures.areas (honest_still search.calls.same_honesty h)))

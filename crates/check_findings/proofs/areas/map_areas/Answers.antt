@@ -10,7 +10,7 @@ loop-number-preserved g c =
     let had = c.loop-number.invariant in
     let image = c.args.paged.now.device.content in
     record {
-      read = HasRead-then _ 1 0 _ _ _ had.read c.in_ok-area.ensures.after.read;
+      read = HasRead-then _ 1 0 _ _ _ had.read c.in_ok-area.ensures.calls.read;
       count = omega (arith, ap length c.in_ok-push.ensures.items, length-append c.loop-number.areas.items (record { number = c.loop-number.number; area = c.in_ok-area.area } ∷ []), had.count);
       areas = λ h.
           let is = rw (had.read.device.unchanged h) at (c.in_ok-area.ensures.area (honest_still had.read.device.calls.same_honesty h)) in

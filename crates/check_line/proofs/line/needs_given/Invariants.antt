@@ -1,7 +1,7 @@
 use Rattle.std.proofs.Common.{◌≡◌, ◌+◌, ◌++◌, length, map}
 use Rattle.std.specs.Prelude.{filter_map, find, is_none}
 use Rattle.std.specs.Option.{option_copied, option_map_or}
-use Rattle.check_findings.specs.Needs.{wish_of}
+use Rattle.check_findings.specs.Needs.{need_bytes}
 use Rattle.check_line.specs.CheckWords.{need_in, parts_of}
 use Rattle.check_line.proofs.line.needs_given.Given as goal
 
@@ -11,7 +11,7 @@ invariant-loop-rest l =
     let left = parts_of (option_copied l.rest) in
     record {
       bad : find (λ part. is_none (need_in part)) left ≡ find (λ part. is_none (need_in part)) all;
-      taken : map wish_of l.needs.items ++ filter_map need_in left ≡ filter_map need_in all;
+      taken : map need_bytes l.needs.items ++ filter_map need_in left ≡ filter_map need_in all;
     }
 
 abbrev pub decreases-loop-rest : goal.decreases-loop-rest

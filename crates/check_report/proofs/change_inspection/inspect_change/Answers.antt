@@ -17,10 +17,10 @@ anchor_of image (Err fault) is = tt
 pub returns-clause-checked : goal.returns-clause-checked
 returns-clause-checked g c = λ honest_old honest_new.
     let x = c.args.images.now.old_image.device.content in
-    let still = honest_still c.image_map.ensures.after.device.calls.same_honesty honest_old in
+    let still = honest_still c.image_map.ensures.calls.device.calls.same_honesty honest_old in
     let areas : c.in_ok-map.map.areas.items ≡ image_areas x = search rules in
     let slice : c.deref.result.now ≡ image_areas x = search (rules, areas) in
-    let later = honest_still c.check_anchor.ensures.after.device.calls.same_honesty still in
+    let later = honest_still c.check_anchor.ensures.calls.device.calls.same_honesty still in
     let read : c.in_ok-regions.regions.items ≡ cbfs_areas c.check_anchor.new.paged.device.content c.deref.result.now = search (rules, c.cbfs_areas.ensures.areas later) in
     let same : c.check_anchor.new.paged.device.content ≡ x = search rules in
     let regions : c.in_ok-regions.regions.items ≡ cbfs_areas x (image_areas x) =

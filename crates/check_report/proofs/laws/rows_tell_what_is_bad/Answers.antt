@@ -19,7 +19,7 @@ use Rattle.check_findings.specs.declared.map.finding.MapFinding.{MapFinding}
 use Rattle.check_findings.specs.declared.map.finding.MapFinding.TheVariants as of_map
 use Rattle.check_findings.specs.declared.image.finding.ImageFinding.{ImageFinding}
 use Rattle.check_findings.specs.declared.image.finding.ImageFinding.TheVariants.{Anchor as OfAnchor, Map, Region, NotChecked}
-use Rattle.check_findings.specs.Verdicts.{has_other_hash, is_bad, is_bad_anchor, is_bad_hash, is_bad_map, is_bad_region, is_bad_state, is_exempt, is_firmware, is_too_long, needs_hash, refuses, rules_of}
+use Rattle.check_findings.specs.Verdicts.{has_hash_not_of_anchor, is_bad, is_bad_anchor, is_bad_hash, is_bad_map, is_bad_region, is_bad_hash_state, is_exempt, is_firmware, has_long_metadata, needs_hash, firmware_refuses, rules_of}
 use Rattle.check_findings.specs.declared.anchor.finding.AnchorFinding.{AnchorFinding}
 use Rattle.check_findings.specs.declared.anchor.finding.AnchorFinding.TheVariants as of_anchor
 use Rattle.check_findings.specs.declared.anchor.finding.Bootblock.TheVariants as bootblocks
@@ -77,17 +77,17 @@ or_true true = refl
 or_true false = refl
 
 -- a component without a digest that the firmware refuses to load needs one
-refused_needed : (rules : HashRules) (c : Content) → (rules.needs_all || refuses rules c) ≡ true → needs_hash rules c ≡ true
+refused_needed : (rules : HashRules) (c : Content) → (rules.needs_all || firmware_refuses rules c) ≡ true → needs_hash rules c ≡ true
 refused_needed rules c bad = go rules.needs_all bad
   where
-    go : (needs : Bool) → (needs || refuses rules c) ≡ true → (needs || (is_some rules.anchor && not (is_exempt c.kind))) ≡ true
+    go : (needs : Bool) → (needs || firmware_refuses rules c) ≡ true → (needs || (is_some rules.anchor && not (is_exempt c.kind))) ≡ true
     go true is = refl
     go false is =
         let parts = and_parts (is_some rules.anchor) _ is in
         rw (parts.0, not_exempt c.kind (and_parts (is_firmware c.kind) _ parts.1).0) refl
 
 -- a bad digest has a row
-bad_shown : (asked : Asked) (rules : HashRules) (name : List ℕ) (c : Content) (h : HashFinding) → is_bad_state rules name c h ≡ true → has_state_row asked rules c h ≡ true
+bad_shown : (asked : Asked) (rules : HashRules) (name : List ℕ) (c : Content) (h : HashFinding) → is_bad_hash_state rules name c h ≡ true → has_state_row asked rules c h ≡ true
 bad_shown asked rules name c hashes.Missing bad = rw (refused_needed rules c bad) (or_true asked.is_verbose)
 bad_shown asked rules name c (hashes.Valid algorithm) bad = refl
 bad_shown asked rules name c (hashes.Invalid algorithm) bad = refl
@@ -104,7 +104,7 @@ bad_hash : (asked : Asked) (rules : HashRules) (region : List ℕ) (at : ℕ) (n
     → list_any (has_verdict Bad) (hash_rows asked rules region at name content) ≡ is_bad_hash rules name content
 bad_hash asked rules region at name content =
     list_any-append (has_verdict Bad) (only_if (has_hash_row asked rules content) (at_component region at name (hash_row rules name content))) _
-    ∙ rw (shown_bad region at name _ _ (has_hash_row asked rules content) (is_bad_hash rules name content) (bad_shown asked rules name content content.hash)) (go (is_bad_hash rules name content) (has_other_hash rules content))
+    ∙ rw (shown_bad region at name _ _ (has_hash_row asked rules content) (is_bad_hash rules name content) (bad_shown asked rules name content content.hash)) (go (is_bad_hash rules name content) (has_hash_not_of_anchor rules content))
   where
     go : (bad other : Bool) → (bad || list_any (has_verdict Bad) (only_if other (at_component region at name (row Remark "hash-other-algorithm" "hash isn't of the anchor's algorithm")))) ≡ bad
     go true other = refl
@@ -119,7 +119,7 @@ no_bad false row rest is = refl
 bad_component : (asked : Asked) (rules : HashRules) (region : List ℕ) (at : ℕ) (name : List ℕ) (shadowed : Bool) (content : Content)
     → list_any (has_verdict Bad) (component_rows asked rules region (of_region.Component at name shadowed content)) ≡ is_bad_region rules (of_region.Component at name shadowed content)
 bad_component asked rules region at name true content = refl
-bad_component asked rules region at name false content = go (is_too_long at content)
+bad_component asked rules region at name false content = go (has_long_metadata at content)
   where
     rest : List SeenRow
     rest = only_if (not (is_utf8 name)) (at_component region at name (row Remark "component-name" "name isn't UTF-8"))

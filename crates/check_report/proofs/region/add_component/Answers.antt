@@ -17,7 +17,7 @@ returns g c =
     let third = c.at_component-4.ensures ∙ ap here number in
     rw (c.in-Component.is, ← c.as_slice-name.ensures)
     (adds_after (rw first at c.in_ok-add_if.ensures)
-    (adds_after (rw (long, c.is_too_long.ensures) at c.in_ok-add_if-2.ensures)
+    (adds_after (rw (long, c.has_long_metadata.ensures) at c.in_ok-add_if-2.ensures)
     (adds_after (rw (other, c.is_text.ensures) at c.in_ok-add_if-3.ensures)
     (adds_after (rw (third, kind, c.from.ensures) at c.in_ok-add_if-4.ensures)
     c.add_hash.ensures))))
@@ -36,7 +36,7 @@ returns-in_err-add_if-2 g c =
     let first = c.at_component.ensures ∙ ap here c.row-row.ensures in
     let long = c.at_component-2.ensures ∙ ap here c.row-row-2.ensures in
     adds_failed c.from_residual-in_err-add_if-2.ensures.1 (rw (c.in-Component.is, ← c.as_slice-name.ensures) (adds_after (rw first at c.in_ok-add_if.ensures)
-    (adds_before _ (rw (long, c.is_too_long.ensures) at c.in_err-add_if-2.ensures))))
+    (adds_before _ (rw (long, c.has_long_metadata.ensures) at c.in_err-add_if-2.ensures))))
 
 pub returns-in_err-add_if-3 : goal.returns-in_err-add_if-3
 returns-in_err-add_if-3 g c =
@@ -46,7 +46,7 @@ returns-in_err-add_if-3 g c =
     let long = c.at_component-2.ensures ∙ ap here c.row-row-2.ensures in
     let other = c.at_component-3.ensures ∙ ap here c.row-row-3.ensures in
     adds_failed c.from_residual-in_err-add_if-3.ensures.1 (rw (c.in-Component.is, ← c.as_slice-name.ensures) (adds_after (rw first at c.in_ok-add_if.ensures)
-    (adds_after (rw (long, c.is_too_long.ensures) at c.in_ok-add_if-2.ensures)
+    (adds_after (rw (long, c.has_long_metadata.ensures) at c.in_ok-add_if-2.ensures)
     (adds_before _ (rw (other, c.is_text.ensures) at c.in_err-add_if-3.ensures)))))
 
 pub returns-in_err-add_if-4 : goal.returns-in_err-add_if-4
@@ -60,6 +60,6 @@ returns-in_err-add_if-4 g c =
     let kind : c.is_none-is_nameless.result ≡ is_none (name_of_type content.kind) = search rules in
     let third = c.at_component-4.ensures ∙ ap here number in
     adds_failed c.from_residual-in_err-add_if-4.ensures.1 (rw (c.in-Component.is, ← c.as_slice-name.ensures) (adds_after (rw first at c.in_ok-add_if.ensures)
-    (adds_after (rw (long, c.is_too_long.ensures) at c.in_ok-add_if-2.ensures)
+    (adds_after (rw (long, c.has_long_metadata.ensures) at c.in_ok-add_if-2.ensures)
     (adds_after (rw (other, c.is_text.ensures) at c.in_ok-add_if-3.ensures)
     (adds_before _ (rw (third, kind, c.from.ensures) at c.in_err-add_if-4.ensures))))))

@@ -17,7 +17,7 @@ loop-i-preserved g c =
     let had = c.loop-i.invariant in
     let image = c.args.paged.now.device.content in
     let next : c.args.map.now.at + 56 + 42 * (c.loop-i.i + 1) ≡ c.args.map.now.at + 56 + 42 * c.loop-i.i + 42 = omega arith in (
-      HasRead-then _ 1 0 _ _ _ had.0 c.in_ok-area.ensures.after.read,
+      HasRead-then _ 1 0 _ _ _ had.0 c.in_ok-area.ensures.calls.read,
       λ h.
           let read = rw (had.0.device.unchanged h) at (c.in_ok-area.ensures.area (honest_still had.0.device.calls.same_honesty h)) in
           ap (λ p. named_from image c.args.name.now (c.args.map.now.head.nareas - (c.loop-i.i + 1)) p) next

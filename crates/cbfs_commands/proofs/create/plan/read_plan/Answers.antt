@@ -12,8 +12,8 @@ returns-in_err-regions-clause-plan g c =
     let faultless = faultless_places c.args.image_len (take (length c.args.names.now) c.in_ok-found.found.regions) _ _ c.region_places.ensures in
     grind (arith, common_steps, faultless)
 
-pub returns-clause-laid : goal.returns-clause-laid
-returns-clause-laid g c = laid _ _ _ (record {
+pub returns-clause-sound : goal.returns-clause-sound
+returns-clause-sound g c = laid _ _ _ (record {
   in_source = search rules;
   room = search rules;
   map = search rules;

@@ -19,7 +19,7 @@ returns-in_err-print_attributes g c =
 pub returns-in_err-state : goal.returns-in_err-state
 returns-in_err-state g c =
     let rest = λ (image : List ℕ). hash_of (cell_in (bytes_in c.args.region image) c.args.cell.now) in
-    so_far-ends (so_far-of rest c.in_ok-print_attributes.ensures) _ (printout-refusal rest c.from_residual-in_err-state.ensures.1 c.in_err-state.ensures.after.read (λ e. cc) (λ e. cc) (λ h. inl refl)) (λ h. refl) (omega arith)
+    so_far-ends (so_far-of rest c.in_ok-print_attributes.ensures) _ (printout-refusal rest c.from_residual-in_err-state.ensures.1 c.in_err-state.ensures.calls.read (λ e. cc) (λ e. cc) (λ h. inl refl)) (λ h. refl) (omega arith)
 
 pub returns-in_err-put_all : goal.returns-in_err-put_all
 returns-in_err-put_all g c =
@@ -27,7 +27,7 @@ returns-in_err-put_all g c =
     let hash = c.in_ok-state.ensures in
     let still = still_cell c.print_attributes.ensures.read c.requires.cell in
     let put = c.in_err-put_all.ensures in
-    let row = printout-part hash.after.read _ put.cause (rw (c.as_slice.ensures.value, c.set_hash_row.ensures) at put.part) c.from_residual-in_err-put_all.ensures.1 (λ image. shows []) in
+    let row = printout-part hash.calls.read _ put.cause (rw (c.as_slice.ensures.value, c.set_hash_row.ensures) at put.part) c.from_residual-in_err-put_all.ensures.1 (λ image. shows []) in
     so_far-ends ended _ row (λ h. rw append-nil (ap (λ (state : HashState). shows (hash_line state)) (sym (hash.state h (still.stands h))))) (omega arith)
 
 pub returns : goal.returns
@@ -36,5 +36,5 @@ returns g c =
     let hash = c.in_ok-state.ensures in
     let still = still_cell c.print_attributes.ensures.read c.requires.cell in
     let put = c.in_ok-put_all.ensures in
-    let row = printout-put hash.after.read put.faults (rw (c.as_slice.ensures.value, c.set_hash_row.ensures) at put.put) in
+    let row = printout-put hash.calls.read put.faults (rw (c.as_slice.ensures.value, c.set_hash_row.ensures) at put.put) in
     so_far-ends ended _ row (λ h. ap (λ (state : HashState). shows (hash_line state)) (sym (hash.state h (still.stands h)))) (omega arith)

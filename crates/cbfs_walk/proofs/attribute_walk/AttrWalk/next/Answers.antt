@@ -1,5 +1,5 @@
 use Rattle.std.proofs.Common.{ap, ◌+◌}
-use Rattle.cbfs_walk.specs.declared.attribute_walk.Listed.TheVariants as listed
+use Rattle.cbfs_walk.specs.declared.attribute_walk.AttributeItem.TheVariants as listed
 use Rattle.cbfs_walk.proofs.AttributeLists.{walk_step, gives_none}
 use Rattle.cbfs_walk.proofs.attribute_walk.AttrWalk.next.Goals as goal
 

@@ -20,7 +20,7 @@ loop-number-preserved g c =
       | else-is_different w ↦ search rules
     ] in
     record {
-      read = both-then had.read c.in_ok-is_different.ensures.after;
+      read = both-then had.read c.in_ok-is_different.ensures.calls;
       few = omega (arith, had.few, at_most_one found c.from-blocks.result c.from-blocks.ensures);
       fewer = omega (arith, had.fewer, at_most_one c.if-is_different.is_own c.from-own.result c.from-own.ensures);
       blocks = λ h k. omega (arith, count_below-more (is_difference _ _ r) number _ found (is h k) c.from-blocks.ensures, had.blocks h k);

@@ -16,7 +16,7 @@ loop-number-preserved g c =
     let had = c.loop-number.invariant in
     let is = OnBoth-before (λ x y. c.in_ok-is_different.field-0 ≡ is_difference x y c.args.regions c.loop-number.number) had.read c.in_ok-is_different.ensures.different in
     record {
-      read = both-then had.read c.in_ok-is_different.ensures.after;
+      read = both-then had.read c.in_ok-is_different.ensures.calls;
       same = λ h k. same-more _ _ c.loop-number.number _ (is h k) c.if-branch.false (had.same h k);
     }
 

@@ -9,11 +9,11 @@ pub loop-cell-preserved : goal.loop-cell-preserved
 loop-cell-preserved g c =
     let is = c.in-Ok-Cell.field-0-is in
     let given = rw is at c.in-Ok-Cell.ensures.cell in
-    let reads = rw is at c.in-Ok-Cell.ensures.after in
+    let reads = rw is at c.in-Ok-Cell.ensures.calls in
     let answer = rw is at c.in-Ok-Cell.ensures.answer in
     let moved = rw is at c.in-Ok-Cell.ensures.moved in
     listing_more c.args.region c.loop-cell.walk c.loop-cell.all _ _ c.requires c.loop-cell.invariant c.in-Ok-Cell.cell _ _ _ _ _
-    given reads refl c.in_ok-list_cell-in-Ok-Cell.ensures.after answer moved c.in_ok-list_cell-in-Ok-Cell.ensures.cells c.in_ok-list_cell-in-Ok-Cell.ensures.room c.in_ok-list_cell-in-Ok-Cell.ensures.listed
+    given reads refl c.in_ok-list_cell-in-Ok-Cell.ensures.calls answer moved c.in_ok-list_cell-in-Ok-Cell.ensures.cells c.in_ok-list_cell-in-Ok-Cell.ensures.room c.in_ok-list_cell-in-Ok-Cell.ensures.listed
 
 pub returns-in-Ok-Tail-clause-lists : goal.returns-in-Ok-Tail-clause-lists
 returns-in-Ok-Tail-clause-lists g c =

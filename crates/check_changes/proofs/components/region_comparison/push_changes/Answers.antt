@@ -6,10 +6,10 @@ use Rattle.check_changes.proofs.ComponentLemmas.ChangeLemmas.{reads_all, reads_m
 use Rattle.check_changes.proofs.ImageLemmas.{both-handed, both-within, OnBoth-before}
 use Rattle.check_changes.proofs.components.region_comparison.push_changes.Goals as goal
 
-pub returns-in_err-push_changes_of-clause-after : goal.returns-in_err-push_changes_of-clause-after
-returns-in_err-push_changes_of-clause-after g c =
+pub returns-in_err-push_changes_of-clause-calls : goal.returns-in_err-push_changes_of-clause-calls
+returns-in_err-push_changes_of-clause-calls g c =
     let new = c.args.lists.now.new in
-    let step = rw c.listed-item.is at c.in_err-push_changes_of.ensures.after in
+    let step = rw c.listed-item.is at c.in_err-push_changes_of.ensures.calls in
     both-handed _ _ c.from_residual.ensures.1 (reads_all _ new.all.now new.cells c.loop-listed.listed-index c.listed-item.result c.loop-listed-test.true c.loop-listed.invariant.read step)
 
 pub loop-listed-preserved : goal.loop-listed-preserved
@@ -18,7 +18,7 @@ loop-listed-preserved g c =
     let lists = c.args.lists.now in
     let item = c.listed-item.result in
     let i = c.loop-listed.listed-index in
-    let step = rw c.listed-item.is at c.in_ok-push_changes_of.ensures.after in
+    let step = rw c.listed-item.is at c.in_ok-push_changes_of.ensures.calls in
     let more = rw c.listed-item.is at c.in_ok-push_changes_of.ensures.changes in
     let is = OnBoth-before (λ x y. c.push_changes_of.new.changes.items ≡ c.loop-listed.changes.items
     ++ new_changes (bytes_in lists.old.region x) (bytes_in lists.new.region y) lists.old.all.now lists.new.all.now (get_or lists.new.all.now i item)) had.read more in
@@ -27,8 +27,8 @@ loop-listed-preserved g c =
       changes = λ h k. flat_map-more _ lists.new.all.now i _ _ _ _ c.loop-listed-test.true (is h k) (had.changes h k);
     }
 
-pub returns-clause-after : goal.returns-clause-after
-returns-clause-after g c =
+pub returns-clause-calls : goal.returns-clause-calls
+returns-clause-calls g c =
     let few = spans_part c.args.lists.now.new.all.now c.loop-listed.listed-index in
     both-within _ _ few few c.loop-listed.invariant.read
 

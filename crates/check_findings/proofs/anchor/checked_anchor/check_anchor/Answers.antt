@@ -13,7 +13,7 @@ returns-in_default-clause-checked g c = λ h is.
 pub returns-in-Ok-clause-checked : goal.returns-in-Ok-clause-checked
 returns-in-Ok-clause-checked g c = λ h is.
     let there : found_in c.args.paged.now.device.content ≡ Some c.in-Some.map = cc in
-    let first = c.in-Ok.ensures.after.device in
+    let first = c.in-Ok.ensures.calls.device in
     let still = honest_still first.calls.same_honesty h in
     with_place _ c.in-Some.map c.in-Ok.place c.check_place.result there (c.in-Ok.ensures.place h) (rw (first.unchanged h) at (c.check_place.ensures.anchor still)) (rw (first.unchanged h) at (c.check_place.ensures.findings still))
 

@@ -15,7 +15,7 @@ loop-area-preserved g c =
     let content = c.args.paged.now.device.content in
     let more = wanted_more (λ a. area_end a.area ≤ length content) _ _ _ _ c.in_ok-push_if.ensures had.inside (rw device.calls.same_length at add.inside) in
     record {
-      read = HasRead-then _ 1 0 _ _ _ had.read add.after.read;
+      read = HasRead-then _ 1 0 _ _ _ had.read add.calls.read;
       inside = more.0;
       count = omega (arith, had.count, more.1);
       areas = λ h.

@@ -17,7 +17,7 @@ of_map image all map next n areas found above long listed same = let here = rw (
 pub returns-clause-answer : goal.returns-clause-answer
 unfolding map_findings
 returns-clause-answer g c = λ h.
-    let map = c.image_map.ensures.after.device in
+    let map = c.image_map.ensures.calls.device in
     let found = c.in_ok-found.ensures.found h in
     elim c.match-found.branch [
       | in-Some+in_ok-next-in-Some+in_ok-findings-in-Some w ↦ rw w.findings-is (of_map _ _ w.in-Some.map _ _ _ (sym w.in-Some.is ∙ found) (rw (map.unchanged h) at (w.in_ok-next-in-Some.ensures.found (honest_still map.calls.same_honesty h)))

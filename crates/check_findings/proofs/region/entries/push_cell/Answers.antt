@@ -1,5 +1,5 @@
 use Rattle.std.proofs.Common.{◌≡◌, ◌∙◌, List, ℕ, sym, subst}
-use Rattle.flash_format.specs.Components.{cell_attributes, cell_content, packing}
+use Rattle.flash_format.specs.Components.{cell_attributes, cell_content, compression_of}
 use Rattle.flash_device.specs.Regions.{bytes_in}
 use Rattle.flash_device.proofs.DeviceLemmas.{honest_still}
 use Rattle.cbfs_anchor.specs.Metadata.{stored_hash}
@@ -26,18 +26,18 @@ returns-clause-found g c = λ h stands.
     let x : List ℕ = cell_in (bytes_in r image) cell in
     let known = c.cells_stand_in_their_image.ensures r image cell c.requires.region.inside c.requires.cell stands in
     let named = c.in_ok-len.ensures in
-    let same = named.after.read.device.unchanged h in
+    let same = named.calls.read.device.unchanged h in
     let there = subst (λ (l : List ℕ). StandsIn (bytes_in r l) cell) (sym same) stands in
-    let still = honest_still named.after.read.device.calls.same_honesty h in
-    let compressed = subst (λ (l : List ℕ). c.in_ok-compression.compression ≡ packing (cell_attributes (cell_in (bytes_in r l) cell))) same
-    (c.in_ok-compression.ensures.packing still there) in
-    let packed = c.in_ok-compression.ensures.after.read.device in
+    let still = honest_still named.calls.read.device.calls.same_honesty h in
+    let compressed = subst (λ (l : List ℕ). c.in_ok-compression.compression ≡ compression_of (cell_attributes (cell_in (bytes_in r l) cell))) same
+    (c.in_ok-compression.ensures.compression still there) in
+    let packed = c.in_ok-compression.ensures.calls.read.device in
     let after = packed.unchanged still ∙ same in
     let once = honest_still packed.calls.same_honesty still in
     let stays = subst (λ (l : List ℕ). StandsIn (bytes_in r l) cell) (sym after) stands in
     let stored = subst (λ (l : List ℕ). c.in_ok-stored.stored ≡ stored_hash (cell_attributes (cell_in (bytes_in r l) cell))) after
     (c.in_ok-stored.ensures.hash once stays) in
-    let searched = c.in_ok-stored.ensures.after.read.device in
+    let searched = c.in_ok-stored.ensures.calls.read.device in
     let later = searched.unchanged once ∙ after in
     let state = subst (λ (l : List ℕ). c.in_ok-state.state ≡ hash_state (cell_attributes (cell_in (bytes_in r l) cell)) (cell_content (cell_in (bytes_in r l) cell))) later
     (c.in_ok-state.ensures.state (honest_still searched.calls.same_honesty once) (subst (λ (l : List ℕ). StandsIn (bytes_in r l) cell) (sym later) stands)) in

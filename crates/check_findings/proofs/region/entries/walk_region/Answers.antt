@@ -9,17 +9,17 @@ pub loop-cell-preserved : goal.loop-cell-preserved
 loop-cell-preserved g c =
     let is = c.in-Ok-Cell.field-0-is in
     let given = rw is at c.in-Ok-Cell.ensures.cell in
-    let reads = rw is at c.in-Ok-Cell.ensures.after in
+    let reads = rw is at c.in-Ok-Cell.ensures.calls in
     let answer = rw is at c.in-Ok-Cell.ensures.answer in
     let moved = rw is at c.in-Ok-Cell.ensures.moved in
     checking_more c.args.region c.loop-cell.walk c.loop-cell.findings.items c.loop-cell.count _ _ c.requires c.loop-cell.invariant c.in-Ok-Cell.cell _ _ _ _ _ _ _
-    given reads refl c.in_ok-push_cell-in-Ok-Cell.ensures.after refl answer moved c.with-count.ensures c.in_ok-push_cell-in-Ok-Cell.ensures.found
+    given reads refl c.in_ok-push_cell-in-Ok-Cell.ensures.calls refl answer moved c.with-count.ensures c.in_ok-push_cell-in-Ok-Cell.ensures.found
 
 pub returns-in-Ok-Tail-clause-findings : goal.returns-in-Ok-Tail-clause-findings
 returns-in-Ok-Tail-clause-findings g c =
     let is = c.in-Ok-Tail.field-0-is in
     checking_tail c.args.region c.loop-cell.walk c.loop-cell.findings.items c.loop-cell.count _ _ c.requires c.loop-cell.invariant _ _ _ _ _ (rw is at c.in-Ok-Tail.ensures.answer)
-    (rw is at c.in-Ok-Tail.ensures.after) c.in_ok-push_tail-in-Ok-Tail.ensures.found c.in_ok-counts_at_end-in-Ok-Tail.ensures
+    (rw is at c.in-Ok-Tail.ensures.calls) c.in_ok-push_tail-in-Ok-Tail.ensures.found c.in_ok-counts_at_end-in-Ok-Tail.ensures
 
 pub returns-in-Ok-End-clause-findings : goal.returns-in-Ok-End-clause-findings
 returns-in-Ok-End-clause-findings g c =

@@ -19,7 +19,7 @@ loop-i-preserved g c =
     let at = c.args.at in
     let x = bytes_in c.args.region c.args.paged.now.device.content in
     record {
-      read = HasRead-then _ 1 0 _ _ _ had.read entry.after.read;
+      read = HasRead-then _ 1 0 _ _ _ had.read entry.calls.read;
       found = λ h.
           let has = rw (device.unchanged h) at (entry.has (honest_still device.calls.same_honesty h)) in
           rw (entries_last i at x, sym (append_assoc c.args.findings.now.items (entries_findings i at x) (only_if (is_some (front (drop (at + 64 * i) x))) (TailEntry (at + 64 * i)))), sym (had.found h)) (rw has at c.in_ok-push_if.ensures);

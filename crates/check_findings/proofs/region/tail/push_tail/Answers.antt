@@ -13,7 +13,7 @@ returns-in_default-clause-found g c = λ h. rw (sym (c.in_ok-filled.ensures.foun
 pub returns-clause-found : goal.returns-clause-found
 unfolding tail_findings
 returns-clause-found g c = λ h.
-    let read = c.in_ok-filled.ensures.after.read.device in
+    let read = c.in_ok-filled.ensures.calls.read.device in
     let before = c.args.findings.now.items in
     let at = c.args.at in
     let x = bytes_in c.args.region c.args.paged.now.device.content in
