@@ -1,5 +1,7 @@
 pub mod Parts
 pub mod Fillings
+mod Updates
+mod Entries
 mod DescriptorLemmas
 mod PartitionTableLemmas
 mod ResetVectorLemmas
@@ -9,3 +11,4 @@ mod SlotLemmas
 mod HeaderLemmas
 mod BlockRules
 mod SlotRules
+mod TableRules

@@ -1,7 +1,9 @@
 -- The rules of sound structures, in the terms of their formats.
-use Rattle.std.specs.Prelude.{◌≡◌, ◌⊎◌, ℕ, ◌+◌, ◌-◌, ◌^◌, ◌≤◌, List, length, take, slice_range, Some, None}
+use Rattle.std.specs.Prelude.{◌≡◌, ◌⊎◌, ℕ, ◌+◌, ◌-◌, ◌*◌, ◌/◌, ◌%◌, ◌^◌, ◌<◌, ◌≤◌, true, List, length, take, slice_range, Some, None}
 use Rattle.std.specs.List.{position}
 use Rattle.flash_format.specs.Entry.{is_nul}
+use Rattle.flash_format.specs.Flashmap.{le}
+use Rattle.board_structures.specs.FirmwareTables.{entry_at, has_table_at, place_of, stated_len, word_sum}
 use Rattle.board_structures.specs.GoogleBinaryBlocks as blocks
 use Rattle.board_structures.specs.GoogleBinaryBlocks.{digest_of, hardware_id_fault, header_of, key_fault_at}
 use Rattle.board_structures.specs.MasterHeaders as headers
@@ -74,3 +76,29 @@ pub record IsHeaderOfArea (start at : ℕ) (h : HeaderFields) (x : List ℕ) : T
   pub end : h.end ≡ start + length x
   pub alignment : h.alignment ≡ 64
   pub pointer : pointer_in x + length x ≡ at + 2 ^ 32
+
+-- the update of n bytes at a place is whole
+pub record IsWholeUpdate (place n : ℕ) (image : List ℕ) : Type 0 where
+  pub version : le 4 0 (slice_range image place (place + 48)) ≡ 1
+  pub inside : place + n ≤ length image
+  pub words : n % 4 ≡ 0
+  pub sum : word_sum (n / 4) place image % 2 ^ 32 ≡ 0
+
+-- at this address is an empty slot, or a whole update
+pub record IsAcceptedAddress (address : ℕ) (image : List ℕ) : Type 0 where
+  pub aligned : address % 16 ≡ 0
+  pub place : ℕ
+  pub mapped : place_of (length image) address ≡ Some place
+  pub inside : place + 48 ≤ length image
+  pub update : (le 4 0 (slice_range image place (place + 48)) ≡ 0xffffffff)
+      ⊎ IsWholeUpdate place (stated_len (slice_range image place (place + 48))) image
+
+-- the table at a place has this number of entries, and a processor accepts each of its updates
+pub record IsUsableTable (place count : ℕ) (image : List ℕ) : Type 0 where
+  pub signature : has_table_at place image ≡ true
+  pub stated : count ≡ (entry_at place image).count
+  pub some : 1 ≤ count
+  pub inside : place + 16 * count ≤ length image
+  pub updates : (number : ℕ) → 1 ≤ number → number < count
+      → (entry_at (place + 16 * number) image).kind ≡ 1
+      → IsAcceptedAddress (entry_at (place + 16 * number) image).address image

@@ -1,4 +1,5 @@
 pub mod Filling
+pub mod FirmwareTables
 pub mod Magics
 pub mod Descriptors
 pub mod PackedKeys

@@ -82,3 +82,18 @@ unfoldable pub small_header_area : List ℕ
 small_header_area = codes "ORBC1112" ++ (0 ∷ 0 ∷ 1 ∷ 0x40 ∷ 0 ∷ 0 ∷ 0 ∷ 0
     ∷ 0 ∷ 0 ∷ 0 ∷ 0x40 ∷ 0 ∷ 0 ∷ 1 ∷ 0 ∷ []) ++ replicate 8 0 ++ replicate 28 0xff
     ++ (0xc0 ∷ 0xff ∷ 0xff ∷ 0xff ∷ [])
+
+-- an update of 48 bytes: the version 1, a word that makes the sum of all words 2^32, zeros, the
+-- length and zeros
+unfoldable pub small_update : List ℕ
+small_update = (1 ∷ 0 ∷ 0 ∷ 0 ∷ 0xcf ∷ 0xff ∷ 0xff ∷ 0xff ∷ []) ++ replicate 24 0
+    ++ (48 ∷ 0 ∷ 0 ∷ 0 ∷ []) ++ replicate 12 0
+
+-- An image of 144 bytes: these 48 bytes, a firmware interface table that counts these entries and
+-- has one for an update at the start of the image, and the pointer to the table.
+unfoldable pub image_with_table : List ℕ → ℕ → List ℕ
+image_with_table update count = update
+    ++ codes "_FIT_   " ++ (count ∷ 0 ∷ 0 ∷ 0 ∷ 0 ∷ 1 ∷ 0 ∷ 0 ∷ [])
+    ++ (0x70 ∷ 0xff ∷ 0xff ∷ 0xff ∷ 0 ∷ 0 ∷ 0 ∷ 0 ∷ [])
+    ++ (0 ∷ 0 ∷ 0 ∷ 0 ∷ 0 ∷ 1 ∷ 1 ∷ 0 ∷ [])
+    ++ (0xa0 ∷ 0xff ∷ 0xff ∷ 0xff ∷ 0 ∷ 0 ∷ 0 ∷ 0 ∷ []) ++ replicate 56 0

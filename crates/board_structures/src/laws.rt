@@ -6,9 +6,10 @@ ghost use Rattle.flash_format.specs.declared.flashmap.Area.{Area};
 ghost use Rattle.board_structures.specs.Descriptors as descriptors;
 ghost use Rattle.board_structures.specs.Descriptors.{area_name_of, base_of, descriptor_in, difference_in, limit_of};
 ghost use Rattle.board_structures.specs.Filling.{each_byte_is};
+ghost use Rattle.board_structures.specs.FirmwareTables.{firmware_table_in, table_place};
 ghost use Rattle.board_structures.specs.GoogleBinaryBlocks as blocks;
 ghost use Rattle.board_structures.specs.GoogleBinaryBlocks.{gbb_in, header_of, text_fault};
-ghost use Rattle.board_structures.specs.Laws.{HasDigest, IsCoveredSlot, IsHeaderOfArea, IsUsableBlock, IsUsableKey};
+ghost use Rattle.board_structures.specs.Laws.{HasDigest, IsCoveredSlot, IsHeaderOfArea, IsUsableBlock, IsUsableKey, IsUsableTable};
 ghost use Rattle.board_structures.specs.MasterHeaders.{fields_of, master_header_in};
 ghost use Rattle.board_structures.specs.PackedKeys.{key_fault};
 ghost use Rattle.board_structures.specs.PartitionTables as tables;
@@ -19,6 +20,7 @@ ghost use Rattle.board_structures.specs.SignedSlots as slots;
 ghost use Rattle.board_structures.specs.SignedSlots.{keyblock_of, signed_slot_in};
 ghost use Rattle.board_structures.specs.declared.descriptor.DescriptorRegion.{DescriptorRegion};
 ghost use Rattle.board_structures.specs.declared.descriptor.RegionTable.{RegionTable};
+ghost use Rattle.board_structures.specs.declared.firmware_table.FirmwareTable.TheVariants as firmware_tables;
 ghost use Rattle.board_structures.specs.declared.gbb.GbbHeader.{GbbHeader};
 ghost use Rattle.board_structures.specs.declared.master_header.MasterHeader.TheVariants as headers;
 ghost use Rattle.board_structures.specs.declared.packed_key.PackedKey.{PackedKey};
@@ -84,4 +86,12 @@ pub fn signed_slots_are_covered()
 pub fn sound_headers_are_of_their_area()
     ensures { (start at : ℕ) (x : List ℕ) → master_header_in start at x ≡ headers.Sound
         → IsHeaderOfArea start at (fields_of (slice_range x at (at + 32))) x }
+{}
+
+/// A sound Firmware Interface Table is where the image points to, and each update of its entries is
+/// whole: it has the version 1, and the sum of its words is a multiple of 2^32.
+pub fn sound_tables_are_usable()
+    ensures { (image : List ℕ) (count : ℕ)
+        → firmware_table_in image ≡ firmware_tables.Sound count
+        → (place : ℕ) × (table_place image ≡ Some place) × IsUsableTable place count image }
 {}

@@ -3,14 +3,18 @@
 ghost use Rattle.std.specs.Prelude.{◌≡◌, [], ◌∷◌, ◌++◌, drop, replicate, take, Some, None};
 ghost use lib.Chars.{codes};
 ghost use Rattle.board_structures.specs.Descriptors.{descriptor_in, difference_in, range_of};
+ghost use Rattle.board_structures.specs.FirmwareTables.{firmware_table_in};
 ghost use Rattle.board_structures.specs.GoogleBinaryBlocks.{gbb_in};
 ghost use Rattle.board_structures.specs.MasterHeaders.{master_header_in};
 ghost use Rattle.board_structures.specs.PartitionTables.{partition_table_in};
 ghost use Rattle.board_structures.specs.ResetVectors.{reset_vector_in};
-ghost use Rattle.board_structures.specs.Samples.{area_with, old_me, small_block, small_body, small_descriptor, small_end, small_header_area, small_me, small_preamble, small_table};
+ghost use Rattle.board_structures.specs.Samples.{area_with, image_with_table, old_me, small_block, small_body, small_descriptor, small_end, small_header_area, small_me, small_preamble, small_table, small_update};
 ghost use Rattle.board_structures.specs.SignedSlots.{preamble_state, signed_slot_in};
 ghost use Rattle.board_structures.specs.declared.descriptor.Descriptor.TheVariants as descriptors;
 ghost use Rattle.board_structures.specs.declared.descriptor.DescriptorRegion.TheVariants.{Bios, Gbe, Me};
+ghost use Rattle.board_structures.specs.declared.firmware_table.FirmwareTable.TheVariants as firmware_tables;
+ghost use Rattle.board_structures.specs.declared.firmware_table.TableFault.TheVariants as table_faults;
+ghost use Rattle.board_structures.specs.declared.firmware_table.UpdateFault.TheVariants as update_faults;
 ghost use Rattle.board_structures.specs.declared.gbb.Gbb.TheVariants as blocks;
 ghost use Rattle.board_structures.specs.declared.gbb.GbbFault.TheVariants as block_faults;
 ghost use Rattle.board_structures.specs.declared.gbb.GbbField.TheVariants.{RecoveryKey};
@@ -87,6 +91,30 @@ pub fn master_headers_have_their_states()
         ≡ headers.Broken (header_faults.Start 0x100) }
     ensures pointer { master_header_in 0x100 0 (take 60 small_header_area ++ replicate 4 0xff)
         ≡ headers.Broken (header_faults.Pointer 0xffffffff) }
+{}
+
+/// A literal image with a firmware interface table and an update, one without a table, with tables
+/// that count no entry and too many, and with an empty slot and two broken updates.
+pub fn firmware_tables_have_their_states()
+    ensures sound { firmware_table_in (image_with_table small_update 2)
+        ≡ firmware_tables.Sound 2 }
+    ensures absent { firmware_table_in (replicate 144 0x00) ≡ firmware_tables.Absent }
+    ensures empty { firmware_table_in (image_with_table small_update 0)
+        ≡ firmware_tables.Broken table_faults.Empty }
+    ensures cut_off { firmware_table_in (image_with_table small_update 7)
+        ≡ firmware_tables.Broken table_faults.CutOff }
+    ensures slot { firmware_table_in (image_with_table (replicate 48 0xff) 2)
+        ≡ firmware_tables.Sound 2 }
+    ensures version { firmware_table_in (image_with_table (0x02 ∷ drop 1 small_update) 2)
+        ≡ firmware_tables.Broken (table_faults.Entry (record {
+          number = 1;
+          fault = update_faults.Version 2;
+        })) }
+    ensures sum { firmware_table_in (image_with_table (take 47 small_update ++ 0x01 ∷ []) 2)
+        ≡ firmware_tables.Broken (table_faults.Entry (record {
+          number = 1;
+          fault = update_faults.Sum;
+        })) }
 {}
 
 /// Areas without a keyblock.
