@@ -1,8 +1,11 @@
 """What cbfscheck has to report of an image, and of two, by what `layout` and `print -v` show of them; for checks/fuzz."""
-import collections, re
+import collections, pathlib, re
 
-from harness import FORMAT
-
+FORMAT = (pathlib.Path(__file__).resolve().parent.parent / "docs" / "FORMAT.md").read_text("utf-8")
+# the digests by their names, in FORMAT.md's table of the hash attribute
+ALGORITHMS = re.search(r"^\| 8 to 11 \| the algorithm: .*", FORMAT, re.MULTILINE)[0]
+DIGESTS = {f"sha{bits}": int(number)
+           for number, bits in re.findall(r"(\d+) for SHA-(\d+)", ALGORITHMS)}
 BLOCK = 4096
 CHECKED, COMPARED = 2, 8
 MOST_OF_A_KIND = 16

@@ -47,7 +47,7 @@ class Options(ProgramTest):
     def test_bash(self):
         seal = self.offered("bash", "-c", BASH, "bash", "-")
         self.assertEqual(sorted(seal), sorted(SEAL_OPTIONS))
-        words = ["bash", "--norc", "--noprofile", "checks/complete.bash", TOP / "completion"]
+        words = ["bash", "--norc", "--noprofile", "tests/shells/complete.bash", TOP / "completion"]
         self.assertEqual(sorted(self.offered(*words, "cbfscheck -")), sorted(CHECK_OPTIONS))
 
     def test_zsh(self):

@@ -9,7 +9,7 @@ import subprocess
 import sys
 import unittest
 
-from tests.programs import TOP, Folder
+from tests.programs import NAMES, TOP, Folder
 
 LIST = "# a comment\nsources   one\nby-hand   two: it is slow\n"
 TEST = "def test_a():\n    assert True\n    assert 1\n"
@@ -70,6 +70,22 @@ class Skips(unittest.TestCase):
         done = subprocess.run(words, env={"PATH": str(folder.path)}, stdout=subprocess.PIPE,
                               text=True)
         self.assertEqual((done.returncode, done.stdout), (0, "to be skipped: cc (2)\n"))
+
+    def test_programs_that_are_missing(self):
+        """Without rt, and without built programs, checks/tests says what it needs."""
+        folder = Folder()
+        self.addCleanup(folder.remove)
+        (folder.path / "checks").mkdir()
+        shutil.copy(TOP / "checks" / "tests", folder.path / "checks" / "tests")
+        built = ", ".join(f"crates/{name}/out/{name}" for name in NAMES)
+        for words, needed in [
+            ([], "rt, which is not on PATH"),
+            (["--built"], f"{built}, which is not built: run make"),
+        ]:
+            done = subprocess.run([sys.executable, "checks/tests", *words], cwd=folder.path,
+                                  env={"PATH": "/usr/bin:/bin"}, stdout=subprocess.PIPE,
+                                  stderr=subprocess.STDOUT, text=True)
+            self.assertEqual((done.returncode, done.stdout), (1, f"tests: needs {needed}\n"))
 
     def test_parts_of_scripts(self):
         """The list has one script, of which a part needs one tool that is missing and another."""

@@ -6,6 +6,7 @@ blanks for all white space, and of a manual page with macros as they stand. A do
 another number lacks the text, and so does a source with another constant.
 """
 
+import datetime
 import functools
 import json
 import re
@@ -300,7 +301,8 @@ FACTS = [
     (FORMAT, "without those of more than {} bytes, which the firmware does not find", [SEALED]),
     (FORMAT, "| 13 | `metadata longer than {} bytes at 0x40` |", [SEALED]),
     (TOOL, "{} bytes for the head, and for the end of the name; .It the length of the name in "
-     "bytes, rounded down to a multiple of 4; .It {} bytes for a digest by .Fl A Cm sha256 , {} by .Fl A Cm sha512 .",
+     "bytes, rounded down to a multiple of 4; .It {} bytes for a digest by .Fl A Cm sha256 , {} by "
+     ".Fl A Cm sha512 .",
      [the(24 + 4), lambda: 12 + hash_size("sha256"), lambda: 12 + hash_size("sha512")]),
     (FORMAT, "| 4 to 7 | the length: {} for SHA-256, {} for SHA-512 |",
      [lambda: 12 + hash_size("sha256"), lambda: 12 + hash_size("sha512")]),
@@ -469,6 +471,57 @@ class Refusals(ProgramTest):
             self.assertEqual(shown, stated, page)
             self.assertEqual([int(number) for number, _ in stated],
                              list(range(1, len(stated) + 1)))
+
+    def stated_in(self, *names):
+        """Returns numbers and texts of the refusals of sources, with the pages' placeholders."""
+        found = []
+        for name in names:
+            for number, text in re.findall(r'/// (\d+): (?:(?!///  *\d).)*?#\[error\("(.*?)"',
+                                           text_of(f"crates/{name}"), re.DOTALL):
+                text = text.replace("{at:#x}: {}", "0x40: extent").replace("{what}", "W")
+                found.append((number, re.sub(r"\{(at|section)\}", "N", text)))
+        return sorted(((int(number), text) for number, text in found if text != "{0}"))
+
+    def test_the_refusals_of_the_sources(self):
+        for page, names in [
+            (TOOL, ["cbfs_requests/src/refusal.rt"]),
+            (COMPILER, ["fmd_lang/src/fault.rt", "fmap_compiler/src/refusal.rt"]),
+        ]:
+            shown = self.rows(page, r"^\.It (\d+) Qq (.*)$")
+            self.assertEqual(self.stated_in(*names), [(int(n), text) for n, text in shown], page)
+
+    def literals(self, page, item):
+        """Returns the literal texts of a refusal of a page, without what is in parentheses."""
+        text = re.split(r"^\.It \d", text_of(page).split(f"\n.It {item}\n")[1], flags=re.M)[0]
+        found = re.findall(r"^\.Ql (.*?)(?: [,.])?$", text, re.MULTILINE)
+        return sorted(one.replace("\\&", "") for one in found)
+
+    def test_each_refusal_is_expected_by_a_test(self):
+        """The text of each refusal is in a file of tests that runs its program."""
+        files = [path.name for path in (TOP / "tests").glob("test_*.py")]
+        tests = {name: text_of(f"tests/{name}") for name in files if name != "test_documents.py"}
+        for page, name in ((TOOL, "cbfstool"), (COMPILER, "fmaptool")):
+            for _, text in self.rows(page, r"^\.It (\d+) Qq (.*)$"):
+                start = re.split(r" (?:at )?(?:0x40|[NW])\b", text)[0]
+                with self.subTest(name, text=text):
+                    expecting = [one for one in tests.values() if start in one and name in one]
+                    self.assertTrue(expecting)
+
+    def test_the_kinds_of_damage(self):
+        """The page has their names, and FORMAT.md their numbers."""
+        names = re.findall(r'=> "(.*)",', text_of("crates/flash_format/src/damage_name.rt"))
+        self.assertEqual(self.literals(TOOL, "9 Qq damaged entry at 0x40: extent"), sorted(names))
+        enum = text_of("crates/flash_format/src/head.rt").split("pub enum DamageKind")[1]
+        kinds = re.findall(r"^    (\w+) = (\d+),$", enum.split("\n}")[0], re.MULTILINE)
+        entries = text_of(FORMAT).split("\n## Entries\n")[1].split("\n## ")[0]
+        stated = re.findall(r"^\| (\d+) (\w+) \|", entries, re.MULTILINE)
+        self.assertEqual([(name, number) for number, name in stated], kinds)
+
+    def test_the_expected_words(self):
+        enum = text_of("crates/fmd_lang/src/fault.rt").split("pub enum Expected")[1]
+        words = re.findall(r'#\[error\("(.*)"\)\]', enum.split("\n}")[0])
+        stated = self.literals(COMPILER, "6 Qq expected W at N")
+        self.assertEqual(stated, sorted(word.replace("}}", "}") for word in words))
 
 
 ALGORITHMS = ["sha1", "sha224", "sha256", "sha384", "sha512"]
@@ -766,6 +819,210 @@ class Orders(ProgramTest):
             ("--need x image.rom image.rom", b"bad need 'x'"),
         ]:
             self.assertIn(wanted, ran(f"cbfscheck {line}").message, line)
+
+
+# ---- Names of the sources in documents
+
+
+@functools.lru_cache(None)
+def sources(*patterns):
+    """Returns the texts of all files of the crates with these patterns, by their paths."""
+    paths = [path for pattern in patterns for path in TOP.glob(f"crates/*/{pattern}")]
+    return {str(path.relative_to(TOP)): path.read_text(encoding="utf-8") for path in sorted(paths)}
+
+
+@functools.lru_cache(None)
+def names_of_sources():
+    """Returns all names that sources, definitions, edits and crates have."""
+    names = {path.name for path in (TOP / "crates").iterdir()}
+    names |= {path.stem for path in TOP.glob("crates/*/must-fail/*.edit")}
+    for text in sources("src/**/*.rt").values():
+        names |= set(re.findall(r"\b(?:fn|struct|enum|trait|type|mod|const) (\w+)", text))
+        names |= set(re.findall(r"^\s+(?:pub )?(\w+): ", text, re.MULTILINE))
+    for text in sources("specs/**/*.antt", "proofs/**/*.antt").values():
+        names |= set(re.findall(r"^ *(?:\w+ )*?([A-Za-z][\w']*) ?[:({]", text, re.MULTILINE))
+        names |= set(re.findall(r"\b(?:data|record) ([\w']+)", text))
+    return names
+
+
+class Identifiers(unittest.TestCase):
+    """Each name of a function, definition, law, test or edit that a document marks exists."""
+
+    DOCUMENTS = ("docs/PROMISES.md", "docs/VERIFICATION.md", "docs/MISTAKES.md")
+    NAME = re.compile(r"[a-z]\w*_\w+|[A-Z][a-z]\w*[A-Z]\w*")
+
+    def test_each_name(self):
+        count = 0
+        for document in self.DOCUMENTS:
+            text = re.sub(r"```.*?```", "", text_of(document), flags=re.DOTALL)
+            for name in sorted(set(re.findall(r"`([^`\n]+)`", text))):
+                if self.NAME.fullmatch(name):
+                    count += 1
+                    with self.subTest(document, name=name):
+                        self.assertIn(name, names_of_sources())
+        self.assertGreater(count, 100)
+
+
+PROGRAM_CRATES = ("library_tests", *NAMES)
+
+
+class Crates(unittest.TestCase):
+    """The README of a crate names just what the crate has for others."""
+
+    def exported(self, crate):
+        """Returns the names that a crate exports."""
+        text = text_of(f"crates/{crate}/src/lib.rt")
+        names = set(re.findall(r"^pub mod (\w+);", text, re.MULTILINE))
+        for path, listed in re.findall(r"^pub use ([\w:]+?)(?:::\{(.*?)\})?;", text,
+                                       re.MULTILINE | re.DOTALL):
+            found = listed or path.split("::")[-1]
+            names |= set(re.findall(r"\w+", re.sub(r"\w+::", "", found)))
+        return names
+
+    def test_each_crate(self):
+        for path in sorted((TOP / "crates").iterdir()):
+            crate = path.name
+            text = text_of(f"crates/{crate}/README.md")
+            with self.subTest(crate):
+                self.assertEqual(text.splitlines()[0], f"# {crate}")
+                if crate in PROGRAM_CRATES:
+                    continue
+                names = self.exported(crate)
+                for others in re.findall(r"re-exports all names of (.*)", text):
+                    for other in re.findall(r"\[([a-z_]+)\]", others):
+                        self.assertLessEqual(self.exported(other), names)
+                        names -= self.exported(other)
+                tables = re.findall(r"^\|---.*\n((?:\|.*\n)*)", text, re.MULTILINE)
+                cells = [row.split("|")[1] for row in "".join(tables).splitlines()]
+                listed = [name for cell in cells for name in re.findall(r"`([^`]+)`", cell)]
+                self.assertEqual(sorted(listed), sorted(names))
+
+
+class Walks(unittest.TestCase):
+    """The walks of DEVELOPING.md lead through files with the names that they state."""
+
+    WALKS = ["An added file with a digest", "A check of two images", "A descriptor"]
+
+    def steps(self, title):
+        """Returns the steps of a walk: the file, the names, and the files of definitions."""
+        text = text_of("docs/DEVELOPING.md").split(f"\n### {title}\n")[1].split("\n## ")[0]
+        for line in re.findall(r"^\d+\. (.*)$", text.split("\n### ")[0], re.MULTILINE):
+            file, rest = re.fullmatch(r"`([^`]+)`: (.*)", line).groups()
+            names, _, cited = rest.partition("Definitions: ")
+            yield file, re.findall(r"`([^`]+)`", names), re.findall(r"`([^`]+)`", cited)
+
+    def check_step(self, file, names, cited):
+        """Returns the paths of the definitions that the file of the step uses."""
+        text = text_of(f"crates/{file}")
+        for name in names:
+            self.assertRegex(text, rf"(?<!\w){re.escape(name)}(?!\w)", file)
+        for name in cited:
+            # (a file of definitions of the step's own crate needs no crate)
+            whole = name if "/" in name else f"{file.split('/')[0]}/{name}"
+            crate, _, path = whole.partition("/")
+            self.assertTrue((TOP / "crates" / crate / "specs" / f"{path}.antt").exists(), whole)
+            self.assertRegex(text, rf"Rattle\.{crate}\.specs\.{path.replace('/', '.')}\b", file)
+            yield whole
+
+    def test_each_step(self):
+        for title in self.WALKS:
+            files, definitions, count = [], [], 0
+            for file, names, cited in self.steps(title):
+                with self.subTest(title, file=file):
+                    definitions += self.check_step(file, names, cited)
+                files.append(file)
+                count += len(names) + len(cited)
+            self.assertGreater(len(files), 10)
+            self.assertGreater(count, 30)
+            self.assertEqual(len(files), len(set(files)), "a file is in two steps")
+            self.assertEqual(len(definitions), len(set(definitions)), "definitions in two steps")
+
+    def test_the_files_that_a_change_affects(self):
+        text = text_of("docs/DEVELOPING.md").split("\n## What a change affects\n")[1]
+        names = set(re.findall(r"`([A-Za-z_\d/]+\.(?:rt|antt|edit|1|5|json))`",
+                               text.split("\n## How a proof")[0]))
+        self.assertGreater(len(names), 40)
+        for name in sorted(names):
+            with self.subTest(name):
+                found = [*TOP.glob(f"crates/**/{name}"), *TOP.glob(f"docs/{name}"),
+                         *TOP.glob(f"man/{name}"), *TOP.glob(name)]
+                self.assertTrue([path for path in found if "/out/" not in str(path)])
+
+    def test_the_examples_of_code(self):
+        """Each line of an example stands so in a source, a proof, an edit or a test."""
+        text = text_of("docs/DEVELOPING.md")
+        parts = [text.split("\n## One contract")[1].split("\n## A failed proof")[0],
+                 text.split("\n## How a proof")[1].split("\n## The gate")[0]]
+        blocks = re.findall(r"^```\w*\n(.*?)^```", "".join(parts), re.MULTILINE | re.DOTALL)
+        lines = [line for block in blocks for line in block.splitlines() if line.strip()]
+        self.assertGreater(len(lines), 10)
+        whole = "\n".join(sources("src/**/*.rt", "specs/**/*.antt", "proofs/**/*.antt",
+                                  "must-fail/*.edit").values())
+        whole += "\n".join(path.read_text("utf-8") for path in (TOP / "tests").glob("*.py"))
+        for line in lines:
+            with self.subTest(line):
+                self.assertIn(line, whole)
+
+
+class Versions(unittest.TestCase):
+    """All places name the version of the file VERSION."""
+
+    def test_each_place(self):
+        version = text_of("VERSION").strip()
+        self.assertRegex(version, r"^\d+(\.\d+)+$")
+        for page in (TOOL, COMPILER, LANGUAGE, CHECK, SEAL):
+            history = text_of(page).split("\n.Sh HISTORY\n")[1]
+            self.assertIn(f"\nThis page is of version {version}.\n", f"\n{history}", page)
+        self.assertIn(f"cbfscheck {version}", text_of("crates/cbfscheck/src/texts.rt"))
+        head = r"^## (.*)\n\nReleased on (.*)\.$"
+        newest = re.search(head, text_of("CHANGELOG.md"), re.MULTILINE)
+        self.assertEqual(newest[1], version)
+        datetime.datetime.strptime(newest[2], "%B %d, %Y")
+
+
+# What the first 40 lines of the description of a page answer.
+FIRST_SCREENS = [
+    (TOOL, ".Dl cbfstool image.rom print"), (TOOL, ".Xr cbfscheck 1"),
+    (CHECK, ".Dl cbfscheck -r COREBOOT image.rom"), (CHECK, ".Ss Not checked"),
+    (COMPILER, ".Dl fmaptool board.fmd board.fmap"), (LANGUAGE, "COREBOOT(CBFS)"),
+]
+# Wordings that users have misread.
+MISREAD = [
+    "fit to be flashed", r"\b(is|are) told\b", r", of which\b", r"\bso is\b",
+    "any device call fails", "what is there is lost", "bad where a command", "it always hides that",
+]
+
+
+class FirstScreens(unittest.TestCase):
+    """A page and the README begin with what most readers look for."""
+
+    def test_each_page(self):
+        for page, text in FIRST_SCREENS:
+            with self.subTest(page, text=text):
+                lines = text_of(page).split("\n.Sh DESCRIPTION\n")[1].splitlines()[:40]
+                self.assertIn(text, "\n".join(lines).replace("\\-", "-"))
+
+    def test_the_readme(self):
+        readme = text_of(README)
+        first = "\n".join(readme.splitlines()[:14])
+        for command in ("make cbfstool", "make test"):
+            self.assertIn(f"\n| `{command}` |", first)
+        promised = readme.split("\n## What is promised")[1].split("\n## Building")[0]
+        self.assertEqual(len(re.findall(r"^\d+\. ", promised, re.MULTILINE)), 3)
+        pictures = re.findall(r"^!\[.*\]\((.*)\)$", readme, re.MULTILINE)
+        self.assertLess(readme.index("\n## Getting it\n"), readme.index("\n!["))
+        for picture in pictures:
+            self.assertIn(text_of(picture).count("<rect x="), range(3, 9), picture)
+
+    def test_wordings(self):
+        names = [f"man/{path.name}" for path in (TOP / "man").iterdir()]
+        names += [README, "CONTRIBUTING.md", "dist/README.md", "docs/MOVING.md", "CHANGELOG.md"]
+        for name in names:
+            # (a text may be broken by a macro or a line)
+            text = re.sub(r"(?m)^\.[A-Z][a-z]? ", "", text_of(name)).replace("\n", " ")
+            for wording in MISREAD:
+                with self.subTest(name, wording=wording):
+                    self.assertNotRegex(text, wording)
 
 
 if __name__ == "__main__":

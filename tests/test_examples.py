@@ -1,6 +1,7 @@
 """Runs the scripts of dist/examples where a user's image, names or timing differ from the usual.
 
-checks/recipes runs each script as the manual pages call it; the cases here are those in which a
+tests/test_recipes.py runs the scripts as the manual pages call them, and
+tests/test_example_boards.py runs them on several regions. The cases here are those in which a
 script could lose or damage data, or refuse a name that the format allows.
 """
 

@@ -3,7 +3,7 @@
 from tests.mutants import Mutant
 
 TESTS = ("test_bash_completion", "test_zsh_completion", "test_fish_completion",
-         "test_completion_options", "checks/completion", "checks/claims")
+         "test_completion_options", "test_completion_offers")
 
 
 def of(file, title, old, new, harm, test, is_new=True):
@@ -11,6 +11,7 @@ def of(file, title, old, new, harm, test, is_new=True):
     return Mutant(title, f"completion/{file}", old, new, harm, test, (), is_new)
 
 
+OFFERS = "test_completion_offers"
 BASH, ZSH, FISH = "test_bash_completion", "test_zsh_completion", "test_fish_completion"
 
 MUTANTS = [
@@ -23,20 +24,20 @@ MUTANTS = [
        BASH, is_new=False),
     of("cbfstool.bash", "bash offers the names of free space",
        "[[ $row != $free ]] || continue\n", "\n", "The offered component does not exist.",
-       "checks/completion"),
+       f"{OFFERS}.BashOffers"),
     of("cbfstool.bash", "bash offers regions without a CBFS",
        '[[ -z $first ]] || held+=("$name")', 'held+=("$name")', "The offered region is refused.",
-       "checks/completion"),
+       f"{OFFERS}.BashOffers"),
     of("cbfstool.bash", "bash offers -a beside -b",
        "[[ $option == a ]] && _cbfstool_given b && continue\n", "\n",
        "The completed line is a bad command line.",
-       "checks/completion"),
+       f"{OFFERS}.BashOffers"),
     of("cbfstool.bash", "bash offers no option -v of print",
        'print) options="r v" ;;', 'print) options="r" ;;', "A user does not find -v.",
-       "checks/completion"),
+       f"{OFFERS}.BashOffers"),
     of("cbfstool.bash", "bash does not offer the type microcode",
        "vsa mbi microcode fsp", "vsa mbi fsp", "A user types a number.",
-       "checks/completion"),
+       f"{OFFERS}.BashOffers"),
     of("cbfscheck.bash", "bash asks the cbfstool of PATH",
        "[[ ${texts[0]} != */* ]] || tool=${texts[0]%/*}/cbfstool\n", "\n",
        "./cbfscheck offers nothing, or the areas by another program.",
@@ -80,12 +81,17 @@ MUTANTS = [
     of("cbfscheck.fish", "fish offers more than two images",
        "test (count $images) -lt 2", "test (count $images) -lt 9",
        "The completed line is refused.",
-       "checks/completion"),
+       f"{OFFERS}.FishOffers"),
     of("cbfsseal.fish", "fish describes -v of cbfsseal wrongly",
        '-s v -d "print both digests"', '-s v -d "print the version"',
        "A user takes -v for --version.",
        "test_completion_options.Options"),
     of("fmaptool.fish", "fish offers a third file to fmaptool",
        "-lt 3' -F", "-lt 4' -F", "The completed line is a bad command line.",
-       "checks/completion"),
+       f"{OFFERS}.FishOffers"),
+    of("cbfstool.bash", "bash offers areas of a locked image after a minute",
+       'timeout 1 "$tool" "$@"', 'timeout 60 "$tool" "$@"', "The shell hangs at TAB.",
+       f"{OFFERS}.BashOffers.test_a_locked_image"),
+    of("_cbfstool", "zsh offers no value of an option in one word",
+       "compset -P '*,'", "true", "A second region is not completed.", f"{OFFERS}.ZshOffers"),
 ]

@@ -2,8 +2,8 @@
 
 from tests.mutants import Mutant
 
-# (checks/install and checks/planted need programs that are built by `make`)
-TESTS = ("test_packages", "test_documents")
+TESTS = ("test_packages", "test_installation", "test_documents")
+INSTALLED = "test_installation.Installations"
 
 
 def of(file, title, old, new, harm, test, is_new=True):
@@ -123,4 +123,50 @@ MUTANTS = [
        'ln "$folder/samples/types.rom" "$work/image.rom"',
        "make in a read-only tree fails, and changes modes.",
        "test_packages.Contents.test_the_sample_stays"),
+
+    # ---- what is installed runs
+    of("Makefile", "the completions of fish are not installed",
+       '"$(DESTDIR)$(FISH_FILES)/$$name.fish" || exit; done', "/dev/null || exit; done",
+       "A user of fish has no completions.", f"{INSTALLED}.test_all_files"),
+    of("Makefile", "the installed scripts may not be run",
+       "&& chmod 755 $(patsubst", "&& chmod 644 $(patsubst", "A recipe is refused by the shell.",
+       f"{INSTALLED}.test_all_files"),
+    of("Makefile", "uninstall leaves a page",
+       "for file in $(FILES); do rm", "for file in $(filter-out %.5,$(FILES)); do rm",
+       "man shows a page of a program that is gone.", f"{INSTALLED}.test_all_files"),
+    of("Makefile", "zsh completes a program without the suffix",
+       "$(NAMED) completion/_$$program >", "cat completion/_$$program >",
+       "A user of zsh has no completions.", f"{INSTALLED}.test_completions"),
+    of("Makefile", "installed examples call programs without the suffix",
+       " -e '/^[^.]/s/$(NAMES)/\\1$(ESCAPED)\\2/g'", "",
+       "The examples run coreboot's programs.",
+       f"{INSTALLED}.test_examples_of_pages_with_a_suffix"),
+    of("Makefile", "make install does not name programs of the same names",
+       '[ ! -x "$$folder/$$program" ] ||', "true ||", "A user runs another program unknowingly.",
+       f"{INSTALLED}.test_programs_of_the_same_names"),
+    of("dist/README.md", "the session of the archive lists another size",
+       "(empty)\t0x80\tnull\t42848\tnone", "(empty)\t0x80\tnull\t42847\tnone",
+       "A user takes a right output for a fault.", "test_installation.Packages.test_the_archive"),
+    of("Makefile", "packed pages have the time of the packing",
+       'gzip -9n "$(DESTDIR)$(MAN1)"', 'gzip -9 "$(DESTDIR)$(MAN1)"',
+       "Nobody can build the same package.", "test_installation.Packages.test_the_package"),
+    of("Makefile", "the package depends on the oldest C library",
+       "sort -Vu | tail -n 1)", "sort -Vu | head -n 1)", "The programs do not start.",
+       "test_installation.Packages.test_the_fields_of_the_package"),
+    of("Makefile", "the archive has the owner of its builder",
+       "--owner=0 --group=0 --numeric-owner -cf", "-cf", "Nobody can build the same archive.",
+       "test_installation.Reproducible"),
+    of("Makefile", "make test is the quick test",
+       "test: ; @checks/gate", "test: ; @checks/check", "A change is merged without a proof.",
+       "test_installation.Builds.test_make_test_is_the_gate"),
+    of("Makefile", "make clean leaves the built programs",
+       "rm -rf out crates/*/out", "rm -rf out", "An old program is taken for a new one.",
+       "test_installation.Builds.test_a_library_that_fmaptool_does_not_use"),
+    of("Makefile", "an old program is not named",
+       'echo "$@ is older than', 'true "$@ is older than',
+       "A user does not see why make builds again.",
+       "test_installation.Builds.test_old_programs"),
+    of("prove", "a missing rt has another status",
+       "(README, \"Building\")' >&2 && exit 1; }", "(README, \"Building\")' >&2 && exit 0; }",
+       "A script goes on without a program.", "test_installation.Builds.test_without_rt"),
 ]

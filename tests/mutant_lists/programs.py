@@ -25,7 +25,7 @@ TESTS = (
     "test_empty_path", "test_seal", "test_seal_faults", "test_interrupts",
     "test_standard_descriptors", "test_fmaptool", "test_create", "test_unusual_files",
     "test_command_line", "test_print", "test_layout", "test_extract", "test_add", "test_remove",
-    "test_locks", "test_check_line", "test_check_files", "checks/pages",
+    "test_locks", "test_check_line", "test_check_files", "test_pages",
 )
 
 MUTANTS = [

@@ -2,8 +2,8 @@
 
 from tests.mutants import Mutant
 
-TESTS = ("test_examples", "test_example_results", "checks/recipes", "test_seal", "checks/pages",
-         "checks/claims")
+TESTS = ("test_examples", "test_example_results", "test_example_boards", "test_recipes",
+         "test_seal", "test_pages")
 EXAMPLES = "dist/examples/"
 
 
@@ -259,4 +259,55 @@ MUTANTS = [
        'cp -- "$image" undone.rom\n', 'ln -- "$image" undone.rom\n',
        "The only copy of the image is changed.",
        "test_examples.UndoNestedMap"),
+
+    # ---- regions, names and refusals of test_example_boards
+    of("extract-all", "extract-all makes a file for each name",
+       "\t[ ${#title} -le 255 ] || title=$offset\n", "", "A long name stops the extraction.",
+       "test_example_boards.Listings.test_all_components"),
+    of("extract-all", "extract-all takes a folder that exists",
+       'mkdir "$out"\n', 'mkdir -p "$out"\n',
+       "Components of two images are mixed.",
+       "test_example_boards.Listings.test_all_components"),
+    of("component-place", "component-place compares names as numbers",
+       '$1 "" == ENVIRON["wanted"] && !n++ { print $2 }', "$1 == wanted && !n++ { print $2 }",
+       "Another region's component is read.",
+       "test_example_boards.Places.test_regions_with_names_that_are_equal_as_numbers"),
+    of("cbfs-regions", "cbfs-regions reads lines",
+       "tr -s '[:space:]' ' ' |", "cat |", "A section over two lines is not formatted.",
+       "test_example_boards.Regions.test_any_text"),
+    of("cbfs-regions", "cbfs-regions lists the root",
+       "\tsed 's/^ *[^ @{}()]*//' | grep", "\tgrep", "create refuses the name.",
+       "test_example_boards.Regions.test_any_text"),
+    of("replace-component", "replace-component accepts no options",
+       "[ $# -ge 6 ]", "[ $# -ge 5 ]", "A component loses its digest unnoticed.",
+       "test_example_boards.Replacements.test_without_options"),
+    of("replace-component", "replace-component waits for one lock",
+       '\t[ ! "$path" -ef /dev/fd/9 ] || break\n', "\tbreak\n",
+       "An image that was replaced during the wait is refused, or its change is lost.",
+       "test_example_boards.Replacements.test_an_image_that_is_replaced_during_the_wait"),
+    of("sign-region", "sign-region signs a full region to its last header",
+       '$3 ~ /^(null|deleted)$/ ? $2 : ""', "$2",
+       "The last component is not signed.",
+       "test_example_boards.Signatures.test_the_signed_bytes"),
+    of("sign-region", "sign-region cuts a signature that is too long",
+       'dd if=signature of="$work/block" conv=notrunc status=none',
+       'dd if=signature of="$work/block" bs=$(stat -c %s "$work/block") count=1 conv=notrunc '
+       "status=none", "An incomplete signature is written.",
+       "test_example_boards.Signatures.test_a_signature_that_is_too_long"),
+    of("undo-nested-map", "undo-nested-map undoes one map",
+       'until areas=$("$tool" undone.rom layout) && has_region; do',
+       'for turn in once; do\n\tareas=$("$tool" undone.rom layout)\n\t! has_region || break',
+       "A component with two maps stays hidden.",
+       "test_example_boards.NestedMaps.test_one_map_and_two"),
+    of("add-aligned", "add-aligned reports the last refusal",
+       '\terror="no space in $region"\ndone', "done",
+       "The message does not name the region.",
+       "test_example_boards.Places.test_refusals_of_an_alignment"),
+    of("edit-verified", "edit-verified leaves a copy after a refusal",
+       "trap 'rm -f \"$copy\"' EXIT\ncat", "cat", "The folder is filled with copies.",
+       "test_example_boards.Verified.test_refusals"),
+    of("add-at-end", "add-at-end adds at the end of any region",
+       '[ "$size" ] || { echo "no such region: $region" >&2 && exit 1; }\n', "",
+       "The shell prints its own error.",
+       "test_example_boards.Places.test_refusals_at_the_end_and_at_an_address"),
 ]

@@ -1,4 +1,4 @@
-# What the checks of the programs share: images, tables and lists that are made or edited by hand.
+# What the scripts of this folder share: images, tables and lists that are made or edited by hand.
 
 # part FILE OFFSET SIZE: these bytes of a file
 part() {
