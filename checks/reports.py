@@ -54,6 +54,18 @@ KINDS = {
     "no-room": ("remark", "no room for a component"),
     "need-missing": ("bad", "needed component isn't there"),
     "need-elsewhere": ("bad", "needed component is elsewhere"),
+    "descriptor-blank": ("remark", "blank: no flash descriptor"),
+    "descriptor-invalid": ("bad", "no flash descriptor"),
+    "me-table-blank": ("remark", "blank: no partition table of the ME"),
+    "me-table-invalid": ("bad", "no partition table of the ME"),
+    "reset-vector": ("remark", "reset vector"),
+    "reset-vector-invalid": ("bad", "reset vector is erased"),
+    "master-header": ("remark", "master header"),
+    "master-header-invalid": ("bad", "no master header"),
+    "gbb-blank": ("remark", "blank: no GBB"),
+    "gbb-invalid": ("bad", "no GBB"),
+    "slot-blank": ("remark", "blank: no signatures"),
+    "slot-invalid": ("bad", "no keyblock"),
     "image-size": ("change", "image size changed from"),
     "blocks": ("change", "erase blocks differ"),
     "no-old-map": ("change", "the old image has no flashmap"),
@@ -358,6 +370,83 @@ def of_need(need, image, checked):
     return [finding("need-elsewhere", need.area, need.component, start)] * (wanted not in (None, start))
 
 
+# ---- of the structures of the board
+
+# of each area its codes without and with content, the shortest area, and the text of a shorter one;
+# the areas of the samples are blank, and the changes of a trial make no sound structure
+STRUCTURES = {
+    b"SI_DESC": ("descriptor-blank", "descriptor-invalid", 4096, "flash descriptor has less than 4096 bytes"),
+    b"SI_ME": ("me-table-blank", "me-table-invalid", 0, ""),
+    b"GBB": ("gbb-blank", "gbb-invalid", 128, "GBB has less than 128 bytes"),
+    b"VBLOCK_A": ("slot-blank", "slot-invalid", 112, "keyblock has less than 112 bytes"),
+    b"VBLOCK_B": ("slot-blank", "slot-invalid", 112, "keyblock has less than 112 bytes"),
+}
+
+
+def of_structure(name, image):
+    """The row of the structure in the first area of a name, which is blank or none."""
+    area = firsts(image.areas).get(name)
+    if area is None or ends(area) > len(image.data):
+        return []
+    blank, invalid, shortest, short = STRUCTURES[name]
+    data = image.data[area.offset:ends(area)]
+    if not data.strip(b"\xff") or name.startswith(b"VBLOCK") and not data.strip(b"\0"):
+        return [finding(blank, name)]
+    return [finding(invalid, name, what=short) if area.size < shortest else finding(invalid, name)]
+
+
+def contents(image, checked):
+    """The area COREBOOT, and type, start and length of its components."""
+    number = next((number for number, area in enumerate(image.areas) if area.name == b"COREBOOT"), None)
+    if number not in checked:
+        return None, []
+    rows = [row for row in image.view(image.areas[number]).rows if not row.free]
+    return image.areas[number], [(row.type, row.at + int.from_bytes(row.cell[20:24], "big"), row.size) for row in rows]
+
+
+def header_fault(data, area, start):
+    """The first fault of a master header whose content starts here, if any."""
+    if area.size < start + 32:
+        return "master header ends outside COREBOOT"
+    at = area.offset + start
+    version, end, _, alignment, begin = (int.from_bytes(data[at + k:at + k + 4], "big") for k in range(4, 24, 4))
+    pointer = int.from_bytes(data[ends(area) - 4:ends(area)], "little", signed=True)
+    tests = [
+        (data[at:at + 4] == b"ORBC", "no master header"),
+        (version == 0x31313132, "master header has another version than 1112"),
+        (begin == area.offset, "master header states another start of COREBOOT"),
+        (end == ends(area), "master header states another end of COREBOOT"),
+        (alignment == 64, "master header has another alignment than 64"),
+        (pointer == start - area.size, "last four bytes of COREBOOT don't point to the master header"),
+    ]
+    return next((text for is_right, text in tests if not is_right), None)
+
+
+def of_coreboot(image, checked):
+    """The rows of the reset vector and of the first master header."""
+    area, components = contents(image, checked)
+    is_end = area is not None and any(kind == 1 and start + size == area.size for kind, start, size in components)
+    rows = []
+    if is_end and ends(area) == len(image.data):
+        code = image.data[-16:-4]
+        texts = {b"\xff": "reset vector is erased", b"\0": "reset vector is cleared"}
+        text = texts.get(code[:1]) if code == code[:1] * 12 else None
+        rows.append(finding("reset-vector-invalid", area.name, what=text) if text else finding("reset-vector", area.name))
+    start = next((start for kind, start, _ in components if kind == 2), None)
+    if start is not None:
+        text = header_fault(image.data, area, start)
+        verdict = "bad" if is_end else "remark"
+        rows.append(finding("master-header-invalid", area.name, what=text, verdict=verdict) if text
+                    else finding("master-header", area.name))
+    return rows
+
+
+def of_board(image, checked):
+    """The rows of the structures of the board, in order."""
+    return [*of_structure(b"SI_DESC", image), *of_structure(b"SI_ME", image), *of_coreboot(image, checked),
+            *of_structure(b"GBB", image), *of_structure(b"VBLOCK_A", image), *of_structure(b"VBLOCK_B", image)]
+
+
 # ---- of two images
 
 def blocks(old, new):
@@ -523,4 +612,5 @@ def report(old, new, wishes):
     rows = of_map(new) + rows + of_missing(new.areas, wishes.areas)
     for need in wishes.needs:
         rows += of_need(need, new, checked)
+    rows += of_board(new, checked)
     return rows + (of_changes(old, new, checked, wishes) if old else [])

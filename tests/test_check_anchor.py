@@ -22,6 +22,9 @@ SIZE = 0x4000
 FSP = 0x60
 FIT_PAYLOAD = 0x21
 LEGACY_STAGE = 0x10
+# The row of a component of the type of a master header with another content, under which no
+# bootblock ends the area.
+NO_HEADER = ("remark", "COREBOOT", "-", "-", "no master header")
 # The area, the component and the position of an anchor at 0x40 of the area BOOTBLOCK.
 PLACE = ("BOOTBLOCK", "-", "0x40")
 REMEDY = "run cbfsseal IMAGE"
@@ -120,7 +123,7 @@ class Digests(CheckAnchor):
             # The content begins after the cell of the header, a head of 24 bytes and a name of 12.
             place = ("COREBOOT", "bootblock", hex(64 + 36 + 100))
             with self.subTest(HASHES[algorithm]):
-                self.finds(image, self.digests(place, algorithm))
+                self.finds(image, [*self.digests(place, algorithm), NO_HEADER])
 
     def test_outdated_digests(self):
         parts = [hashed(b"a")]
@@ -239,16 +242,16 @@ class Components(CheckAnchor):
         ]:
             parts = [Component(b"a", b"x", type=kind)]
             row = [(verdict, "COREBOOT", "a", "0x0", "no hash")] if verdict else []
+            header = [NO_HEADER] if kind == CBFS_HEADER else []
             with self.subTest(kind):
-                self.components(sealed(parts), row, status=int(verdict == "bad"))
-                self.finds(plain(parts), [])
+                self.components(sealed(parts), row + header, status=int(verdict == "bad"))
+                self.finds(plain(parts), header)
 
     def test_exempt_types_on_request(self):
         parts = [Component(b"a", b"x", type=CBFS_HEADER)]
-        self.components(sealed(parts), [("remark", "COREBOOT", "a", "0x0", "no hash")], options="-v")
-        self.components(
-            sealed(parts), [("bad", "COREBOOT", "a", "0x0", "no hash")], 1, "--all-hashed"
-        )
+        for verdict, options in [("remark", "-v"), ("bad", "--all-hashed")]:
+            rows = [(verdict, "COREBOOT", "a", "0x0", "no hash"), NO_HEADER]
+            self.components(sealed(parts), rows, int(verdict == "bad"), options)
 
     def test_a_digest_of_another_algorithm(self):
         other = "hash isn't of the anchor's algorithm"

@@ -89,8 +89,13 @@ class Samples(DocumentTest):
                                 value=numbers[name]))
             rows.append(row("remark", "hash-missing", "no hash", **at))
         rows += [row("remark", "complete", "complete", area="COREBOOT"),
-                 *of_region("COREBOOT", 20, 41664, 40864)]
-        self.document(0, {"image.rom": TYPES}, "-v", rows, (0, 29, 0))
+                 *of_region("COREBOOT", 20, 41664, 40864),
+                 row("remark", "descriptor-blank", "blank: no flash descriptor", area="SI_DESC"),
+                 row("remark", "me-table-blank", "blank: no partition table of the ME",
+                     area="SI_ME"),
+                 row("remark", "gbb-blank", "blank: no GBB", area="GBB"),
+                 row("remark", "slot-blank", "blank: no signatures", area="VBLOCK_A")]
+        self.document(0, {"image.rom": TYPES}, "-v", rows, (0, 33, 0))
 
     def test_a_change_of_a_component(self):
         files = {"old.rom": HASHES, "image.rom": patched(HASHES, (0x15A0, b"X"))}

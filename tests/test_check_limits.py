@@ -116,12 +116,13 @@ class Needs(Check):
 # The numbers of reads of each sample: of a check, of a check with -r COREBOOT,FW_MAIN_A, and of OLD
 # and NEW in a check of the sample and a copy of it. A check reads the image once from the start to
 # the end, the first 4096 bytes by one call and then 16,384 bytes by a call; and each area with a
-# CBFS again, from its entries on.
+# CBFS again, from its entries on. The last sample has four areas for structures of the board, which
+# are blank.
 READS = [
     ("created.rom", 1, 1, 1, 1),
     ("hashes.rom", 9, 9, 12, 16),
     ("packed.rom", 9, 9, 12, 16),
-    ("types.rom", 10, 11, 27, 31),
+    ("types.rom", 14, 15, 27, 35),
 ]
 OPTIONS = ["", "-v --list --json", "--all-hashed", "--need COREBOOT:bootblock@end"]
 

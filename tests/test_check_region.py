@@ -76,7 +76,11 @@ class Sampled(CheckTest):
             remark|COREBOOT|-|-|components|20
             remark|COREBOOT|-|-|free bytes|41664
             remark|COREBOOT|-|-|largest content that add takes|40864
-            1 bad, 9 remarks, 0 changes
+            remark|SI_DESC|-|-|blank: no flash descriptor
+            remark|SI_ME|-|-|blank: no partition table of the ME
+            remark|GBB|-|-|blank: no GBB
+            remark|VBLOCK_A|-|-|blank: no signatures
+            1 bad, 13 remarks, 0 changes
         """)
         self.check("cbfstool image.rom extract -n t/mrc -f out", {"image.rom": image},
                    left={"out": b"abc"})

@@ -82,7 +82,11 @@ class Samples(CheckTest):
             remark|COREBOOT|-|-|components|20
             remark|COREBOOT|-|-|free bytes|41664
             remark|COREBOOT|-|-|largest content that add takes|40864
-            0 bad, 9 remarks, 0 changes
+            remark|SI_DESC|-|-|blank: no flash descriptor
+            remark|SI_ME|-|-|blank: no partition table of the ME
+            remark|GBB|-|-|blank: no GBB
+            remark|VBLOCK_A|-|-|blank: no signatures
+            0 bad, 13 remarks, 0 changes
         """)
 
 
@@ -165,7 +169,11 @@ class Lists(CheckTest):
             remark|COREBOOT|-|-|components|20
             remark|COREBOOT|-|-|free bytes|41664
             remark|COREBOOT|-|-|largest content that add takes|40864
-            0 bad, 9 remarks, 0 changes
+            remark|SI_DESC|-|-|blank: no flash descriptor
+            remark|SI_ME|-|-|blank: no partition table of the ME
+            remark|GBB|-|-|blank: no GBB
+            remark|VBLOCK_A|-|-|blank: no signatures
+            0 bad, 13 remarks, 0 changes
         """, "--list")
 
 

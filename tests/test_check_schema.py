@@ -15,6 +15,12 @@ from tests.image import (
 from tests.programs import TOP
 from tests.samples import NAMES, Sample
 from tests.schema import REPORTS, Schema
+from tests.structured_board import (
+    BOARD, board as board_with, coreboot, signed_block, sound_gbb, with_table,
+)
+from tests.structures import (
+    UNUSED_REGION, bootblock, descriptor, descriptor_region, microcode,
+)
 
 CODES = REPORTS.schema["definitions"]["code"]["enum"]
 SAMPLES = [Sample(name).image for name in NAMES]
@@ -70,6 +76,27 @@ TEXTS = {
     "no-room": ["no room for a component"],
     "need-missing": ["needed component isn't there"],
     "need-elsewhere": ["needed component is elsewhere"],
+    "descriptor": ["flash descriptor"],
+    "descriptor-blank": ["blank: no flash descriptor"],
+    "descriptor-invalid": ["no flash descriptor"],
+    "area-not-region": ["isn't the region of the flash descriptor"],
+    "me-table": ["partition table of the ME"],
+    "me-table-blank": ["blank: no partition table of the ME"],
+    "me-table-invalid": ["no partition table of the ME"],
+    "reset-vector": ["reset vector"],
+    "reset-vector-invalid": ["reset vector is erased"],
+    "firmware-table": ["firmware interface table"],
+    "firmware-table-invalid": ["microcode has another sum than 0"],
+    "master-header": ["master header"],
+    "master-header-invalid": ["no master header"],
+    "gbb": ["GBB"],
+    "gbb-flags": ["flags weaken the verification"],
+    "gbb-blank": ["blank: no GBB"],
+    "gbb-invalid": ["no GBB"],
+    "slot": ["signed slot"],
+    "slot-not-checked": ["body isn't checked: no length is signed"],
+    "slot-blank": ["blank: no signatures"],
+    "slot-invalid": ["no keyblock"],
     "image-size": ["image size changed from"],
     "blocks": ["erase blocks differ"],
     "no-old-map": ["the old image has no flashmap"],
@@ -180,11 +207,20 @@ ANCHORS = [
     ("", anchored(RIGHT, [Component(b"d", b"x", offset=1)])),
     ("", SEALED, NO_ANCHOR), ("", NO_ANCHOR, SEALED), ("", SEALED, OTHER_ALGORITHM),
 ]
+ERASED = b"\xff" * 12
+BOARDS = [
+    ("", BOARD), ("", board_with(SI_DESC=None, SI_ME=None, GBB=None)),
+    ("", board_with(SI_DESC=b"x", SI_ME=b"x", GBB=b"x", VBLOCK_A=b"x")),
+    ("", board_with(SI_DESC=descriptor([descriptor_region(0, 0x2000), *8 * [UNUSED_REGION]]))),
+    ("", board_with(COREBOOT=coreboot(b"x", boot=bootblock(0x400, reset=ERASED)))),
+    ("", board_with(GBB=sound_gbb(flags=1), VBLOCK_A=signed_block(0))),
+    ("", with_table(microcode(96))), ("", with_table(microcode(96, sum_is=1))),
+]
 OF_SAMPLES = [row for sample in SAMPLES for row in [
     ("", sample), ("-v --all-hashed --need COREBOOT:none", sample),
     ("--keep-preserved", SAMPLES[1], sample), ("--list", sample), ("--list", SAMPLES[1], sample)]]
 TWENTY_NAMES = ",".join(f"N{number}" for number in range(20))
-RUNS = [*OF_SAMPLES, *faults_of_maps(), *faults_of_regions(), *changes(), *ANCHORS,
+RUNS = [*OF_SAMPLES, *faults_of_maps(), *faults_of_regions(), *changes(), *ANCHORS, *BOARDS,
         (f"-r {TWENTY_NAMES}", OLD)]
 
 

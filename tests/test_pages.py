@@ -17,6 +17,7 @@ from tests.pages import (
 from tests.programs import NAMES, TOP, ProgramTest, program
 
 README = (TOP / "README.md").read_text(encoding="utf-8")
+EXAMPLES = TOP / "dist" / "examples"
 HAS_GROFF = shutil.which("groff") is not None
 # How many examples each page has at least, so that none can vanish.
 LEAST = {"cbfstool.1": 19, "fmaptool.1": 8, "cbfscheck.1": 12, "cbfsseal.1": 9, "fmd.5": 11}
@@ -55,7 +56,8 @@ class Examples(ProgramTest):
         (self.bin.path / "flashrom").chmod(0o755)
         for name in NAMES:
             (self.bin.path / name).symlink_to(program(name))
-        path = f"{self.bin.path}{os.pathsep}{os.environ['PATH']}"
+        # (two examples run a script of the examples)
+        path = os.pathsep.join([str(self.bin.path), str(EXAMPLES), os.environ["PATH"]])
         self.environment = {"PATH": path, "CHIP": "image.rom", "WRITTEN": "written.rom",
                             "LC_ALL": "C.UTF-8"}
 

@@ -1,9 +1,9 @@
 -- The rules of a Firmware Interface Table.
-use Rattle.std.proofs.Common.{◌≡◌, ◌∙◌, ℕ, zero, suc, ◌+◌, ◌-◌, ◌*◌, ◌%◌, ◌<◌, ◌≤◌, inl, inr, List, length, Some, None, Result, Ok, Err, refl, sym, ap, subst, arith}
+use Rattle.std.proofs.Common.{◌≡◌, ◌⊎◌, ◌∙◌, ℕ, zero, suc, ◌+◌, ◌-◌, ◌*◌, ◌%◌, ◌<◌, ◌≤◌, inl, inr, List, length, Some, None, Result, Ok, Err, refl, sym, ap, subst, arith}
 use Rattle.std.specs.Prelude.{slice_range, nat_lt, ◌==◌}
 use Rattle.std.proofs.lemmas.Bool.{eqb-false, eqb-true, ltb-false}
 use Rattle.flash_format.specs.Flashmap.{le}
-use Rattle.board_structures.specs.FirmwareTables.{body_in, entries_fault, entry_at, entry_result, firmware_table_in, has_sum, has_table_at, place_of, stated_len, table_at, table_fault, table_place, update_at, update_in}
+use Rattle.board_structures.specs.FirmwareTables.{body_in, entries_fault, entry_at, entry_result, firmware_table_in, has_sum, has_table_at, place_of, stated_len, table_at, table_fault, table_place, unused_address, update_at, update_in, used_update_in}
 use Rattle.board_structures.specs.Laws.{IsAcceptedAddress, IsUsableTable, IsWholeUpdate}
 use Rattle.board_structures.specs.declared.firmware_table.FirmwareTable.TheVariants as states
 use Rattle.board_structures.specs.declared.firmware_table.TableEntry.{TableEntry}
@@ -28,8 +28,8 @@ whole_body left place n len image version is =
     (λ other. absurd (let e = rw (inside, fits, words, other) at is in cc)))
     (λ other. absurd (let e = rw (inside, fits, other) at is in cc))))
 
-accepted : (left address n : ℕ) (image : List ℕ) → update_in left address image ≡ Ok n → IsAcceptedAddress address image
-unfolding update_in update_at
+accepted : (left address n : ℕ) (image : List ℕ) → used_update_in left address image ≡ Ok n → IsAcceptedAddress address image
+unfolding used_update_in update_at
 accepted left address n image is =
     let P : Type 0 = IsAcceptedAddress address image in
     by_bool (address % 16 == 0) P (λ aligned.
@@ -44,23 +44,31 @@ accepted left address n image is =
     (λ missing. absurd (let e = rw (aligned, missing) at is in cc)))
     (λ odd. absurd (let e = rw odd at is in cc))
 
+-- an address that isn't used, or an accepted one
+abbrev pub IsFine : ℕ → List ℕ → Type 0
+IsFine address image = (address ≡ unused_address) ⊎ IsAcceptedAddress address image
+
+fine_address : (left address n : ℕ) (image : List ℕ) → update_in left address image ≡ Ok n → IsFine address image
+fine_address left address n image is =
+    by_bool (address == unused_address) (IsFine address image) (λ unused. inl (eqb-true _ _ unused)) (λ used. inr (accepted left address n image (rw used at is)))
+
 -- ---- the entries
 
 -- an entry with an update
-update_of : (left n : ℕ) (image : List ℕ) (e : TableEntry) → e.kind ≡ 1 → entry_result left image e ≡ Ok n → IsAcceptedAddress e.address image
-update_of left n image e is result = accepted left e.address n image (rw is at result)
+update_of : (left n : ℕ) (image : List ℕ) (e : TableEntry) → e.kind ≡ 1 → entry_result left image e ≡ Ok n → IsFine e.address image
+update_of left n image e is result = fine_address left e.address n image (rw is at result)
 
 module _ (count place : ℕ) (image : List ℕ) where
   -- of entries without a fault, each one with an update has an accepted one
-  each_entry : (more at left : ℕ) → at + more ≡ count → entries_fault (count - at) at left place image ≡ None → (number : ℕ) → at ≤ number → number < count → (entry_at (place + 16 * number) image).kind ≡ 1 → IsAcceptedAddress (entry_at (place + 16 * number) image).address image
+  each_entry : (more at left : ℕ) → at + more ≡ count → entries_fault (count - at) at left place image ≡ None → (number : ℕ) → at ≤ number → number < count → (entry_at (place + 16 * number) image).kind ≡ 1 → IsFine (entry_at (place + 16 * number) image).address image
   each_entry zero at left is none number from below update = absurd (omega (arith, is, from, below))
   each_entry (suc more) at left is none number from below update =
       let entry = entry_at (place + 16 * at) image in
-      let P : Type 0 = IsAcceptedAddress (entry_at (place + 16 * number) image).address image in
+      let P : Type 0 = IsFine (entry_at (place + 16 * number) image).address image in
       let less : at < count = omega (arith, is) in
       by_result (entry_result left image entry) P (λ n good.
       by_bool (number == at) P (λ same.
-      let Accepted : ℕ → Type 0 = λ m. (entry_at (place + 16 * m) image).kind ≡ 1 → IsAcceptedAddress (entry_at (place + 16 * m) image).address image in
+      let Accepted : ℕ → Type 0 = λ m. (entry_at (place + 16 * m) image).kind ≡ 1 → IsFine (entry_at (place + 16 * m) image).address image in
       subst Accepted (sym (eqb-true number at same)) (λ is_update. update_of left n image entry is_update good) update) (λ other. each_entry more (at + 1) (left - n) (omega (arith, is)) (sym (good_entry count at left place image n less good) ∙ none) number (omega (arith, from, eqb-false number at other)) below update))
       (λ fault bad. absurd (let e = sym (bad_entry count at left place image fault less bad) ∙ none in cc))
 

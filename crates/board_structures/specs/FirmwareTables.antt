@@ -26,7 +26,7 @@ use Rattle.board_structures.specs.declared.firmware_table.UpdateFault.TheVariant
 --
 -- | offset | bytes | field                                                                      |
 -- | ------ | ----- | -------------------------------------------------------------------------- |
--- | 0      | 8     | the address; in the header `_FIT_   `                                       |
+-- | 0      | 8     | the address, 0xffffffff if it is not used; in the header `_FIT_   `        |
 -- | 8      | 3     | in the header, the number of entries, with the header                      |
 -- | 14     | 7 bits| the type; 1 is an update of the microcode                                  |
 --
@@ -116,11 +116,20 @@ update_at left place image = if nat_lt (length image) (place + update_header_len
     then Err updates.CutOff
     else update_with left place image (slice_range image place (place + update_header_len))
 
--- of an address
-unfoldable pub update_in : ℕ → ℕ → List ℕ → Result ℕ UpdateFault
-update_in left address image = if address % 16 == 0
+-- the address of an entry that is not used, as in a table with room for more updates
+abbrev pub unused_address : ℕ
+unused_address = 0xffffffff
+
+-- of an address that is used
+unfoldable pub used_update_in : ℕ → ℕ → List ℕ → Result ℕ UpdateFault
+used_update_in left address image = if address % 16 == 0
     then option_map_or (λ place. update_at left place image) (place_of (length image) address)
     (Err updates.Unmapped) else Err updates.Misaligned
+
+-- of an address
+abbrev pub update_in : ℕ → ℕ → List ℕ → Result ℕ UpdateFault
+update_in left address image =
+    if address == unused_address then Ok 0 else used_update_in left address image
 
 -- ---- the entries
 
@@ -172,3 +181,7 @@ abbrev pub is_bad : FirmwareTable → Bool
 is_bad states.Absent = false
 is_bad (states.Broken fault) = true
 is_bad (states.Sound count) = false
+
+-- the largest number of reads for the entries and updates of a table in an image of n bytes
+abbrev pub table_reads : ℕ → ℕ
+table_reads n = 3 * (n / 16) + n / 4096

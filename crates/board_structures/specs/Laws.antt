@@ -3,7 +3,7 @@ use Rattle.std.specs.Prelude.{◌≡◌, ◌⊎◌, ℕ, ◌+◌, ◌-◌, ◌*�
 use Rattle.std.specs.List.{position}
 use Rattle.flash_format.specs.Entry.{is_nul}
 use Rattle.flash_format.specs.Flashmap.{le}
-use Rattle.board_structures.specs.FirmwareTables.{entry_at, has_table_at, place_of, stated_len, word_sum}
+use Rattle.board_structures.specs.FirmwareTables.{entry_at, has_table_at, place_of, stated_len, unused_address, word_sum}
 use Rattle.board_structures.specs.GoogleBinaryBlocks as blocks
 use Rattle.board_structures.specs.GoogleBinaryBlocks.{digest_of, hardware_id_fault, header_of, key_fault_at}
 use Rattle.board_structures.specs.MasterHeaders as headers
@@ -101,4 +101,5 @@ pub record IsUsableTable (place count : ℕ) (image : List ℕ) : Type 0 where
   pub inside : place + 16 * count ≤ length image
   pub updates : (number : ℕ) → 1 ≤ number → number < count
       → (entry_at (place + 16 * number) image).kind ≡ 1
-      → IsAcceptedAddress (entry_at (place + 16 * number) image).address image
+      → let address = (entry_at (place + 16 * number) image).address in
+      (address ≡ unused_address) ⊎ IsAcceptedAddress address image

@@ -3,7 +3,7 @@ ghost use Rattle.std.specs.Prelude.{◌≡◌, ◌+◌, ◌-◌, ◌*◌, ◌/�
 ghost use Rattle.flash_device.specs.Pages.{HasAnswered, HasRead, IfFound, OnHonest, Returns};
 ghost use Rattle.flash_device.specs.Regions.{LiesOn};
 ghost use Rattle.board_structures.specs.Filling.{page_reads};
-ghost use Rattle.board_structures.specs.FirmwareTables.{body_in, entries_fault, entry_at, entry_of, entry_result, firmware_table_in, has_sum, is_bad, has_table_at, place_of, stated_len, table_at, table_fault, table_place, update_at, update_in, update_with, word_sum};
+ghost use Rattle.board_structures.specs.FirmwareTables.{body_in, entries_fault, entry_at, entry_of, entry_result, firmware_table_in, has_sum, is_bad, has_table_at, place_of, stated_len, table_at, table_fault, table_place, table_reads, update_at, update_in, update_with, word_sum};
 
 use crate::magic::has_magic_at;
 use byteorder::{ByteOrder, LittleEndian};
@@ -21,6 +21,9 @@ const END: u64 = 1 << 32;
 const WINDOW: u64 = 0x1000000;
 
 const ENTRY_LENGTH: usize = 16;
+
+/// The address of an entry that is not used.
+const UNUSED: u64 = 0xffff_ffff;
 
 /// The type of an update of the microcode.
 const UPDATE: u16 = 1;
@@ -232,7 +235,7 @@ fn check_update<F: Flash>(
 }
 
 /// Returns the length of the update at an address, or why the processor refuses it.
-#[tactic(auto, unfolding(crate::specs::FirmwareTables::update_in))]
+#[tactic(auto, unfolding(crate::specs::FirmwareTables::used_update_in))]
 fn check_address<F: Flash>(
     paged: &mut Paged<F>,
     left: u64,
@@ -246,6 +249,9 @@ fn check_address<F: Flash>(
     ensures update { OnHonest paged.old.device (λ image.
         Returns result (update_in left address image)) }
 {
+    if address == UNUSED {
+        return Ok(Ok(0));
+    }
     if address % 16 != 0 {
         return Ok(Err(UpdateFault::Misaligned));
     }
@@ -342,7 +348,8 @@ fn check_table<F: Flash>(
     requires small { length paged.old.device.content < 2 ^ 32 }
     requires inside { place ≤ length paged.old.device.content }
 
-    ensures after { HasAnswered (length paged.old.device.content / 4) paged.old paged.new result }
+    ensures after { HasAnswered (table_reads (length paged.old.device.content))
+        paged.old paged.new result }
     ensures fault { OnHonest paged.old.device (λ image.
         Returns result (table_fault count place image)) }
 {
@@ -361,8 +368,8 @@ fn read_table<F: Flash>(paged: &mut Paged<F>, place: u64) -> Result<FirmwareTabl
     requires inside { place ≤ length paged.old.device.content }
     requires small { length paged.old.device.content < 2 ^ 32 }
 
-    ensures after { HasAnswered
-        (length paged.old.device.content / 4 + 2) paged.old paged.new result }
+    ensures after { HasAnswered (table_reads (length paged.old.device.content) + 2)
+        paged.old paged.new result }
     ensures state { OnHonest paged.old.device (λ image. Returns result (table_at place image)) }
 {
     if !has_table_at(paged, place)? {
@@ -380,8 +387,8 @@ fn read_table<F: Flash>(paged: &mut Paged<F>, place: u64) -> Result<FirmwareTabl
 pub fn read_firmware_table<F: Flash>(paged: &mut Paged<F>) -> Result<FirmwareTable, FlashFault>
     requires { length paged.old.device.content < 2 ^ 32 }
 
-    ensures after { HasAnswered
-        (length paged.old.device.content / 4 + 3) paged.old paged.new result }
+    ensures after { HasAnswered (table_reads (length paged.old.device.content) + 3)
+        paged.old paged.new result }
     ensures state { OnHonest paged.old.device (λ image.
         Returns result (firmware_table_in image)) }
 {

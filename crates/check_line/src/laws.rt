@@ -7,9 +7,25 @@ ghost use Rattle.check_line.specs.CheckWords.{need_in};
 
 /// In a need, the first colon ends the area, and the last `@` begins the place.
 pub fn needs_are_split()
-    ensures last_at { need_in (codes "A:a@b@28") ≡ Some (codes "A", codes "a@b", At 28) }
-    ensures first_colon { need_in (codes "A:a:b") ≡ Some (codes "A", codes "a:b", Any) }
-    ensures both { need_in (codes "A:a:b@c:d@0x1c") ≡ Some (codes "A", codes "a:b@c:d", At 28) }
-    ensures end { need_in (codes "A:end@end") ≡ Some (codes "A", codes "end", End) }
+    ensures last_at { need_in (codes "A:a@b@28") ≡ Some (record {
+      area = codes "A";
+      name = codes "a@b";
+      place = At 28;
+    }) }
+    ensures first_colon { need_in (codes "A:a:b") ≡ Some (record {
+      area = codes "A";
+      name = codes "a:b";
+      place = Any;
+    }) }
+    ensures both { need_in (codes "A:a:b@c:d@0x1c") ≡ Some (record {
+      area = codes "A";
+      name = codes "a:b@c:d";
+      place = At 28;
+    }) }
+    ensures end { need_in (codes "A:end@end") ≡ Some (record {
+      area = codes "A";
+      name = codes "end";
+      place = End;
+    }) }
     ensures no_place { need_in (codes "A:a@b") ≡ None }
 {}

@@ -4,5 +4,6 @@ mod RowCounts
 mod ReportParts
 mod Prefixes
 mod SoundRows
+mod BoardVerdicts
 mod PrinterEffects
 mod HeadingEffects

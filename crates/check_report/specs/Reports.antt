@@ -21,6 +21,8 @@ use Rattle.check_report.specs.Fields.{line_text, items, json_value, line_json, m
 use Rattle.check_report.specs.Rows.{SeenRow, area_name, counts_of, report_lines, summary}
 use Rattle.check_report.specs.Rows.{names_in}
 use Rattle.check_report.specs.FindingRows.{finding_rows, hash_words, missing_row, need_rows}
+use Rattle.check_report.specs.BoardRows.{board_rows}
+use Rattle.board_findings.specs.BoardFindings.{board_findings}
 use Rattle.check_findings.specs.Areas.{has_name}
 use Rattle.check_findings.specs.Lists.{only_if}
 use Rattle.check_report.specs.ChangeRows.{anchor_change_row, area_change_rows, image_rows, map_change_row}
@@ -173,10 +175,10 @@ module _ (request : Request) (c : Changes) where
       ++ flat_map (area_change_rows kept_names vital) new.areas.items)
       ++ flat_map (region_change_rows kept_names) new.regions.items) ++ missing_rows
 
--- rows of findings, unmet needs and changes
+-- rows of findings, unmet needs, structures of the board, and changes
 abbrev pub inspection_rows : Request → Inspection → List SeenRow
-inspection_rows request i = (finding_rows request.asked request.areas.now i.findings.items
-    ++ need_rows i.findings.items request.needs.now)
+inspection_rows request i = ((finding_rows request.asked request.areas.now i.findings.items
+    ++ need_rows i.findings.items request.needs.now) ++ board_rows i.board.items)
     ++ option_map_or (change_rows request) i.changes []
 
 -- the report in the form of the request, and a line feed
@@ -209,5 +211,10 @@ pub record Checks (r : Request) (old : Option (List ℕ)) (y : List ℕ) (i : In
   pub findings : i.findings.items ≡ image_findings y (names_in r.areas.now)
       (map (λ need. need.area.now) r.needs.now
       ++ option_map_or (λ x. map area_name (cbfs_areas x (image_areas x))) old [])
+  pub board : i.board.items ≡ board_findings (record {
+    image = y;
+    areas = image_areas y;
+    findings = i.findings.items;
+  })
   pub changes : MatchOption old (i.changes ≡ None)
       (λ x. IsSomeAnd i.changes (AreChanges x y i.findings.items))

@@ -6,6 +6,7 @@ ghost use Rattle.check_report.specs.Reports.{Checks};
 use crate::inspection::{Changes, Comparison, Inspection, OldImage};
 use crate::names::{need_areas, with_areas};
 use crate::request::Request;
+use board_findings::check_board;
 use check_changes::{
     Areas, ChangeFault, Images, anchor_change, image_changes, map_changes, region_changes,
 };
@@ -41,6 +42,9 @@ pub fn inspect_change<F: Flash, G: Flash>(
     let checked = check_image(alloc, keys, &mut images.new_image, request.areas, &expected);
     let checked = checked.map_err(ChangeFault::of_new)?;
     drop(expected);
+    let new_image = &mut images.new_image;
+    let board = check_board(alloc, new_image, &checked.areas, &checked.findings);
+    let board = board.map_err(ChangeFault::of_new)?;
 
     let old_areas = old.areas_or(&checked.areas);
     let areas = Areas {
@@ -61,6 +65,7 @@ pub fn inspect_change<F: Flash, G: Flash>(
     };
     Ok(Inspection {
         findings: checked.findings,
+        board,
         changes: Some(Changes {
             comparison,
             old,

@@ -8,14 +8,15 @@ ghost use Rattle.check_report.specs.Reports.{Checks};
 use crate::inspection::Inspection;
 use crate::names::need_areas;
 use crate::request::Request;
+use board_findings::check_board;
 use check_changes::ChangeFault;
 use check_findings::check_image;
 use flash_device::{Flash, Paged};
 use std::alloc::Global;
 use std::hash::RandomState;
 
-/// Checks an image. The hash keys don't change the findings. Returns `NewDevice` exactly if the
-/// device refused a read.
+/// Checks an image and the structures that its board boots from. The hash keys don't change the
+/// findings. Returns `NewDevice` exactly if the device refused a read.
 pub fn inspect_image<F: Flash>(
     alloc: Global,
     keys: RandomState,
@@ -32,8 +33,11 @@ pub fn inspect_image<F: Flash>(
     let expected = need_areas(alloc, request.needs)?;
     let checked = check_image(alloc, keys, paged, request.areas, &expected);
     let checked = checked.map_err(ChangeFault::of_new)?;
+    let board = check_board(alloc, paged, &checked.areas, &checked.findings);
+    let board = board.map_err(ChangeFault::of_new)?;
     Ok(Inspection {
         findings: checked.findings,
+        board,
         changes: None,
     })
 }

@@ -9,6 +9,7 @@ ghost use Rattle.check_report.specs.Reports.{heading};
 ghost use Rattle.check_report.specs.Rows.{has_bad};
 ghost use Rattle.check_report.specs.Effects.{Adds, Prints, by_sink};
 
+use crate::board::add_board;
 use crate::changes::{
     add_anchor_change, add_area_changes, add_image_changes, add_map_changes, add_region_changes,
 };
@@ -19,6 +20,7 @@ use crate::kept::add_missing;
 use crate::names::{KnownNames, kept_names, with_areas};
 use crate::request::Request;
 use crate::rows::{Printer, RowWriter};
+use board_findings::BoardFinding;
 use check_changes::{AnchorChange, AreaChange, MapChange, RegionChange};
 use check_findings::{ImageFinding, ImageMap, NumberedArea};
 use flash_device::Sink;
@@ -65,10 +67,11 @@ pub struct Changes {
     pub new_areas: Vec<NumberedArea>,
 }
 
-/// The findings of an image, and its changes, if any.
+/// The findings of an image and of its board's structures, and its changes, if any.
 #[derive(Drop)]
 pub struct Inspection {
     pub findings: Vec<ImageFinding>,
+    pub board: Vec<BoardFinding>,
     pub changes: Option<Changes>,
 }
 
@@ -111,6 +114,7 @@ impl Inspection {
     {
         add_findings(rows, request.asked, &self.findings, request.areas)?;
         add_needs(rows, &self.findings, request.needs)?;
+        add_board(rows, &self.board)?;
         match &self.changes {
             Some(changes) => add_changes(alloc, rows, request, changes),
             None => Ok(()),

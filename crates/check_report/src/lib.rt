@@ -6,6 +6,7 @@
 
 mod anchor;
 mod areas;
+mod board;
 mod change_inspection;
 mod changes;
 mod component_list;

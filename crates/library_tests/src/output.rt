@@ -406,6 +406,7 @@ const REPORT: &[u8] = b"0 bad, 0 remarks, 0 changes\n";
 fn reports_once(rt: &(impl Abort + AllocGlobal), manner: Manner) -> bool {
     let inspection = Inspection {
         findings: Vec::new(rt.alloc()),
+        board: Vec::new(rt.alloc()),
         changes: None,
     };
     let out = output(rt, REPORT, manner, false);
@@ -443,6 +444,7 @@ fn reports_text(rt: &(impl Abort + AllocGlobal), text: &[u8], manner: Manner) ->
     let path = text.get(BEFORE_PATH.len()..end).unwrap_or(&[]);
     let inspection = Inspection {
         findings: Vec::new(rt.alloc()),
+        board: Vec::new(rt.alloc()),
         changes: None,
     };
     let request = Request {

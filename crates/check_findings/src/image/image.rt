@@ -155,6 +155,8 @@ pub fn check_image<F: Flash>(
 ) -> Result<CheckedImage, CheckFault>
     // On any device.
     ensures calls { HasReadBy by_device (call_limit paged.old.device) paged.old paged.new result }
+    ensures few { HasReadBy by_device (9 * length paged.old.device.content / 5 + 32)
+        paged.old paged.new result }
     ensures count { IfOk result (λ checked.
         area_len * length checked.areas.items ≤ length paged.old.device.content) }
     ensures regions { IfOk result (λ checked. AreChecked (length paged.old.device.content)

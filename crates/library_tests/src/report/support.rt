@@ -44,6 +44,7 @@ pub fn text_of(
 ) -> Vec<u8> {
     let inspection = Inspection {
         findings,
+        board: Vec::new(rt.alloc()),
         changes: None,
     };
     let request = Request {

@@ -33,6 +33,7 @@ returns-clause-checked g c = λ honest_old honest_new.
     let is : c.in_ok-checked.checked.anchor ≡ image_anchor y = search rules in
     record {
       findings = search (rules, regions);
+      board = search rules;
       changes = record {
         old_map = search rules;
         old_areas = areas;

@@ -33,6 +33,7 @@ use Rattle.check_report.specs.FindingRows.{component_rows, has_hash_row, has_sta
 use Rattle.check_report.specs.declared.rows.row.Verdict.TheVariants.{Bad, Remark}
 use Rattle.check_report.specs.Rows.{area_name, has_verdict}
 use Rattle.check_report.proofs.HiddenRows.{bad_after}
+use Rattle.check_report.proofs.BoardVerdicts.{bad_board}
 use Rattle.check_report.proofs.laws.rows_tell_what_is_bad.Goals as goal
 
 -- the same for all findings
@@ -154,5 +155,6 @@ bad_finding asked names _ = refl
 pub returns : goal.returns
 returns c = record {
   findings = λ asked names. bad_rows (rows_of asked names) (is_bad asked.needs_hashes) (bad_finding asked names);
+  board = bad_board;
   limits = bad_after [];
 }

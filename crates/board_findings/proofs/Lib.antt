@@ -1,0 +1,4 @@
+pub mod SoundParts
+pub mod CorebootParts
+pub mod BoardParts
+pub mod Differences

@@ -1,0 +1,162 @@
+-- Findings about the structures that a board boots from beside CBFS. This project defines their
+-- order.
+use Rattle.std.specs.Prelude.{ℕ, ◌+◌, ◌*◌, ◌/◌, Bool, ◌&&◌, List, [], ◌∷◌, ◌++◌, Option, length, map, ◌==◌, if◌then◌else◌}
+use Rattle.std.specs.List.{find, flat_map, list_any}
+use Rattle.std.specs.Option.{option_map, option_map_or, option_to_list}
+use lib.Chars.{codes}
+use Rattle.flash_device.specs.Regions.{Range, bytes_in}
+use Rattle.flash_format.specs.declared.flashmap.Area.{Area}
+use Rattle.check_findings.specs.Lists.{only_if}
+use Rattle.check_findings.specs.declared.areas.NumberedArea.{NumberedArea}
+use Rattle.check_findings.specs.declared.image.finding.ImageFinding.{ImageFinding}
+use Rattle.board_structures.specs.Descriptors.{descriptor_in, difference_in}
+use Rattle.board_structures.specs.FirmwareTables.{firmware_table_in, table_reads}
+use Rattle.board_structures.specs.GoogleBinaryBlocks.{gbb_in}
+use Rattle.board_structures.specs.MasterHeaders.{master_header_in}
+use Rattle.board_structures.specs.PartitionTables.{partition_table_in}
+use Rattle.board_structures.specs.ResetVectors.{reset_vector_in}
+use Rattle.board_structures.specs.SignedSlots.{signed_slot_in}
+use Rattle.board_structures.specs.declared.descriptor.Descriptor.{Descriptor}
+use Rattle.board_structures.specs.declared.descriptor.Descriptor.TheVariants.{Described}
+use Rattle.board_structures.specs.declared.descriptor.DescriptorRegion.{DescriptorRegion}
+use Rattle.board_structures.specs.declared.descriptor.DescriptorRegion.TheVariants as regions
+use Rattle.board_structures.specs.declared.descriptor.RegionTable.{RegionTable}
+use Rattle.board_structures.specs.declared.firmware_table.FirmwareTable.{FirmwareTable}
+use Rattle.board_structures.specs.declared.firmware_table.FirmwareTable.TheVariants as tables
+use Rattle.board_structures.specs.declared.signed_slot.SlotBody.{SlotBody}
+use Rattle.board_findings.specs.declared.components.Placed.{Placed}
+use Rattle.board_findings.specs.declared.finding.BoardFinding.{BoardFinding}
+use Rattle.board_findings.specs.declared.finding.BoardFinding.TheVariants as found
+use Rattle.board_findings.specs.declared.finding.Slot.{Slot}
+use Rattle.board_findings.specs.declared.finding.Slot.TheVariants as slots
+use Rattle.board_findings.specs.Components.{components_in, findings_of, is_bootblock_to, is_header, last_end, range_named}
+
+-- an image, the areas of its flash map, and the findings of its check
+pub record Board : Type 0 where
+  pub image : List ℕ
+  pub areas : List NumberedArea
+  pub findings : List ImageFinding
+
+-- ---- areas of the board
+
+-- the range of the first area with this name, if it lies inside the image
+abbrev pub board_range : Board → List ℕ → Option Range
+board_range b name = range_named (length b.image) b.areas name
+
+-- the findings from the bytes of the area with this name; without the area there are none
+abbrev pub in_area : Board → List ℕ → (List ℕ → List BoardFinding) → List BoardFinding
+in_area b name part = option_map_or (λ r. part (bytes_in r b.image)) (board_range b name) []
+
+-- the components of the area with this name, which has this range
+abbrev pub components_of : Board → List ℕ → Range → List Placed
+components_of b name r = components_in r.size (findings_of name b.findings)
+
+-- ---- the files of Intel
+
+-- the regions that have an area in a flash map, in the order of the descriptor's table
+abbrev pub all_regions : List DescriptorRegion
+all_regions = regions.Descriptor ∷ regions.Bios ∷ regions.Me ∷ regions.Gbe
+    ∷ regions.PlatformData ∷ regions.Ec ∷ []
+
+abbrev pub areas_in : List NumberedArea → List Area
+areas_in areas = map (λ a. a.area) areas
+
+-- the areas that aren't these regions of a descriptor with this table
+abbrev pub differences_of : List NumberedArea → RegionTable → List DescriptorRegion
+    → List BoardFinding
+differences_of areas table regions = flat_map (λ region. option_to_list
+    (option_map found.Region (difference_in region table (areas_in areas)))) regions
+
+-- the areas that aren't the regions of this descriptor
+abbrev pub differences : List NumberedArea → Descriptor → List BoardFinding
+differences areas (Described table) = differences_of areas table all_regions
+differences areas _ = []
+
+-- of the flash descriptor, and of the areas beside it
+abbrev pub descriptor_part : Board → List BoardFinding
+descriptor_part b = in_area b (codes "SI_DESC")
+    (λ x. found.Descriptor (descriptor_in x) ∷ differences b.areas (descriptor_in x))
+
+abbrev pub partition_table_part : Board → List BoardFinding
+partition_table_part b = in_area b (codes "SI_ME")
+    (λ x. found.PartitionTable (partition_table_in x) ∷ [])
+
+-- ---- coreboot
+
+-- the findings from the range of COREBOOT; without the area there are none
+abbrev pub in_coreboot : Board → (Range → List BoardFinding) → List BoardFinding
+in_coreboot b part = option_map_or part (board_range b (codes "COREBOOT")) []
+
+-- a bootblock ends with the area COREBOOT, which has this range
+abbrev pub ends_with_bootblock : Board → Range → Bool
+ends_with_bootblock b r =
+    list_any (is_bootblock_to r.size) (components_of b (codes "COREBOOT") r)
+
+-- a bootblock of x86: it ends with COREBOOT, which has this range, and with the image
+abbrev pub ends_as_x86 : Board → Range → Bool
+ends_as_x86 b r = r.start + r.size == length b.image && ends_with_bootblock b r
+
+abbrev pub reset_vector_part : Board → List BoardFinding
+reset_vector_part b =
+    in_coreboot b (λ r. only_if (ends_as_x86 b r) (found.ResetVector (reset_vector_in b.image)))
+
+-- an image without a table has no finding
+abbrev pub table_findings : FirmwareTable → List BoardFinding
+table_findings tables.Absent = []
+table_findings (tables.Broken fault) = found.FirmwareTable (tables.Broken fault) ∷ []
+table_findings (tables.Sound count) = found.FirmwareTable (tables.Sound count) ∷ []
+
+-- of Intel's firmware interface table, under a bootblock of x86
+abbrev pub firmware_table_part : Board → List BoardFinding
+firmware_table_part b = in_coreboot b
+    (λ r. if ends_as_x86 b r then table_findings (firmware_table_in b.image) else [])
+
+-- of the first master header in COREBOOT
+abbrev pub master_header_part : Board → List BoardFinding
+master_header_part b = in_coreboot b (λ r. option_map_or (λ c. found.MasterHeader (record {
+  state = master_header_in r.start c.start (bytes_in r b.image);
+  ends_with_bootblock = ends_with_bootblock b r;
+}) ∷ []) (find is_header (components_of b (codes "COREBOOT") r)) [])
+
+-- ---- vboot
+
+abbrev pub gbb_part : Board → List BoardFinding
+gbb_part b = in_area b (codes "GBB") (λ x. found.Gbb (gbb_in x) ∷ [])
+
+-- the area of the signatures, and that of what they sign
+abbrev pub block_name : Slot → List ℕ
+block_name slots.A = codes "VBLOCK_A"
+block_name slots.B = codes "VBLOCK_B"
+
+abbrev pub body_name : Slot → List ℕ
+body_name slots.A = codes "FW_MAIN_A"
+body_name slots.B = codes "FW_MAIN_B"
+
+-- without its area, the body has no bytes
+abbrev pub slot_body : Board → Slot → SlotBody
+slot_body b slot = option_map_or
+    (λ r. record { end = last_end (components_of b (body_name slot) r); size = r.size })
+    (board_range b (body_name slot)) (record { end = 0; size = 0 })
+
+abbrev pub slot_part : Slot → Board → List BoardFinding
+slot_part slot b = in_area b (block_name slot) (λ x. found.Slot (record {
+  slot = slot;
+  state = signed_slot_in (slot_body b slot) x;
+}) ∷ [])
+
+-- ---- the board
+
+-- one part for each structure
+unfoldable pub board_findings : Board → List BoardFinding
+board_findings b = descriptor_part b
+    ++ partition_table_part b
+    ++ reset_vector_part b
+    ++ firmware_table_part b
+    ++ master_header_part b
+    ++ gbb_part b
+    ++ slot_part slots.A b
+    ++ slot_part slots.B b
+
+-- the largest number of reads of a check of n bytes
+abbrev pub board_reads : ℕ → ℕ
+board_reads n = table_reads n + 7 * (n / 4096) + 27

@@ -1,0 +1,4 @@
+pub mod Components
+pub mod BoardFindings
+pub mod Verdicts
+pub mod Laws
