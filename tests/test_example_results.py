@@ -349,7 +349,9 @@ class FlashChecked(ExampleTest):
             areas += [image.Area("SI_ALL", 0, 0x2000), image.Area("SI_DESC", 0, 0x1000)]
             areas.append(image.Area("SI_ME", 0x1000, 0x1000))
         made = image.Image(0x4000, areas)
-        made.put_at(0, descriptor.ljust(0x1000, descriptor[-1:]) + engine * 0x1000)
+        # (an engine that is not blank begins with its partition table)
+        start = b"" if engine in (b"\xff", b"\0") else b"\xff" * 16 + b"$FPT"
+        made.put_at(0, descriptor.ljust(0x1000, descriptor[-1:]) + start.ljust(0x1000, engine))
         cell = image.Component(b"a", content)
         made.put("COREBOOT", image.join(cell, image.FreeEntry(0x1C00 - len(cell.bytes))))
         return made.data()
@@ -370,17 +372,22 @@ class FlashChecked(ExampleTest):
         self.leaves(run, {**run.after, "chip": left or made})
 
     def test_an_erased_descriptor(self):
-        chip = self.intel("SI_BIOS", b"D")
+        chip = self.intel("SI_BIOS", self.DESCRIPTOR)
         for descriptor, engine, area in [
-            (b"\xff", b"M", "SI_DESC"), (b"D", b"\xff", "SI_ME"), (b"\0", b"\0", "SI_DESC"),
+            (b"\xff", b"M", "SI_DESC"), (self.DESCRIPTOR, b"\xff", "SI_ME"),
         ]:
             made = self.intel("SI_BIOS", descriptor, engine, b"new")
             self.is_refused(chip, made, f"{area} is blank, and not on the chip: "
                             "copy it from chip.rom, or add --ifd -i bios")
+        # (cbfscheck refuses a cleared descriptor, and an engine without its table)
+        for descriptor, engine in [(b"\0", b"M"), (self.DESCRIPTOR, b"\0")]:
+            made = self.intel("SI_BIOS", descriptor, engine, b"new")
+            self.is_refused(chip, made, "see report.txt")
         # (an empty chip, and another descriptor)
-        made = self.intel("SI_BIOS", b"\xff", b"\0")
+        made = self.intel("SI_BIOS", b"\xff", b"\xff")
         self.is_written(made, made)
-        self.is_written(chip, self.intel("SI_BIOS", b"d", b"m"))
+        other = self.DESCRIPTOR[:-1] + b"d"
+        self.is_written(chip, self.intel("SI_BIOS", other, b"m"))
 
     def test_a_descriptor_without_an_area(self):
         """The map of a laptop has an area BIOS, and none for the descriptor and the engine."""

@@ -271,8 +271,10 @@ class Installations(InstallTest):
         root = self.stage / "usr/local"
         tools = self.folder({"flashrom": FLASHROM})
         (tools.path / "flashrom").chmod(0o755)
-        environment = {"PATH": f"{root}/bin:{tools.path}:{SYSTEM}", "CHIP": "image.rom",
-                       "WRITTEN": "written.rom"}
+        scripts = root / "share/doc/cbfstool-proved/examples"
+        environment = {"PATH": f"{root}/bin:{scripts}:{tools.path}:{SYSTEM}",
+                       "CBFSCHECK": "cbfscheck-proved", "CBFSTOOL": "cbfstool-proved",
+                       "CHIP": "image.rom", "WRITTEN": "written.rom"}
         for name in PAGES:
             stem, number = name.split(".")
             text = page_text(f"{stem}-proved.{number}", root / f"share/man/man{number}")

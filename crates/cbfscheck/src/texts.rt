@@ -8,7 +8,7 @@ usage: cbfscheck [OPTIONS] IMAGE
 ";
 
 /// The output of `--version`.
-pub const VERSION: &str = "cbfscheck 2.2\n";
+pub const VERSION: &str = "cbfscheck 2.3\n";
 
 /// The text of `--help`.
 pub const HELP: &str = "\
