@@ -707,7 +707,8 @@ class Boards(unittest.TestCase):
         def noticed(*names):
             return sum(any(row[name] not in ("", "-") for name in names) for row in harmful)
 
-        asked = sum(row["cbfscheck, one image"] != "-" for row in harmful)
+        self.assertFalse([row for row in rows if "-" in (row["cbfscheck, one image"],
+                                                         row["cbfscheck, two images"])])
         stated = words_of_document("docs/VERIFICATION.md")
         for text in [
             f"breaks them in {len(rows)} ways, of which {len(harmful)} do harm and "
@@ -716,11 +717,13 @@ class Boards(unittest.TestCase):
             f"{noticed('rules, one image', 'rules, two images')}, `futility verify` "
             f"{noticed('futility verify')}, coreboot's `print -v` {noticed('cbfstool print -v')}, "
             f"`ifdtool -t` {noticed('ifdtool -t')} and `ifittool` {noticed('ifittool -a')}.",
-            f"`cbfscheck` was asked about {asked} of them, with one image only, and noticed "
-            f"{noticed('cbfscheck, one image')}.",
+            f"`cbfscheck` notices {noticed('cbfscheck, one image')} with the broken image alone, "
+            f"and {noticed('cbfscheck, two images')} with the board as the old image",
         ]:
             self.assertIn(text, stated)
-        self.assertEqual({row["cbfscheck, two images"] for row in rows}, {"-"})
+        refused = [row for row in rows if row["harm"] == "none" and row["cbfscheck, two images"]]
+        self.assertEqual(len(refused), 9)
+        self.assertIn("Of the 110 good changes it calls nine bad", stated)
 
 
 class Procedures(unittest.TestCase):
