@@ -22,7 +22,7 @@ DOCUMENTS = addition.svg bench.svg growth.svg layers.svg overview.svg proved.svg
 # (the documents whose links lead to installed files)
 LINKED = README.md CHANGELOG.md bench/RESULTS.md $(addprefix docs/,$(filter %.md,$(DOCUMENTS)))
 EXAMPLES = add-aligned add-at-address add-at-end bad-digests cbfs-regions check-build component-digest component-place \
-	copy-preserved edit-verified extract-all flash-checked flashrom-layout fmap-config replace-component sign-region undo-nested-map
+	copy-preserved edit-verified extract-all flash-checked flashrom-layout fmap-config replace-component sbom sign-region undo-nested-map
 PROGRAMS = cbfstool fmaptool cbfscheck cbfsseal
 FILES = $(foreach program,$(PROGRAMS),$(BIN)/$(program)$(SUFFIX) $(MAN1)/$(program)$(SUFFIX).1 \
 	$(BASH_FILES)/$(program)$(SUFFIX) $(ZSH_FILES)/_$(program)$(SUFFIX) $(FISH_FILES)/$(program)$(SUFFIX).fish) \

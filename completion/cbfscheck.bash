@@ -137,7 +137,7 @@ _cbfscheck() {
     elif [[ $plain != -* ]]; then
         ((${#images[@]} > 1)) || compopt -o default
     else
-        for option in -r -v --need --all-hashed --list --json --keep --keep-preserved --help --version; do
+        for option in -r -v --need --all-hashed --list --json --flash --keep --keep-preserved --help --version; do
             [[ $given == *" $option "* ]] || _cbfscheck_offer "$option"
         done
     fi

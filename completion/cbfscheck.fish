@@ -82,6 +82,7 @@ complete -c cbfscheck -n '__cbfscheck_lacks --all-hashed' -l all-hashed -d 'requ
 complete -c cbfscheck -n '__cbfscheck_lacks --list' -l list -d 'list the components of the checked areas'
 complete -c cbfscheck -n '__cbfscheck_lacks --json' -l json -d 'report as one JSON document'
 complete -c cbfscheck -n "__cbfscheck_lacks '--keep(=.*)?'" -l keep -x -a '(__cbfscheck_areas ,)' -d 'areas that the new image must not change'
+complete -c cbfscheck -n '__cbfscheck_lacks --flash' -l flash -d 'check before the new image is flashed over the old one'
 complete -c cbfscheck -n '__cbfscheck_lacks --keep-preserved' -l keep-preserved -d 'areas with the flag PRESERVE must not change'
 complete -c cbfscheck -n '__cbfscheck_lacks --help' -l help -d 'print the help'
 complete -c cbfscheck -n '__cbfscheck_lacks --version' -l version -d 'print the version'

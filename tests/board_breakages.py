@@ -880,7 +880,7 @@ def attribute_changes():
 
     def stage(load, first, memory, length=None):
         return lambda content: [*digested(content),
-                                structures.stage_attribute(load, first, memory, length)]
+                                image.stage_attribute(first, memory, load, length)]
 
     gone = "coreboot's tools and the firmware read other attributes than ours"
     bad_stage = "the firmware jumps outside the stage"
@@ -924,10 +924,10 @@ def attribute_changes():
         ("romstage has no attribute of a stage", rebuilt(rom, digested, text(10, 29900)),
          bad_stage),
         ("romstage's attribute has 20 bytes", rebuilt(rom, lambda content: [
-            *digested(content), image.attribute(structures.STAGE_TAG, bytes(12))],
+            *digested(content), image.attribute(image.STAGE_TAG, bytes(12))],
             text(10, 29900)), bad_stage),
         ("romstage's attribute has 28 bytes", rebuilt(rom, lambda content: [
-            *digested(content), image.attribute(structures.STAGE_TAG, struct.pack(
+            *digested(content), image.attribute(image.STAGE_TAG, struct.pack(
                 ">QIII", 0x2000000, 16, 30000, 0))], text(10, 29900)),
             "the firmware refuses the stage"),
         ("romstage's entry is its memory size", rebuilt(rom, stage(0x2000000, 30000, 30000),
@@ -941,7 +941,7 @@ def attribute_changes():
         ("romstage's memory is smaller than its content",
          rebuilt(rom, stage(0x2000000, 16, 100), text(10, 29900)), "romstage is cut off"),
         ("romstage has no digest", rebuilt(rom, lambda content: [
-            structures.stage_attribute(0x2000000, 16, 30000)], text(10, 29900)), UNLOADED),
+            image.stage_attribute(16, 30000, 0x2000000)], text(10, 29900)), UNLOADED),
     ]
     return [Change("intel", "attributes", *row) for row in rows]
 

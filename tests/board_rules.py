@@ -16,8 +16,8 @@ import struct
 from collections import namedtuple
 
 from tests.image import (ANCHOR_MAGIC, BOOTBLOCK, CBFS_HEADER, COMPRESSION_TAG, DELETED, HASH_TAG,
-                         HASHES, MAGIC, NULL, PRESERVED, SIMPLE_ELF, STAGE)
-from tests.structures import DESCRIPTOR_AREAS, DESCRIPTOR_MAGIC, PAGE, STAGE_TAG
+                         HASHES, MAGIC, NULL, PRESERVED, SIMPLE_ELF, STAGE, STAGE_TAG)
+from tests.structures import DESCRIPTOR_AREAS, DESCRIPTOR_MAGIC, PAGE
 
 BAD, REMARK = "bad", "remark"
 FSP = 0x60

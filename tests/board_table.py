@@ -1,11 +1,12 @@
 #!/usr/bin/env python3
 """Breaks the boards of tests/boards.py in each way of tests/board_breakages.py, and asks judges.
 
-    python3 -m tests.board_table [--one-image] [--minutes=N] [TABLE]
+    python3 -m tests.board_table [--one-image] [--minutes=N] [--cbfscheck] [TABLE]
 
 The table is tests/boards.tsv by default. The other judges come first. Then cbfscheck, which is that
 of tests/programs.py, checks the images for at most N minutes; with --one-image it compares no two
-images, which takes long with a build that is not optimised.
+images, which takes long with a build that is not optimised. With --cbfscheck, only it is asked, and
+the cells of the other judges stay as they are in the table.
 
 Run by hand; the same tools are needed as for tests/boards.py. A judge *notices* a change if it says
 more against the changed image than against the board. The judges are `futility verify`, `ifdtool
@@ -186,7 +187,7 @@ def cbfscheck(board, old, data, folder, two=True):
     rom, before = folder / "image.rom", folder / "old.rom"
     rom.write_bytes(data)
     before.write_bytes(old)
-    page = ("-r", "COREBOOT", *PAGE_OPTIONS[board], "--keep-preserved", before, rom)
+    page = ("--flash", "-r", "COREBOOT", *PAGE_OPTIONS[board], before, rom)
     return [cbfscheck_rows(folder, "-r", "COREBOOT", rom),
             cbfscheck_rows(folder, *page) if two else None]
 
@@ -261,16 +262,34 @@ def main(*words):
     path = pathlib.Path(names[0] if names else pathlib.Path(__file__).with_name("boards.tsv"))
     images = {name: boards.build(name) for name in boards.BUILDERS}
     changes = all_changes()
-    known = known_complaints(other_judges, images)
-    with concurrent.futures.ProcessPoolExecutor(2) as pool:
-        tasks = [pool.submit(new_complaints, other_judges, n, images[one.board], known[one.board])
-                 for n, one in enumerate(changes)]
-        rows = [[*task.result(), None, None] for task in tasks]
-    write(path, changes, rows)
+    if "--cbfscheck" in options:
+        rows = kept_rows(path, changes)
+    else:
+        rows = ask_others(images, changes)
+        write(path, changes, rows)
     if has_program("cbfscheck"):
         end = time.monotonic() + 60 * min(limits, default=24 * 60)
         ask_cbfscheck(path, images, changes, rows, two, end)
     sys.exit(0 if report(changes, rows) else 1)
+
+
+def ask_others(images, changes):
+    """Returns a row of complaints for each change, without those of cbfscheck."""
+    known = known_complaints(other_judges, images)
+    with concurrent.futures.ProcessPoolExecutor(2) as pool:
+        tasks = [pool.submit(new_complaints, other_judges, n, images[one.board], known[one.board])
+                 for n, one in enumerate(changes)]
+        return [[*task.result(), None, None] for task in tasks]
+
+
+def kept_rows(path, changes):
+    """Returns the rows of the table, in which a cell is one complaint, without cbfscheck."""
+    kept = {}
+    for text in path.read_text().splitlines()[1:]:
+        fields = text.split("\t")
+        cells = [None if one == NOT_ASKED else {one} - {""} for one in fields[4:10]]
+        kept[fields[0], fields[2]] = [*cells, None, None]
+    return [kept[one.board, one.phrase] for one in changes]
 
 
 def ask_cbfscheck(path, images, changes, rows, two, end):

@@ -377,8 +377,8 @@ def check_stage(folder, board):
     """The attribute of a stage that `add-stage` made from an ELF file of elf()."""
     one = next(one for one in board.components() if one.name == b"fallback/ramstage")
     seen = one.metadata[one.attributes_offset :]
-    at = seen.index(struct.pack(">I", structures.STAGE_TAG))
-    return seen[at : at + 24], structures.stage_attribute(0x4000000, 16, 120000)
+    at = seen.index(struct.pack(">I", image.STAGE_TAG))
+    return seen[at : at + 24], image.stage_attribute(16, 120000, 0x4000000)
 
 
 def check_newer_descriptor(folder, board):

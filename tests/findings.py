@@ -5,7 +5,7 @@ A report is written as its lines, in which `|` stands for a tab:
     self.reports(1, board(0x400, [FMAP, ("D", 0x180, 0x281)]), '''
         remark|-|-|0x0|flashmap
         bad|D|-|0x180|ends outside the image
-        1 bad, 1 remarks, 0 changes
+        not sound: 1 bad, 1 remarks, 0 changes
     ''')
 
 The cells have names of one letter, in a name field of 16 bytes, and mostly ten bytes of content.
@@ -23,6 +23,17 @@ def report(text):
     """Returns the bytes of a report; blanks at the start of a line are left out."""
     lines = [line.lstrip(" ") for line in text.strip("\n ").split("\n")]
     return "".join(f"{line}\n" for line in lines).replace("|", "\t").encode()
+
+
+def verdict(bad):
+    """Returns the verdict in words of a report without --flash, by its number of bad rows."""
+    return "not sound" if bad else "sound"
+
+
+def conclusion(bad, remarks, changes):
+    """Returns the last line of a report without --flash: the verdict in words, and the numbers of
+    rows."""
+    return f"{verdict(bad)}: {bad} bad, {remarks} remarks, {changes} changes"
 
 
 class CheckTest(ProgramTest):
@@ -59,6 +70,11 @@ def board(size, areas, *pieces, **fields):
     return made.data()
 
 
+def small(areas, *pieces, **fields):
+    """Returns an image of 1024 bytes with the area FMAP and these areas, and bytes at offsets."""
+    return board(0x400, [FMAP, *areas], *pieces, **fields)
+
+
 def blocks_of(areas, *places, size=0x3000):
     """Returns an image whose area FMAP has the first 4096 bytes, with 0 at these offsets."""
     image = board(size, [("FMAP", 0, 0x1000), *areas])
@@ -70,6 +86,8 @@ def region(size, cells, *pieces):
 
     The cells follow each other, and the offsets of the pieces count from the start of the region.
     """
+    if len(join(*cells)) > size:
+        raise ValueError(f"cells of {len(join(*cells))} bytes for a region of {size}")
     moved = [(0x100 + at, piece) for at, piece in pieces]
     return board(0x100 + size, [FMAP, ("A", 0x100, size)], (0x100, join(*cells)), *moved)
 

@@ -34,6 +34,7 @@ NULL = 0xFFFFFFFF
 # Tags of attributes.
 COMPRESSION_TAG = 0x42435A4C
 HASH_TAG = 0x68736148
+STAGE_TAG = 0x53746748
 
 # Compression algorithms.
 NONE, LZMA, LZ4 = 0, 1, 2
@@ -67,6 +68,11 @@ def attribute(tag, data=b"", length=None):
 def compression(algorithm, size=0):
     """Returns a compression attribute with the decompressed size."""
     return attribute(COMPRESSION_TAG, struct.pack(">II", algorithm, size))
+
+
+def stage_attribute(entry=0, memory=1, load=0x1000, length=None):
+    """Returns the attribute of a stage: load address, offset of the entry point, size in memory."""
+    return attribute(STAGE_TAG, struct.pack(">QII", load, entry, memory), length)
 
 
 def hash_attribute(algorithm, content=b"", value=None):
@@ -193,9 +199,11 @@ class Image:
         self.put_at(self.map_at, self.map)
 
     def put(self, name, region):
-        """Puts bytes at the start of the first area with this name."""
-        offsets = [area.offset for area in self.areas if area.name == name.encode()]
-        self.put_at(offsets[0], region)
+        """Puts bytes at the start of the first area with this name, which must have room."""
+        area = next(area for area in self.areas if area.name == name.encode())
+        if len(region) > area.size:
+            raise ValueError(f"{len(region)} bytes for the area {name}, which has {area.size}")
+        self.put_at(area.offset, region)
         return self
 
     def put_at(self, at, data):

@@ -15,7 +15,6 @@ and cbfsseal finds both digests right, by the judge's word too.
 
 import pathlib
 import random
-import struct
 import subprocess
 import sys
 import tempfile
@@ -24,6 +23,7 @@ from tests.image import (
     BOOTBLOCK, HASHES, SHA256, SHA512, Area, Component, FreeEntry, Image, flash_map, join,
 )
 from tests.programs import program
+from tests.structures import elf
 from tests.test_seal import BOOT_AREA, COREBOOT, FMAP, SIZE, outdated
 
 JUDGE = "/usr/sbin/cbfstool"
@@ -95,22 +95,15 @@ def sequences(chance, folder):
 # ---- Images of coreboot's commands
 
 LARGE = 0x40000
+LOAD = 0x100000
 AREAS = [FMAP, Area("COREBOOT", 0x1000, 0x20000)]
 PLAIN_TYPES = ["raw", "bootsplash", "mrc_cache", "microcode", "optionrom", "spd", "cmos_default"]
 
 
-def elf(chance):
-    """Returns a 32-bit ELF file with a loadable segment, sections, and their names."""
+def random_elf(chance):
+    """Returns an ELF file with code at random, and 32 more bytes of memory."""
     code = chance.randbytes(chance.randint(1, 900)) + bytes(chance.randrange(600))
-    names, start, address = b"\0.text\0.shstrtab\0", 0x1000, 0x100000
-    sections = -(-(start + len(code) + len(names)) // 4) * 4
-    head = b"\x7fELF\1\1\1" + bytes(9) + struct.pack(
-        "<HHIIIIIHHHHHH", 2, 3, 1, address, 52, sections, 0, 52, 32, 1, 40, 3, 2)
-    segment = struct.pack("<8I", 1, start, address, address, len(code), len(code) + 32, 7, 0x1000)
-    rows = [(0,) * 10, (1, 1, 6, address, start, len(code), 0, 0, 4, 0),
-            (7, 3, 0, 0, start + len(code), len(names), 0, 0, 1, 0)]
-    made = (head + segment).ljust(start, b"\0") + code + names
-    return made.ljust(sections, b"\0") + b"".join(struct.pack("<10I", *row) for row in rows)
+    return elf(LOAD, LOAD, code, len(code) + 32)
 
 
 def added(chance, kind, name):
@@ -182,7 +175,7 @@ class Build:
                 return True
             return False
         (self.folder / "file").write_bytes(self.chance.randbytes(self.chance.randint(1, 3000)))
-        (self.folder / "elf").write_bytes(elf(self.chance))
+        (self.folder / "elf").write_bytes(random_elf(self.chance))
         name = "c" * self.chance.randint(1, 40) + str(self.chance.randrange(10**6))
         words = added(self.chance, self.chance.choice(kinds), name)
         if not self.run(words):
@@ -197,7 +190,7 @@ class Build:
         self.checked += 1
         report = subprocess.run([program("cbfscheck"), "-v", "-r", "COREBOOT", self.image],
                                 stdout=subprocess.PIPE, stderr=subprocess.PIPE)
-        if report.returncode or b"\t0 bad" not in report.stdout and b"\nbad" in report.stdout:
+        if report.returncode:
             return f"cbfscheck: {(report.stdout + report.stderr).decode(errors='replace')}"
         before = self.image.read_bytes()
         sealed = subprocess.run([program("cbfsseal"), "-v", "--allow-unhashed", self.image],

@@ -25,6 +25,7 @@ A command can also run under conditions that the system seldom makes, which are 
 `Folder.start` starts a command, and returns while it runs; `locked` holds the lock of a file.
 """
 
+import collections
 import concurrent.futures
 import contextlib
 import difflib
@@ -44,9 +45,11 @@ import threading
 import time
 import unittest
 
+# (unittest then leaves the frames of this file out of a traceback)
+__unittest = True
+
 TOP = pathlib.Path(__file__).resolve().parent.parent
 NAMES = ("cbfstool", "fmaptool", "cbfscheck", "cbfsseal")
-TIME_LIMIT = 60
 
 
 def program(name):
@@ -73,6 +76,10 @@ HAS_COMPILER = shutil.which("cc") is not None
 # The variable UNPROVED says that the programs were built by `rt try`. They are slower, and take
 # memory in another way, in which no request can be refused.
 IS_PROVED = not os.environ.get("UNPROVED")
+# The seconds after which a command is stopped.
+TIME_LIMIT = 60
+if not IS_PROVED:
+    TIME_LIMIT *= 10
 if_memory_can_be_refused = unittest.skipUnless(
     HAS_COMPILER and IS_PROVED, "a proved build" if HAS_COMPILER else "cc"
 )
@@ -103,16 +110,31 @@ def compiled(name):
     return LIBRARIES[name][1]
 
 
+# A system call on the file of `Faults`: `offset` and `length` are those of a read or a write, and
+# `way` tells how the call was changed, or is empty.
+Call = collections.namedtuple("Call", "name number offset length way")
+# The calls that can be changed, each with the ways other than an error.
+MOVING = {"short", "part", "none", "kill", "pause"}
+CALLS = {
+    "open": {"kill", "pause"}, "stat": {"other", "kill", "pause"}, "lock": {"kill", "pause"},
+    "read": MOVING, "write": MOVING, "seek": {"kill", "pause"}, "sync": {"kill", "pause"},
+    "close": {"kill", "pause"}, "memory": set(),
+}
+
+
 class Faults:
     """Changes of the system calls on a file, as tests/faults/calls.c states them.
 
     `file` is a path as it stands on the command line. A change is for example `write 1 1 EIO` or
     `read 2 always EINTR`: the call, the first and the last number, and an error or another way.
-    After the command, `calls` has a tuple of name, number and way for each call on the file.
+    After the command, `calls` has a `Call` for each call on the file. To see which number a call
+    has, print `listing()` after a command with `Faults(file)`, which changes nothing. `check` fails
+    if there are changes and no call was changed, unless `may_change_nothing` is true.
     """
 
-    def __init__(self, file, *changes, pause=""):
+    def __init__(self, file, *changes, pause="", may_change_nothing=False):
         self.file = file
+        self.is_required = bool(changes) and not may_change_nothing
         self.changes = ",".join(map(self.numbered, changes))
         self.pause = pause
         self.calls = []
@@ -121,8 +143,17 @@ class Faults:
     def numbered(change):
         """Returns a change with numbers instead of the names of errors and of `always`."""
         name, first, last, way = change.split()
+        if name not in CALLS:
+            raise ValueError(f"{change}: the call is none of {', '.join(CALLS)}")
         number = str(ALWAYS) if last == "always" else last
-        return f"{name} {first} {number} {getattr(errno, way, way)}"
+        if not 1 <= int(first) <= int(number):
+            raise ValueError(f"{change}: the numbers of the first and the last call are wrong")
+        if way.startswith("E") and hasattr(errno, way):
+            way = getattr(errno, way)
+        elif way not in CALLS[name]:
+            words = ", ".join(sorted(CALLS[name]))
+            raise ValueError(f"{change}: {way} is no error of errno, and none of: {words}")
+        return f"{name} {first} {number} {way}"
 
     def environment(self, listed):
         """Returns the environment of a command whose calls are listed in this file."""
@@ -135,12 +166,21 @@ class Faults:
         """Reads the list of calls, and removes it."""
         lines = listed.read_text().splitlines() if listed.exists() else []
         rows = [line.split(" ") for line in lines]
-        self.calls = [(name, int(number), way) for name, number, way in rows]
+        self.calls = [Call(name, *map(int, numbers), way) for name, *numbers, way in rows]
         listed.unlink(missing_ok=True)
+
+    def listing(self, limit=40):
+        """Returns a line for each call, as a text: its name, number, bytes and change."""
+        lines = []
+        for call in self.calls[:limit]:
+            moved = f" of {call.length} bytes at {call.offset:#x}" if call.length else ""
+            lines.append(f"{call.name} {call.number}{moved}{call.way and f': {call.way}'}")
+        more = len(self.calls) - limit
+        return "\n".join(lines + [f"({more} more calls)"] * (more > 0))
 
     def changed(self):
         """Returns how many calls were changed."""
-        return sum(way != "" for _, _, way in self.calls)
+        return sum(call.way != "" for call in self.calls)
 
 
 @contextlib.contextmanager
@@ -191,9 +231,10 @@ def preparation(closed, file_limit, as_nobody):
 
 
 class Run:
-    """The result of a command: status, output, message, and the files before and after it."""
+    """The result of a command: status, output, message, the files before and after it, and the
+    changes of its system calls, or None."""
 
-    def __init__(self, command, folder, status, output, message, before, after):
+    def __init__(self, command, folder, status, output, message, before, after, faults=None):
         self.command = command
         self.folder = folder
         self.status = status
@@ -201,6 +242,7 @@ class Run:
         self.message = message
         self.before = before
         self.after = after
+        self.faults = faults
 
 
 class Folder:
@@ -288,7 +330,8 @@ class Started:
         if self.faults:
             self.faults.read_calls(self.listed)
         after = self.folder.files()
-        return Run(self.command, self.folder.path, status, output, message, self.before, after)
+        return Run(self.command, self.folder.path, status, output, message, self.before, after,
+                   self.faults)
 
     def kill(self):
         """Kills the command, and the commands that it has started, unless it has ended."""
@@ -362,17 +405,26 @@ class ProgramTest(unittest.TestCase):
         that it removes; all other files must stay as they were. Returns the run.
         """
         folder = files if isinstance(files, Folder) else self.folder(files)
-        return self.compare_run(folder, folder.run(command, **run), status, output, message, left)
+        done = self.compare_run(folder, folder.run(command, **run), status, output, message, left)
+        if done.faults and done.faults.is_required and not done.faults.changed():
+            self.differs(folder, done, ["no system call was changed"])
+        return done
 
     def compare_run(self, folder, done, status=0, output=b"", message="", left=None):
         """Compares all that a run did, as `check` does, and returns the run."""
-        self.compare(folder, done, "status", status, done.status)
-        self.compare(folder, done, "message", as_bytes(message), done.message)
-        self.compare(folder, done, "output", as_bytes(output), done.output)
-        expected = {**done.before, **{name: as_bytes(data) for name, data in (left or {}).items()}}
-        expected = {name: data for name, data in expected.items() if data is not None}
-        for name in sorted({*expected, *done.after}):
-            self.compare(folder, done, name, expected.get(name), done.after.get(name))
+        files = {**done.before, **{name: as_bytes(data) for name, data in (left or {}).items()}}
+        files = {name: data for name, data in files.items() if data is not None}
+        names = sorted({*files, *done.after})
+        values = [
+            ("status", status, done.status),
+            ("message", as_bytes(message), done.message),
+            ("output", as_bytes(output), done.output),
+            *((name, files.get(name), done.after.get(name)) for name in names),
+        ]
+        wrong = [f"{what} of the command differs\n{difference(expected, seen)}"
+                 for what, expected, seen in values if expected != seen]
+        if wrong:
+            self.differs(folder, done, wrong)
         return done
 
     def refuses(self, status, message, command, files=(), left=None, **run):
@@ -427,15 +479,19 @@ class ProgramTest(unittest.TestCase):
 
     def compare(self, folder, done, what, expected, seen):
         """Fails with the command, a diff and the folder if a value differs."""
-        if expected == seen:
-            return
+        if expected != seen:
+            shown = difference(expected, seen)
+            self.differs(folder, done, [f"{what} of the command differs\n{shown}"])
+
+    def differs(self, folder, done, wrong):
+        """Fails with the command, all that is wrong, the system calls and the folder."""
         folder.kept = True
-        words = shlex.join(words_of(done.command))
-        shown = f"message: {done.message.decode(errors='replace')}" if what == "status" else ""
-        self.fail(
-            f"{what} of the command differs\ncommand: {words}\n"
-            f"{difference(expected, seen)}\n{shown}\nfolder: {folder.path}"
-        )
+        words = shlex.join(map(os.fsdecode, words_of(done.command)))
+        calls = []
+        if done.faults:
+            changed = "" if done.faults.changed() else ", of which none was changed"
+            calls = [f"calls on {done.faults.file}{changed}:\n{done.faults.listing()}"]
+        self.fail("\n".join([f"command: {words}", *wrong, *calls, f"folder: {folder.path}"]))
 
 
 def as_bytes(value):

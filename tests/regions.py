@@ -1,33 +1,16 @@
-"""Reads regions, and changes them as docs/FORMAT.md states: a second model for real images.
+"""Changes regions as docs/FORMAT.md states, and lists them: a second model of the commands.
 
     cells(region)                            its cells, in order
     with_component(region, at, component)    the region after an addition at a position
     without_component(region, name)          the region after a removal
     listing(region)                          the output of `print`
+    rows(cells, is_verbose)                  that of `print -v` for cells
+    runs(cells)                              the runs of free cells
 """
 
-import struct
-from typing import NamedTuple
-
-from tests.image import COMPRESSION_TAG, DELETED, NULL, FreeEntry, round_up
-from tests.texts import TYPES, shown
-
-COMPRESSIONS = {0: "none", 1: "LZMA", 2: "LZ4"}
-
-
-class Cell(NamedTuple):
-    """The cell of an entry: positions in the region, fields of the head, name and content."""
-
-    position: int
-    end: int
-    type: int
-    name: bytes
-    attributes: bytes
-    content: bytes
-
-    def is_free(self):
-        """Returns whether the cell is free space."""
-        return self.type in (DELETED, NULL)
+from tests.image import FreeEntry
+from tests.reading import cut
+from tests.texts import COMPRESSIONS, TYPES, shown
 
 
 def cells(region):
@@ -35,17 +18,20 @@ def cells(region):
 
     The entries are valid; otherwise the test is wrong.
     """
-    found, at = [], 0
-    while region[at : at + 8] == b"LARCHIVE":
-        length, kind, attributes, offset = struct.unpack(">IIII", region[at + 8 : at + 24])
-        end = at + round_up(offset + length, 64)
-        if offset < 24 or end > len(region):
-            raise ValueError(f"a damaged entry at {at:#x}")
-        name = region[at + 24 : at + (attributes or offset)].partition(b"\0")[0]
-        stored = region[at + attributes : at + offset] if attributes else b""
-        content = region[at + offset : at + offset + length]
-        found.append(Cell(at, end, kind, name, stored, content))
-        at = end
+    found = cut(region)
+    if found.damage:
+        raise ValueError(found.refusal())
+    return found.cells
+
+
+def runs(cells):
+    """Returns the start and the end of each run of free cells."""
+    found = []
+    for cell in cells:
+        if cell.is_free() and found and found[-1][1] == cell.position:
+            found[-1] = found[-1][0], cell.end
+        elif cell.is_free():
+            found.append((cell.position, cell.end))
     return found
 
 
@@ -90,25 +76,37 @@ def with_component(region, at, component):
             + free_bytes(region, stop, end) + region[end:])
 
 
-def compression_of(attributes):
-    """Returns the algorithm of the first compression attribute, or 0."""
-    while len(attributes) >= 8:
-        tag, length = struct.unpack(">II", attributes[:8])
-        if tag == COMPRESSION_TAG:
-            return struct.unpack(">I", attributes[8:12])[0]
-        if tag in (0, 0xFFFFFFFF):
-            return 0
-        attributes = attributes[length:]
-    return 0
+# ---- Lists
+
+
+def row(cell):
+    """Returns the row of a cell, as `print` prints it."""
+    name = "(empty)" if cell.is_free() else shown(cell.name)
+    kind = TYPES.get(cell.type, hex(cell.type))
+    packing = cell.compression()
+    packed = COMPRESSIONS.get(packing, hex(packing))
+    return f"{name}\t{cell.position:#x}\t{kind}\t{cell.head[0]}\t{packed}\n"
+
+
+def details(cell):
+    """Returns the lines below the row of a cell, as `print -v` prints them."""
+    if cell.is_free():
+        return ""
+    lines = [f"\tattr\t0x{tag:08x}\t{len(data)}\n" for tag, data in cell.attributes()]
+    state = cell.hash_state()
+    if state == "unsupported":
+        lines.append("\thash\tunsupported\n")
+    elif state != "absent":
+        algorithm, result = state.split()
+        lines.append(f"\thash\t{algorithm}\t{cell.stored_digest()[1].hex()}\t{result}\n")
+    return "".join(lines)
+
+
+def rows(cells, is_verbose=False):
+    """Returns what `print` prints for cells, or `print -v`."""
+    return "".join(row(cell) + (details(cell) if is_verbose else "") for cell in cells)
 
 
 def listing(region):
-    """Returns the output of `print` for the region."""
-    lines = []
-    for cell in cells(region):
-        name = "(empty)" if cell.is_free() else shown(cell.name)
-        kind = TYPES.get(cell.type, hex(cell.type))
-        packing = compression_of(cell.attributes)
-        packed = "none" if cell.is_free() else COMPRESSIONS.get(packing, hex(packing))
-        lines.append(f"{name}\t{cell.position:#x}\t{kind}\t{len(cell.content)}\t{packed}\n")
-    return "".join(lines)
+    """Returns the output of `print` for a region without damage."""
+    return rows(cells(region))

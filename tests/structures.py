@@ -234,16 +234,6 @@ def header_pointer(place, region_size):
 
 # ---- Stages
 
-STAGE_TAG = 0x53746748
-
-
-def stage_attribute(load, entry, memory_size, length=None):
-    """Returns the attribute of a stage, in big-endian numbers.
-
-    `entry` is the offset of the first instruction from the address `load`.
-    """
-    return attribute(STAGE_TAG, struct.pack(">QII", load, entry, memory_size), length)
-
 
 def elf(load, entry, content, memory_size=None, machine=3):
     """Returns an ELF file of 32 bits with one segment; machine 3 is i386, 40 is ARM.

@@ -399,11 +399,14 @@ class Refusals(AddTest):
         uneven[102:104], outside[102:105] = b"\xf4\x01", b"\0\0\x01"
         damaged = bytearray(Sample("types").image)
         damaged[0x5800 + 0x48 : 0x5800 + 0x4A] = b"\0\x01"
+        cut = Component(b"a", name_field=b"a\0b".ljust(16, b"\0"))
         for title, image, refusal in [
             ("no byte", b"", "no FMAP"), ("ten bytes", b"0123456789", "no FMAP"),
             ("a size that is no multiple of 64", bytes(uneven), "bad region size"),
             ("a region that ends outside", bytes(outside), "region outside the image"),
             ("a damaged entry", bytes(damaged), "damaged entry at 0x40: extent"),
+            ("a name that ends at the first NUL of its field",
+             SmallRegions.image(join(cut, empty_region(448))), "component exists"),
         ]:
             with self.subTest(title):
                 self.refuses(1, refusal, "cbfstool image.rom add -n a -t raw -f ten",

@@ -13,16 +13,16 @@ import pathlib
 import resource
 import shutil
 import signal
-import struct
 import subprocess
 import tempfile
 import unittest
 
 from tests.image import (
-    DELETED, NULL, SHA256, SHA512, Area, Component, FreeEntry, Image, empty_region, flash_map,
-    hash_attribute, join, round_up,
+    SHA256, SHA512, Area, Component, FreeEntry, Image, empty_region, flash_map, hash_attribute,
+    join,
 )
 from tests.programs import ProgramTest, difference, program
+from tests.reading import cut
 
 BLOCK = 4096
 REGION = 7 * BLOCK
@@ -88,15 +88,10 @@ def image(start, entries):
 
 def cells(data):
     """Returns the components of a region, by their positions, and the end of the cells."""
-    found, at = {}, 0
-    while at + 24 <= len(data) and data[at : at + 8] == b"LARCHIVE":
-        length, kind, attributes, offset = struct.unpack(">IIII", data[at + 8 : at + 24])
-        if offset < 24 or at + offset + length > len(data):
-            return found, ("damage", at)
-        if kind not in (DELETED, NULL):
-            found[at] = data[at : at + offset + length]
-        at += round_up(offset + length, 64)
-    return found, ("complete" if at == len(data) else "tail", at)
+    found = cut(data)
+    state = "damage" if found.damage else "complete" if found.end == len(data) else "tail"
+    used = {one.position: one.metadata + one.content for one in found.components}
+    return used, (state, found.end)
 
 
 def components(entries):

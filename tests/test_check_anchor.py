@@ -9,7 +9,7 @@ import unittest
 from tests.image import (
     ANCHOR_MAGIC, BOOTBLOCK, CBFS_HEADER, HASH_TAG, HASHES, RAW, SHA1, SHA224, SHA256, SHA384,
     SHA512, SIMPLE_ELF, STAGE, Area, Component, FreeEntry, Image, anchor, attribute, digest,
-    hash_attribute, join, metadata_digest, sealed_anchor,
+    hash_attribute, join, metadata_digest, sealed_anchor, stage_attribute,
 )
 from tests.findings import CheckTest
 from tests.programs import ProgramTest
@@ -218,7 +218,7 @@ class Faults(CheckAnchor):
 
     def test_no_anchor(self):
         """Without an anchor, the rows are those of each image."""
-        parts = [Component(b"s", b"x", type=STAGE), hashed(b"a", algorithm=SHA512)]
+        parts = [Component(b"s", b"x", type=SIMPLE_ELF), hashed(b"a", algorithm=SHA512)]
         expected = [("remark", "COREBOOT", "a", "0x40", "sha512 valid")]
         self.finds(plain(parts), expected)
         self.finds(in_area(parts, b""), expected)
@@ -240,7 +240,8 @@ class Components(CheckAnchor):
             (LEGACY_STAGE, "bad"), (STAGE, "bad"), (SIMPLE_ELF, "bad"), (FIT_PAYLOAD, "bad"),
             (FSP, "bad"), (RAW, "remark"), (0x53, "remark"), (BOOTBLOCK, None), (CBFS_HEADER, None),
         ]:
-            parts = [Component(b"a", b"x", type=kind)]
+            parts = [Component(b"a", b"x", type=kind,
+                               attributes=[stage_attribute()] * (kind == STAGE))]
             row = [(verdict, "COREBOOT", "a", "0x0", "no hash")] if verdict else []
             header = [NO_HEADER] if kind == CBFS_HEADER else []
             with self.subTest(kind):
@@ -259,7 +260,7 @@ class Components(CheckAnchor):
             (SHA1, "hash unsupported"), (SHA512, "sha512 valid"), (SHA224, "hash unsupported"),
             (SHA384, "hash unsupported"),
         ]:
-            parts = [hashed(b"a", algorithm=algorithm, type=STAGE)]
+            parts = [hashed(b"a", algorithm=algorithm, type=SIMPLE_ELF)]
             with self.subTest(HASHES[algorithm]):
                 self.components(sealed(parts), [
                     ("remark", "COREBOOT", "a", "0x0", state),
@@ -269,14 +270,17 @@ class Components(CheckAnchor):
     def test_an_incomplete_digest(self):
         """The firmware finds no digest in a short attribute, or in one of an unknown algorithm."""
         other = "hash isn't of the anchor's algorithm"
-        for data in (b"\0\0\0\2" + bytes(31), b"\0\0\0\1" + bytes(19), b"\0\0\0\x09" + bytes(64)):
-            for kind, verdict in [(STAGE, "bad"), (RAW, "remark")]:
+        short, unknown = "digest attribute has a wrong length", "digest has an unknown algorithm"
+        for data, fault in [(b"\0\0\0\2" + bytes(31), short), (b"\0\0\0\1" + bytes(19), short),
+                            (b"\0\0\0\x09" + bytes(64), unknown)]:
+            for kind, verdict in [(SIMPLE_ELF, "bad"), (RAW, "remark")]:
                 parts = [Component(b"a", b"x", type=kind, attributes=[attribute(HASH_TAG, data)])]
                 with self.subTest((data[3], kind)):
                     self.components(sealed(parts), [
                         (verdict, "COREBOOT", "a", "0x0", "hash unsupported"),
                         ("remark", "COREBOOT", "a", "0x0", other),
-                    ], status=int(verdict == "bad"))
+                        ("bad", "COREBOOT", "a", "0x0", fault),
+                    ], status=1)
 
     def test_invalid_digests(self):
         wrong = hash_attribute(SHA256, b"other")
@@ -294,14 +298,14 @@ class Components(CheckAnchor):
     def test_another_region(self):
         """The anchor has nothing to do with the components of other regions."""
         areas = (FMAP, COREBOOT, BOOT_AREA, OTHER)
-        made = sealed([], areas=areas).put("OTHER", region(Component(b"s", b"x", type=STAGE)))
+        made = sealed([], areas=areas).put("OTHER", region(Component(b"s", b"x", type=SIMPLE_ELF)))
         self.components(made, [("remark", "COREBOOT", "-", "-", "no components")])
 
     def test_metadata_of_256_and_257_bytes(self):
         long = "metadata longer than 256 bytes: firmware can't find it"
         for gap, is_long in [(0, False), (1, True), (64, True)]:
             # A head of 24 bytes, a name of 4, and a digest of 44, up to 256 bytes.
-            part = hashed(b"a", gap=256 - 24 - 4 - 44 + gap, type=STAGE)
+            part = hashed(b"a", gap=256 - 24 - 4 - 44 + gap, type=SIMPLE_ELF)
             self.assertEqual(len(part.metadata), 256 + gap)
             state = ("remark", "COREBOOT", "a", "0x0", "sha256 valid")
             row = [("bad", "COREBOOT", "a", "0x0", long)] if is_long else []
@@ -418,7 +422,7 @@ class Reports(CheckTest):
             remark|COREBOOT|-|-|no components
             remark|COREBOOT|-|-|free bytes|1024
             remark|COREBOOT|-|-|largest content that add takes|992
-            0 bad, 7 remarks, 0 changes
+            sound: 0 bad, 7 remarks, 0 changes
         """, """
             remark|-|-|0x0|flashmap
             bad|BOOTBLOCK|-|0x40|metadata hash sha1 invalid: run cbfsseal IMAGE
@@ -427,7 +431,7 @@ class Reports(CheckTest):
             remark|COREBOOT|-|-|no components
             remark|COREBOOT|-|-|free bytes|1024
             remark|COREBOOT|-|-|largest content that add takes|992
-            2 bad, 5 remarks, 0 changes
+            not sound: 2 bad, 5 remarks, 0 changes
         """)
 
     def test_sha224(self):
@@ -439,7 +443,7 @@ class Reports(CheckTest):
             remark|COREBOOT|-|-|no components
             remark|COREBOOT|-|-|free bytes|1024
             remark|COREBOOT|-|-|largest content that add takes|992
-            0 bad, 7 remarks, 0 changes
+            sound: 0 bad, 7 remarks, 0 changes
         """, """
             remark|-|-|0x0|flashmap
             bad|BOOTBLOCK|-|0x40|metadata hash sha224 invalid: run cbfsseal IMAGE
@@ -448,7 +452,7 @@ class Reports(CheckTest):
             remark|COREBOOT|-|-|no components
             remark|COREBOOT|-|-|free bytes|1024
             remark|COREBOOT|-|-|largest content that add takes|992
-            2 bad, 5 remarks, 0 changes
+            not sound: 2 bad, 5 remarks, 0 changes
         """)
 
     def test_sha256(self):
@@ -460,7 +464,7 @@ class Reports(CheckTest):
             remark|COREBOOT|-|-|no components
             remark|COREBOOT|-|-|free bytes|1024
             remark|COREBOOT|-|-|largest content that add takes|992
-            0 bad, 7 remarks, 0 changes
+            sound: 0 bad, 7 remarks, 0 changes
         """, """
             remark|-|-|0x0|flashmap
             bad|BOOTBLOCK|-|0x40|metadata hash sha256 invalid: run cbfsseal IMAGE
@@ -469,7 +473,7 @@ class Reports(CheckTest):
             remark|COREBOOT|-|-|no components
             remark|COREBOOT|-|-|free bytes|1024
             remark|COREBOOT|-|-|largest content that add takes|992
-            2 bad, 5 remarks, 0 changes
+            not sound: 2 bad, 5 remarks, 0 changes
         """)
 
     def test_sha384(self):
@@ -481,7 +485,7 @@ class Reports(CheckTest):
             remark|COREBOOT|-|-|no components
             remark|COREBOOT|-|-|free bytes|1024
             remark|COREBOOT|-|-|largest content that add takes|992
-            0 bad, 7 remarks, 0 changes
+            sound: 0 bad, 7 remarks, 0 changes
         """, """
             remark|-|-|0x0|flashmap
             bad|BOOTBLOCK|-|0x40|metadata hash sha384 invalid: run cbfsseal IMAGE
@@ -490,7 +494,7 @@ class Reports(CheckTest):
             remark|COREBOOT|-|-|no components
             remark|COREBOOT|-|-|free bytes|1024
             remark|COREBOOT|-|-|largest content that add takes|992
-            2 bad, 5 remarks, 0 changes
+            not sound: 2 bad, 5 remarks, 0 changes
         """)
 
     def test_sha512(self):
@@ -502,7 +506,7 @@ class Reports(CheckTest):
             remark|COREBOOT|-|-|no components
             remark|COREBOOT|-|-|free bytes|1024
             remark|COREBOOT|-|-|largest content that add takes|992
-            0 bad, 7 remarks, 0 changes
+            sound: 0 bad, 7 remarks, 0 changes
         """, """
             remark|-|-|0x0|flashmap
             bad|BOOTBLOCK|-|0x40|metadata hash sha512 invalid: run cbfsseal IMAGE
@@ -511,7 +515,7 @@ class Reports(CheckTest):
             remark|COREBOOT|-|-|no components
             remark|COREBOOT|-|-|free bytes|1024
             remark|COREBOOT|-|-|largest content that add takes|992
-            2 bad, 5 remarks, 0 changes
+            not sound: 2 bad, 5 remarks, 0 changes
         """)
 
     def test_another_algorithm(self):
@@ -520,31 +524,31 @@ class Reports(CheckTest):
             change|-|-|-|erase blocks differ|1
             change|-|-|-|anchor's algorithm changed from sha1
             change|BOOTBLOCK|-|0x800|erase blocks differ|1
-            0 bad, 7 remarks, 3 changes
+            sound: 0 bad, 7 remarks, 3 changes
         """)
         self.changes(0, self.sealed(SHA224), sha512, """
             change|-|-|-|erase blocks differ|1
             change|-|-|-|anchor's algorithm changed from sha224
             change|BOOTBLOCK|-|0x800|erase blocks differ|1
-            0 bad, 7 remarks, 3 changes
+            sound: 0 bad, 7 remarks, 3 changes
         """)
         self.changes(0, self.sealed(SHA256), sha512, """
             change|-|-|-|erase blocks differ|1
             change|-|-|-|anchor's algorithm changed from sha256
             change|BOOTBLOCK|-|0x800|erase blocks differ|1
-            0 bad, 7 remarks, 3 changes
+            sound: 0 bad, 7 remarks, 3 changes
         """)
         self.changes(0, self.sealed(SHA384), sha512, """
             change|-|-|-|erase blocks differ|1
             change|-|-|-|anchor's algorithm changed from sha384
             change|BOOTBLOCK|-|0x800|erase blocks differ|1
-            0 bad, 7 remarks, 3 changes
+            sound: 0 bad, 7 remarks, 3 changes
         """)
         self.changes(0, sha512, self.sealed(SHA1), """
             change|-|-|-|erase blocks differ|1
             change|-|-|-|anchor's algorithm changed from sha512
             change|BOOTBLOCK|-|0x800|erase blocks differ|1
-            0 bad, 7 remarks, 3 changes
+            sound: 0 bad, 7 remarks, 3 changes
         """)
 
     def test_no_anchor(self):
@@ -554,7 +558,7 @@ class Reports(CheckTest):
             remark|COREBOOT|-|-|no components
             remark|COREBOOT|-|-|free bytes|1024
             remark|COREBOOT|-|-|largest content that add takes|992
-            0 bad, 5 remarks, 0 changes
+            sound: 0 bad, 5 remarks, 0 changes
         """)
 
     def test_an_unknown_algorithm(self):
@@ -565,7 +569,7 @@ class Reports(CheckTest):
             remark|COREBOOT|-|-|no components
             remark|COREBOOT|-|-|free bytes|1024
             remark|COREBOOT|-|-|largest content that add takes|992
-            1 bad, 5 remarks, 0 changes
+            not sound: 1 bad, 5 remarks, 0 changes
         """)
 
     def test_an_anchor_that_is_cut_off(self):
@@ -577,7 +581,7 @@ class Reports(CheckTest):
             remark|COREBOOT|-|-|no components
             remark|COREBOOT|-|-|free bytes|1024
             remark|COREBOOT|-|-|largest content that add takes|992
-            1 bad, 5 remarks, 0 changes
+            not sound: 1 bad, 5 remarks, 0 changes
         """)
 
     def test_a_damaged_region(self):
@@ -589,7 +593,7 @@ class Reports(CheckTest):
             remark|COREBOOT|-|-|no components
             remark|COREBOOT|-|-|free bytes|0
             remark|COREBOOT|-|-|no room for a component
-            2 bad, 4 remarks, 0 changes
+            not sound: 2 bad, 4 remarks, 0 changes
         """)
 
     def test_an_invalid_digest_of_the_fit(self):
@@ -604,7 +608,7 @@ class Reports(CheckTest):
             remark|COREBOOT|-|-|components|1
             remark|COREBOOT|-|-|free bytes|896
             remark|COREBOOT|-|-|largest content that add takes|864
-            0 bad, 8 remarks, 0 changes
+            sound: 0 bad, 8 remarks, 0 changes
         """)
 
     def test_components_below_an_anchor(self):
@@ -612,7 +616,7 @@ class Reports(CheckTest):
             SHA256,
             Component(b"o", b"x", attributes=[hash_attribute(SHA512, b"x")]),
             Component(b"intel_fit", b"x", attributes=[hash_attribute(SHA256, b"y")]),
-            Component(b"s", b"x", type=STAGE),
+            Component(b"s", b"x", type=SIMPLE_ELF),
             Component(b"l", b"x", gap=257),
         ), """
             remark|-|-|0x0|flashmap
@@ -628,7 +632,7 @@ class Reports(CheckTest):
             remark|COREBOOT|-|-|components|4
             remark|COREBOOT|-|-|free bytes|384
             remark|COREBOOT|-|-|largest content that add takes|352
-            2 bad, 11 remarks, 0 changes
+            not sound: 2 bad, 11 remarks, 0 changes
         """)
 
     def test_an_anchor_that_is_added_or_gone(self):
@@ -637,13 +641,13 @@ class Reports(CheckTest):
             change|-|-|-|erase blocks differ|1
             change|-|-|-|anchor added
             change|BOOTBLOCK|-|0x800|erase blocks differ|1
-            0 bad, 7 remarks, 3 changes
+            sound: 0 bad, 7 remarks, 3 changes
         """)
         self.changes(1, sealed_image, none, """
             change|-|-|-|erase blocks differ|1
             bad|-|-|-|anchor gone
             change|BOOTBLOCK|-|0x800|erase blocks differ|1
-            1 bad, 5 remarks, 2 changes
+            not sound: 1 bad, 5 remarks, 2 changes
         """)
 
 

@@ -2,7 +2,7 @@
 
 import unittest
 
-from tests.findings import A, B, FMAP, CheckTest, blocks_of, board, patched
+from tests.findings import A, B, FMAP, CheckTest, blocks_of, board, patched, small
 
 
 class Areas(CheckTest):
@@ -14,32 +14,32 @@ class Areas(CheckTest):
             ("another order", [second, first], [first, second], [], """
                 change|-|-|-|erase blocks differ|1
                 change|FMAP|-|0x0|erase blocks differ|1
-                0 bad, 1 remarks, 2 changes
+                sound: 0 bad, 1 remarks, 2 changes
             """),
             ("an added area", [first], [first, second], [], """
                 change|-|-|-|erase blocks differ|1
                 change|FMAP|-|0x0|erase blocks differ|1
                 change|B|-|0x2000|area added
-                0 bad, 1 remarks, 3 changes
+                sound: 0 bad, 1 remarks, 3 changes
             """),
             ("an area that is gone", [second, first], [first], [], """
                 change|-|-|-|erase blocks differ|1
                 change|FMAP|-|0x0|erase blocks differ|1
                 change|B|-|0x2000|area gone
-                0 bad, 1 remarks, 3 changes
+                sound: 0 bad, 1 remarks, 3 changes
             """),
             ("another name", [second], [first], [], """
                 change|-|-|-|erase blocks differ|1
                 change|FMAP|-|0x0|erase blocks differ|1
                 change|A|-|0x1000|area added
                 change|B|-|0x2000|area gone
-                0 bad, 1 remarks, 4 changes
+                sound: 0 bad, 1 remarks, 4 changes
             """),
             ("a moved area", [second, first], [("A", 0x2000, 0x1000), second], [], """
                 change|-|-|-|erase blocks differ|1
                 change|FMAP|-|0x0|erase blocks differ|1
                 change|A|-|0x2000|area moved from|0x1000
-                0 bad, 1 remarks, 3 changes
+                sound: 0 bad, 1 remarks, 3 changes
             """),
             ("a moved area with another byte", [first], [("A", 0x2000, 0x1000)], [0x2388],
              """
@@ -47,7 +47,7 @@ class Areas(CheckTest):
                  change|FMAP|-|0x0|erase blocks differ|1
                  change|A|-|0x2000|area moved from|0x1000
                  change|A|-|0x2000|erase blocks differ|1
-                 0 bad, 1 remarks, 4 changes
+                 sound: 0 bad, 1 remarks, 4 changes
              """),
             ("an added and a resized area", [first], [second, ("A", 0x1000, 0x800)], [0x1000],
              """
@@ -55,20 +55,20 @@ class Areas(CheckTest):
                  change|FMAP|-|0x0|erase blocks differ|1
                  change|B|-|0x2000|area added
                  change|A|-|0x1000|area resized from|0x1000
-                 0 bad, 1 remarks, 4 changes
+                 sound: 0 bad, 1 remarks, 4 changes
              """),
             ("a moved and resized area", [first], [("A", 0x2000, 0x800)], [0x2000], """
                 change|-|-|-|erase blocks differ|2
                 change|FMAP|-|0x0|erase blocks differ|1
                 change|A|-|0x2000|area moved from|0x1000
                 change|A|-|0x2000|area resized from|0x1000
-                0 bad, 1 remarks, 4 changes
+                sound: 0 bad, 1 remarks, 4 changes
             """),
             ("two areas of a name are gone", [first, ("A", 0x1000, 0x800)], [], [], """
                 change|-|-|-|erase blocks differ|1
                 change|FMAP|-|0x0|erase blocks differ|1
                 change|A|-|0x1000|area gone
-                0 bad, 1 remarks, 3 changes
+                sound: 0 bad, 1 remarks, 3 changes
             """),
         ]:
             with self.subTest(title):
@@ -81,7 +81,7 @@ class Areas(CheckTest):
             bad|A|-|0x2000|has the name of an earlier area|A
             change|-|-|-|erase blocks differ|1
             change|FMAP|-|0x0|erase blocks differ|1
-            1 bad, 1 remarks, 2 changes
+            not sound: 1 bad, 1 remarks, 2 changes
         """)
 
     def test_areas_of_a_name_in_another_order(self):
@@ -93,7 +93,7 @@ class Areas(CheckTest):
             change|FMAP|-|0x0|erase blocks differ|1
             change|B|-|0x2000|area added
             change|A|-|0x1000|area resized from|0x800
-            1 bad, 1 remarks, 4 changes
+            not sound: 1 bad, 1 remarks, 4 changes
         """)
 
     def test_16_added_areas_of_17(self):
@@ -120,7 +120,7 @@ class Areas(CheckTest):
             change|N15|-|0x1000|area added
             change|N16|-|0x1000|area added
             change|N17|-|0x1000|area added
-            0 bad, 1 remarks, 19 changes
+            sound: 0 bad, 1 remarks, 19 changes
         """, "-v")
         self.changes(0, old, new, """
             change|-|-|-|erase blocks differ|1
@@ -142,7 +142,7 @@ class Areas(CheckTest):
             change|N15|-|0x1000|area added
             change|N16|-|0x1000|area added
             change|-|-|-|more of these|1
-            0 bad, 1 remarks, 19 changes
+            sound: 0 bad, 1 remarks, 19 changes
         """)
         self.changes(1, old, new, """
             change|-|-|-|erase blocks differ|1
@@ -164,13 +164,8 @@ class Areas(CheckTest):
             change|N15|-|0x1000|area added
             change|N16|-|0x1000|area added
             bad|N17|-|0x1000|area added
-            1 bad, 1 remarks, 18 changes
+            not sound: 1 bad, 1 remarks, 18 changes
         """, "--keep N17")
-
-
-def small(areas, *pieces, **fields):
-    """Returns an image of 1024 bytes with the area FMAP and these areas, and bytes at offsets."""
-    return board(0x400, [FMAP, *areas], *pieces, **fields)
 
 
 class Maps(CheckTest):
@@ -185,7 +180,7 @@ class Maps(CheckTest):
             change|-|-|-|erase blocks differ|1
             change|FMAP|-|0x0|erase blocks differ|1
             change|A|-|0x100|flags changed from|0x0
-            0 bad, 5 remarks, 3 changes
+            sound: 0 bad, 5 remarks, 3 changes
         """)
 
     def test_another_base_address(self):
@@ -193,7 +188,7 @@ class Maps(CheckTest):
             change|-|-|-|erase blocks differ|1
             change|-|-|-|base address changed from|0x0
             change|FMAP|-|0x0|erase blocks differ|1
-            0 bad, 5 remarks, 3 changes
+            sound: 0 bad, 5 remarks, 3 changes
         """)
 
     def test_another_name(self):
@@ -201,14 +196,14 @@ class Maps(CheckTest):
             change|-|-|-|erase blocks differ|1
             change|-|-|-|name of the flashmap changed
             change|FMAP|-|0x0|erase blocks differ|1
-            0 bad, 5 remarks, 3 changes
+            sound: 0 bad, 5 remarks, 3 changes
         """)
 
     def test_another_byte_after_the_nul_of_the_name(self):
         self.changes(0, self.OLD, patched(self.OLD, (23, b"\0G")), """
             change|-|-|-|erase blocks differ|1
             change|FMAP|-|0x0|erase blocks differ|1
-            0 bad, 5 remarks, 2 changes
+            sound: 0 bad, 5 remarks, 2 changes
         """)
 
     def test_a_base_address_of_64_bits(self):
@@ -217,22 +212,23 @@ class Maps(CheckTest):
             change|-|-|-|erase blocks differ|1
             change|-|-|-|base address changed from|0x8000000000000001
             change|FMAP|-|0x0|erase blocks differ|1
-            0 bad, 5 remarks, 3 changes
+            sound: 0 bad, 5 remarks, 3 changes
         """)
 
     def test_another_place(self):
         old, new = small([]), small([], map_at=16)
-        self.changes(0, old, new, """
+        self.changes(1, old, new, """
+            bad|FMAP|-|0x0|doesn't begin with the flashmap
             change|-|-|-|erase blocks differ|1
             change|-|-|-|flashmap moved from|0x0
             change|FMAP|-|0x0|erase blocks differ|1
-            0 bad, 1 remarks, 3 changes
+            not sound: 1 bad, 1 remarks, 3 changes
         """)
         self.changes(0, new, old, """
             change|-|-|-|erase blocks differ|1
             change|-|-|-|flashmap moved from|0x10
             change|FMAP|-|0x0|erase blocks differ|1
-            0 bad, 1 remarks, 3 changes
+            sound: 0 bad, 1 remarks, 3 changes
         """)
 
     def test_no_map_in_the_old_image(self):
@@ -246,7 +242,7 @@ class Maps(CheckTest):
             change|FMAP|-|0x0|erase blocks differ|1
             change|A|-|0x100|erase blocks differ|1
             change|A|a|0x0|content changed
-            0 bad, 9 remarks, 5 changes
+            sound: 0 bad, 9 remarks, 5 changes
         """)
         self.changes(1, old, new, """
             change|-|-|-|erase blocks differ|1
@@ -254,7 +250,7 @@ class Maps(CheckTest):
             change|FMAP|-|0x0|erase blocks differ|1
             bad|A|-|0x100|erase blocks differ|1
             bad|A|a|0x0|content changed
-            2 bad, 9 remarks, 3 changes
+            not sound: 2 bad, 9 remarks, 3 changes
         """, "--keep B,C,A")
         self.changes(1, old, new, """
             change|-|-|-|erase blocks differ|1
@@ -263,7 +259,7 @@ class Maps(CheckTest):
             change|A|-|0x100|erase blocks differ|1
             change|A|a|0x0|content changed
             bad|D|-|-|no such area
-            1 bad, 9 remarks, 5 changes
+            not sound: 1 bad, 9 remarks, 5 changes
         """, "--keep D")
         preserved = small([("A", 0x100, 0x100, 8), *areas[1:]], (0x100, A), (0x200, B))
         self.changes(1, old, preserved, """
@@ -272,10 +268,10 @@ class Maps(CheckTest):
             change|FMAP|-|0x0|erase blocks differ|1
             bad|A|-|0x100|erase blocks differ|1
             bad|A|a|0x0|content changed
-            2 bad, 9 remarks, 3 changes
+            not sound: 2 bad, 9 remarks, 3 changes
         """, "--keep-preserved")
-        self.changes(0, old[:0x2FF], preserved, """
-            change|-|-|-|image size changed from|0x2ff
+        self.changes(1, old[:0x2FF], preserved, """
+            bad|-|-|-|image size changed from|0x2ff
             change|-|-|-|erase blocks differ|1
             change|-|-|-|the old image has no flashmap
             change|FMAP|-|0x0|erase blocks differ|1
@@ -284,7 +280,7 @@ class Maps(CheckTest):
             change|C|-|0x300|not compared
             change|A|a|0x0|content changed
             change|B|-|0x200|components not compared
-            0 bad, 9 remarks, 9 changes
+            not sound: 1 bad, 9 remarks, 8 changes
         """)
 
     def test_no_map_in_the_new_image(self):
@@ -295,7 +291,7 @@ class Maps(CheckTest):
             change|-|-|-|erase blocks differ|1
             change|FMAP|-|0x0|area gone
             bad|A|-|0x100|area gone
-            2 bad, 0 remarks, 2 changes
+            not sound: 2 bad, 0 remarks, 2 changes
         """)
 
 
@@ -324,21 +320,21 @@ class Preserved(CheckTest):
             change|B|-|0x200|erase blocks differ|1
             change|A|a|0x0|content changed
             change|B|a|0x0|content changed
-            0 bad, 9 remarks, 5 changes
+            sound: 0 bad, 9 remarks, 5 changes
         """, """
             change|-|-|-|erase blocks differ|1
             change|A|-|0x100|erase blocks differ|1
             change|B|-|0x200|erase blocks differ|1
             change|A|a|0x0|content changed
             change|B|a|0x0|content changed
-            0 bad, 9 remarks, 5 changes
+            sound: 0 bad, 10 remarks, 5 changes
         """, """
             change|-|-|-|erase blocks differ|1
             change|A|-|0x100|erase blocks differ|1
             bad|B|-|0x200|erase blocks differ|1
             change|A|a|0x0|content changed
             bad|B|a|0x0|content changed
-            2 bad, 9 remarks, 3 changes
+            not sound: 2 bad, 10 remarks, 3 changes
         """)
 
     def test_preserved_in_both_images(self):
@@ -348,21 +344,21 @@ class Preserved(CheckTest):
             change|B|-|0x200|erase blocks differ|1
             change|A|a|0x0|content changed
             change|B|a|0x0|content changed
-            0 bad, 9 remarks, 5 changes
+            sound: 0 bad, 9 remarks, 5 changes
         """, """
             change|-|-|-|erase blocks differ|1
             bad|A|-|0x100|erase blocks differ|1
             change|B|-|0x200|erase blocks differ|1
             bad|A|a|0x0|content changed
             change|B|a|0x0|content changed
-            2 bad, 9 remarks, 3 changes
+            not sound: 2 bad, 9 remarks, 3 changes
         """, """
             change|-|-|-|erase blocks differ|1
             bad|A|-|0x100|erase blocks differ|1
             bad|B|-|0x200|erase blocks differ|1
             bad|A|a|0x0|content changed
             bad|B|a|0x0|content changed
-            4 bad, 9 remarks, 1 changes
+            not sound: 4 bad, 9 remarks, 1 changes
         """)
 
     def test_preserved_in_the_old_image(self):
@@ -374,7 +370,7 @@ class Preserved(CheckTest):
             change|B|-|0x200|erase blocks differ|1
             change|A|a|0x0|content changed
             change|B|a|0x0|content changed
-            0 bad, 9 remarks, 7 changes
+            sound: 0 bad, 9 remarks, 7 changes
         """, """
             change|-|-|-|erase blocks differ|1
             change|FMAP|-|0x0|erase blocks differ|1
@@ -383,7 +379,7 @@ class Preserved(CheckTest):
             change|B|-|0x200|erase blocks differ|1
             bad|A|a|0x0|content changed
             change|B|a|0x0|content changed
-            3 bad, 9 remarks, 4 changes
+            not sound: 3 bad, 9 remarks, 4 changes
         """, """
             change|-|-|-|erase blocks differ|1
             change|FMAP|-|0x0|erase blocks differ|1
@@ -392,7 +388,7 @@ class Preserved(CheckTest):
             bad|B|-|0x200|erase blocks differ|1
             bad|A|a|0x0|content changed
             bad|B|a|0x0|content changed
-            5 bad, 9 remarks, 2 changes
+            not sound: 5 bad, 9 remarks, 2 changes
         """)
 
     def test_preserved_in_the_new_image(self):
@@ -404,7 +400,7 @@ class Preserved(CheckTest):
             change|B|-|0x200|erase blocks differ|1
             change|A|a|0x0|content changed
             change|B|a|0x0|content changed
-            0 bad, 9 remarks, 7 changes
+            sound: 0 bad, 9 remarks, 7 changes
         """, """
             change|-|-|-|erase blocks differ|1
             change|FMAP|-|0x0|erase blocks differ|1
@@ -413,7 +409,7 @@ class Preserved(CheckTest):
             change|B|-|0x200|erase blocks differ|1
             bad|A|a|0x0|content changed
             change|B|a|0x0|content changed
-            3 bad, 9 remarks, 4 changes
+            not sound: 3 bad, 9 remarks, 4 changes
         """, """
             change|-|-|-|erase blocks differ|1
             change|FMAP|-|0x0|erase blocks differ|1
@@ -422,7 +418,7 @@ class Preserved(CheckTest):
             bad|B|-|0x200|erase blocks differ|1
             bad|A|a|0x0|content changed
             bad|B|a|0x0|content changed
-            5 bad, 9 remarks, 2 changes
+            not sound: 5 bad, 9 remarks, 2 changes
         """)
 
     def test_the_other_flags(self):
@@ -432,21 +428,21 @@ class Preserved(CheckTest):
             change|B|-|0x200|erase blocks differ|1
             change|A|a|0x0|content changed
             change|B|a|0x0|content changed
-            0 bad, 9 remarks, 5 changes
+            sound: 0 bad, 9 remarks, 5 changes
         """, """
             change|-|-|-|erase blocks differ|1
             change|A|-|0x100|erase blocks differ|1
             change|B|-|0x200|erase blocks differ|1
             change|A|a|0x0|content changed
             change|B|a|0x0|content changed
-            0 bad, 9 remarks, 5 changes
+            sound: 0 bad, 10 remarks, 5 changes
         """, """
             change|-|-|-|erase blocks differ|1
             change|A|-|0x100|erase blocks differ|1
             bad|B|-|0x200|erase blocks differ|1
             change|A|a|0x0|content changed
             bad|B|a|0x0|content changed
-            2 bad, 9 remarks, 3 changes
+            not sound: 2 bad, 10 remarks, 3 changes
         """)
 
     def test_all_flags_in_the_old_image(self):
@@ -458,7 +454,7 @@ class Preserved(CheckTest):
             change|B|-|0x200|erase blocks differ|1
             change|A|a|0x0|content changed
             change|B|a|0x0|content changed
-            0 bad, 9 remarks, 7 changes
+            sound: 0 bad, 9 remarks, 7 changes
         """, """
             change|-|-|-|erase blocks differ|1
             change|FMAP|-|0x0|erase blocks differ|1
@@ -467,7 +463,7 @@ class Preserved(CheckTest):
             change|B|-|0x200|erase blocks differ|1
             bad|A|a|0x0|content changed
             change|B|a|0x0|content changed
-            3 bad, 9 remarks, 4 changes
+            not sound: 3 bad, 9 remarks, 4 changes
         """, """
             change|-|-|-|erase blocks differ|1
             change|FMAP|-|0x0|erase blocks differ|1
@@ -476,7 +472,7 @@ class Preserved(CheckTest):
             bad|B|-|0x200|erase blocks differ|1
             bad|A|a|0x0|content changed
             bad|B|a|0x0|content changed
-            5 bad, 9 remarks, 2 changes
+            not sound: 5 bad, 9 remarks, 2 changes
         """)
 
     def test_all_flags_but_preserved(self):
@@ -488,7 +484,7 @@ class Preserved(CheckTest):
             change|B|-|0x200|erase blocks differ|1
             change|A|a|0x0|content changed
             change|B|a|0x0|content changed
-            0 bad, 9 remarks, 7 changes
+            sound: 0 bad, 9 remarks, 7 changes
         """, """
             change|-|-|-|erase blocks differ|1
             change|FMAP|-|0x0|erase blocks differ|1
@@ -497,7 +493,7 @@ class Preserved(CheckTest):
             change|B|-|0x200|erase blocks differ|1
             change|A|a|0x0|content changed
             change|B|a|0x0|content changed
-            0 bad, 9 remarks, 7 changes
+            sound: 0 bad, 10 remarks, 7 changes
         """, """
             change|-|-|-|erase blocks differ|1
             change|FMAP|-|0x0|erase blocks differ|1
@@ -506,7 +502,7 @@ class Preserved(CheckTest):
             bad|B|-|0x200|erase blocks differ|1
             change|A|a|0x0|content changed
             bad|B|a|0x0|content changed
-            2 bad, 9 remarks, 5 changes
+            not sound: 2 bad, 10 remarks, 5 changes
         """)
 
 
@@ -520,19 +516,19 @@ class Gone(CheckTest):
             change|-|-|-|erase blocks differ|1
             change|FMAP|-|0x0|erase blocks differ|1
             bad|A|-|0x100|area gone
-            1 bad, 1 remarks, 2 changes
+            not sound: 1 bad, 1 remarks, 2 changes
         """, "--keep-preserved")
         self.changes(1, none, kept, """
             change|-|-|-|erase blocks differ|1
             change|FMAP|-|0x0|erase blocks differ|1
             bad|A|-|0x100|area added
-            1 bad, 1 remarks, 2 changes
+            not sound: 1 bad, 1 remarks, 2 changes
         """, "--keep-preserved")
         self.changes(0, none, area, """
             change|-|-|-|erase blocks differ|1
             change|FMAP|-|0x0|erase blocks differ|1
             change|A|-|0x100|area added
-            0 bad, 1 remarks, 3 changes
+            sound: 0 bad, 2 remarks, 3 changes
         """, "--keep-preserved")
 
 

@@ -17,36 +17,36 @@ class Images(CheckTest):
         for title, old, new, text in [
             ("the same bytes", zeros(0x2000), zeros(0x2000), """
                 bad|-|-|-|no flashmap
-                1 bad, 0 remarks, 0 changes
+                not sound: 1 bad, 0 remarks, 0 changes
             """),
             ("the first byte", zeros(0x2000), zeros(0x2000, 0), """
                 bad|-|-|-|no flashmap
                 change|-|-|-|erase blocks differ|1
-                1 bad, 0 remarks, 1 changes
+                not sound: 1 bad, 0 remarks, 1 changes
             """),
             ("two bytes of a block", zeros(0x2000), zeros(0x2000, 0, 0xFFF), """
                 bad|-|-|-|no flashmap
                 change|-|-|-|erase blocks differ|1
-                1 bad, 0 remarks, 1 changes
+                not sound: 1 bad, 0 remarks, 1 changes
             """),
             ("the second block", zeros(0x2000), zeros(0x2000, 0x1000), """
                 bad|-|-|-|no flashmap
                 change|-|-|-|erase blocks differ|1
-                1 bad, 0 remarks, 1 changes
+                not sound: 1 bad, 0 remarks, 1 changes
             """),
             ("the last byte", zeros(0x2000, 0x1FFF), zeros(0x2000), """
                 bad|-|-|-|no flashmap
                 change|-|-|-|erase blocks differ|1
-                1 bad, 0 remarks, 1 changes
+                not sound: 1 bad, 0 remarks, 1 changes
             """),
             ("two blocks", zeros(0x2000, 0x1000), zeros(0x2000, 0xFFF), """
                 bad|-|-|-|no flashmap
                 change|-|-|-|erase blocks differ|2
-                1 bad, 0 remarks, 1 changes
+                not sound: 1 bad, 0 remarks, 1 changes
             """),
             ("no bytes", b"", b"", """
                 bad|-|-|-|no flashmap
-                1 bad, 0 remarks, 0 changes
+                not sound: 1 bad, 0 remarks, 0 changes
             """),
         ]:
             with self.subTest(title):
@@ -56,33 +56,33 @@ class Images(CheckTest):
         for title, old, new, text in [
             ("one byte more than a block", zeros(0x1000), zeros(0x1001), """
                 bad|-|-|-|no flashmap
-                change|-|-|-|image size changed from|0x1000
+                bad|-|-|-|image size changed from|0x1000
                 change|-|-|-|erase blocks differ|1
-                1 bad, 0 remarks, 2 changes
+                not sound: 2 bad, 0 remarks, 1 changes
             """),
             ("a block", zeros(0x1001), zeros(0x1000), """
                 bad|-|-|-|no flashmap
-                change|-|-|-|image size changed from|0x1001
+                bad|-|-|-|image size changed from|0x1001
                 change|-|-|-|erase blocks differ|1
-                1 bad, 0 remarks, 2 changes
+                not sound: 2 bad, 0 remarks, 1 changes
             """),
             ("one byte less than a block", zeros(0xFFF), zeros(0x1000), """
                 bad|-|-|-|no flashmap
-                change|-|-|-|image size changed from|0xfff
+                bad|-|-|-|image size changed from|0xfff
                 change|-|-|-|erase blocks differ|1
-                1 bad, 0 remarks, 2 changes
+                not sound: 2 bad, 0 remarks, 1 changes
             """),
             ("no bytes in the old image", b"", zeros(0x2001), """
                 bad|-|-|-|no flashmap
-                change|-|-|-|image size changed from|0x0
+                bad|-|-|-|image size changed from|0x0
                 change|-|-|-|erase blocks differ|3
-                1 bad, 0 remarks, 2 changes
+                not sound: 2 bad, 0 remarks, 1 changes
             """),
             ("a part of a block", zeros(0x64), zeros(0x2000), """
                 bad|-|-|-|no flashmap
-                change|-|-|-|image size changed from|0x64
+                bad|-|-|-|image size changed from|0x64
                 change|-|-|-|erase blocks differ|2
-                1 bad, 0 remarks, 2 changes
+                not sound: 2 bad, 0 remarks, 1 changes
             """),
         ]:
             with self.subTest(title):
@@ -97,39 +97,39 @@ class Areas(CheckTest):
         for title, area, places, text in [
             ("a byte before the area", ("M", 0x1064, 0x1F40), [0x1063], """
                 change|-|-|-|erase blocks differ|1
-                0 bad, 1 remarks, 1 changes
+                sound: 0 bad, 1 remarks, 1 changes
             """),
             ("its first byte", ("M", 0x1064, 0x1F40), [0x1064], """
                 change|-|-|-|erase blocks differ|1
                 change|M|-|0x1064|erase blocks differ|1
-                0 bad, 1 remarks, 2 changes
+                sound: 0 bad, 1 remarks, 2 changes
             """),
             ("two blocks of the area", ("M", 0x1064, 0x1F40), [0x2063, 0x2064], """
                 change|-|-|-|erase blocks differ|1
                 change|M|-|0x1064|erase blocks differ|2
-                0 bad, 1 remarks, 2 changes
+                sound: 0 bad, 1 remarks, 2 changes
             """),
             ("its last byte", ("M", 0x1064, 0x1F40), [0x2FA3], """
                 change|-|-|-|erase blocks differ|1
                 change|M|-|0x1064|erase blocks differ|1
-                0 bad, 1 remarks, 2 changes
+                sound: 0 bad, 1 remarks, 2 changes
             """),
             ("a byte after the area", ("M", 0x1064, 0x1F40), [0x2FA4], """
                 change|-|-|-|erase blocks differ|1
-                0 bad, 1 remarks, 1 changes
+                sound: 0 bad, 1 remarks, 1 changes
             """),
             ("the last byte of a small area", ("A", 0x1000, 0x800), [0x17FF], """
                 change|-|-|-|erase blocks differ|1
                 change|A|-|0x1000|erase blocks differ|1
-                0 bad, 1 remarks, 2 changes
+                sound: 0 bad, 1 remarks, 2 changes
             """),
             ("a byte after a small area", ("A", 0x1000, 0x800), [0x1800], """
                 change|-|-|-|erase blocks differ|1
-                0 bad, 1 remarks, 1 changes
+                sound: 0 bad, 1 remarks, 1 changes
             """),
             ("an area without bytes", ("E", 0x1064, 0), [0x1064], """
                 change|-|-|-|erase blocks differ|1
-                0 bad, 2 remarks, 1 changes
+                sound: 0 bad, 2 remarks, 1 changes
             """),
         ]:
             with self.subTest(title):
@@ -142,90 +142,90 @@ class Areas(CheckTest):
             ("an inner area", [outer, inner], [0x1800], """
                 change|-|-|-|erase blocks differ|1
                 change|I|-|0x1000|erase blocks differ|1
-                0 bad, 1 remarks, 2 changes
+                sound: 0 bad, 1 remarks, 2 changes
             """),
             ("an inner area before the outer one", [inner, outer], [0x1800], """
                 change|-|-|-|erase blocks differ|1
                 change|I|-|0x1000|erase blocks differ|1
-                0 bad, 1 remarks, 2 changes
+                sound: 0 bad, 1 remarks, 2 changes
             """),
             ("the rest of the outer area", [outer, inner], [0x2800], """
                 change|-|-|-|erase blocks differ|1
                 change|O|-|0x1000|erase blocks differ|1
-                0 bad, 1 remarks, 2 changes
+                sound: 0 bad, 1 remarks, 2 changes
             """),
             ("both blocks", [outer, inner], [0x1000, 0x1FFF, 0x2000], """
                 change|-|-|-|erase blocks differ|2
                 change|O|-|0x1000|erase blocks differ|1
                 change|I|-|0x1000|erase blocks differ|1
-                0 bad, 1 remarks, 3 changes
+                sound: 0 bad, 1 remarks, 3 changes
             """),
             ("an inner area between two blocks", [outer, ("I", 0x1800, 0x1000)], [0x1900],
              """
                  change|-|-|-|erase blocks differ|1
                  change|O|-|0x1000|erase blocks differ|1
                  change|I|-|0x1800|erase blocks differ|1
-                 0 bad, 1 remarks, 3 changes
+                 sound: 0 bad, 1 remarks, 3 changes
              """),
             ("two blocks of the outer area", [outer, ("I", 0x1800, 0x1000)], [0x1900, 0x2700],
              """
                  change|-|-|-|erase blocks differ|2
                  change|O|-|0x1000|erase blocks differ|2
                  change|I|-|0x1800|erase blocks differ|1
-                 0 bad, 1 remarks, 3 changes
+                 sound: 0 bad, 1 remarks, 3 changes
              """),
             ("all but the last byte of a block", [outer, ("I", 0x1000, 0xFFF)], [0x1800],
              """
                  change|-|-|-|erase blocks differ|1
                  change|O|-|0x1000|erase blocks differ|1
                  change|I|-|0x1000|erase blocks differ|1
-                 0 bad, 1 remarks, 3 changes
+                 sound: 0 bad, 1 remarks, 3 changes
              """),
             ("all but the first byte of a block", [outer, ("I", 0x1001, 0xFFF)], [0x1800],
              """
                  change|-|-|-|erase blocks differ|1
                  change|O|-|0x1000|erase blocks differ|1
                  change|I|-|0x1001|erase blocks differ|1
-                 0 bad, 1 remarks, 3 changes
+                 sound: 0 bad, 1 remarks, 3 changes
              """),
             ("one byte more than a block", [outer, ("I", 0x1000, 0x1001)], [0x1800], """
                 change|-|-|-|erase blocks differ|1
                 change|I|-|0x1000|erase blocks differ|1
-                0 bad, 1 remarks, 2 changes
+                sound: 0 bad, 1 remarks, 2 changes
             """),
             ("an outer area of one byte more", [("O", 0x1000, 0x1001), inner], [0x1800], """
                 change|-|-|-|erase blocks differ|1
                 change|I|-|0x1000|erase blocks differ|1
-                0 bad, 1 remarks, 2 changes
+                sound: 0 bad, 1 remarks, 2 changes
             """),
             ("two areas of the same bytes", [("O", 0x1000, 0x1000), inner], [0x1800], """
                 change|-|-|-|erase blocks differ|1
                 change|O|-|0x1000|erase blocks differ|1
                 change|I|-|0x1000|erase blocks differ|1
-                0 bad, 1 remarks, 3 changes
+                sound: 0 bad, 1 remarks, 3 changes
             """),
             ("three areas", [outer, middle, inner], [0x1800], """
                 change|-|-|-|erase blocks differ|1
                 change|I|-|0x1000|erase blocks differ|1
-                0 bad, 1 remarks, 2 changes
+                sound: 0 bad, 1 remarks, 2 changes
             """),
             ("the short last block of an area", [outer, middle, inner], [0x2100], """
                 change|-|-|-|erase blocks differ|1
                 change|O|-|0x1000|erase blocks differ|1
                 change|M|-|0x1000|erase blocks differ|1
-                0 bad, 1 remarks, 3 changes
+                sound: 0 bad, 1 remarks, 3 changes
             """),
             ("an inner area of a short last block",
              [("O", 0x1000, 0x1800), ("I", 0x2000, 0x800)], [0x2100], """
                  change|-|-|-|erase blocks differ|1
                  change|I|-|0x2000|erase blocks differ|1
-                 0 bad, 1 remarks, 2 changes
+                 sound: 0 bad, 1 remarks, 2 changes
              """),
             ("two inner areas", [outer, inner, ("J", 0x2000, 0x1000)], [0x1800, 0x2800], """
                 change|-|-|-|erase blocks differ|2
                 change|I|-|0x1000|erase blocks differ|1
                 change|J|-|0x2000|erase blocks differ|1
-                0 bad, 1 remarks, 3 changes
+                sound: 0 bad, 1 remarks, 3 changes
             """),
         ]:
             with self.subTest(title):
@@ -248,7 +248,7 @@ class Areas(CheckTest):
             change|X|-|0x0|not compared
             change|Y|-|0x0|not compared
             change|Z|-|0x0|not compared
-            1 bad, 1 remarks, 12 changes
+            not sound: 1 bad, 1 remarks, 12 changes
         """)
 
 
@@ -266,7 +266,7 @@ class InnerAreas(CheckTest):
             change|O|-|0x1000|erase blocks differ|1
             change|I|-|0x1000|area moved from|0x2000
             change|I|-|0x1000|erase blocks differ|1
-            0 bad, 1 remarks, 5 changes
+            sound: 0 bad, 1 remarks, 5 changes
         """)
 
     def test_an_inner_area_that_moved_with_its_bytes(self):
@@ -277,7 +277,7 @@ class InnerAreas(CheckTest):
             change|FMAP|-|0x0|erase blocks differ|1
             change|O|-|0x1000|erase blocks differ|1
             change|I|-|0x1000|area moved from|0x2000
-            0 bad, 1 remarks, 4 changes
+            sound: 0 bad, 1 remarks, 4 changes
         """)
 
     def test_an_inner_area_that_moved_with_the_outer_one(self):
@@ -289,7 +289,7 @@ class InnerAreas(CheckTest):
             change|O|-|0x3000|area moved from|0x1000
             change|I|-|0x3000|area moved from|0x1000
             change|I|-|0x3000|erase blocks differ|1
-            0 bad, 1 remarks, 5 changes
+            sound: 0 bad, 1 remarks, 5 changes
         """)
 
     def test_an_inner_area_that_was_resized_or_added(self):
@@ -301,7 +301,7 @@ class InnerAreas(CheckTest):
             change|O|-|0x1000|erase blocks differ|1
             change|I|-|0x1000|area resized from|0x800
             change|J|-|0x1000|area added
-            0 bad, 1 remarks, 5 changes
+            sound: 0 bad, 1 remarks, 5 changes
         """)
 
     def test_an_inner_area_that_ends_outside_the_image(self):
@@ -313,7 +313,7 @@ class InnerAreas(CheckTest):
             change|-|-|-|erase blocks differ|1
             change|O|-|0x1000|erase blocks differ|1
             change|I|-|0x2000|not compared
-            3 bad, 1 remarks, 3 changes
+            not sound: 3 bad, 1 remarks, 3 changes
         """)
 
     def test_an_outer_area_that_is_kept(self):
@@ -324,12 +324,12 @@ class InnerAreas(CheckTest):
             change|-|-|-|erase blocks differ|1
             bad|O|-|0x1000|erase blocks differ|1
             change|I|-|0x1000|erase blocks differ|1
-            1 bad, 1 remarks, 2 changes
+            not sound: 1 bad, 1 remarks, 2 changes
         """, "--keep O")
         self.changes(1, old, new, """
             change|-|-|-|erase blocks differ|1
             bad|I|-|0x1000|erase blocks differ|1
-            1 bad, 1 remarks, 1 changes
+            not sound: 1 bad, 1 remarks, 1 changes
         """, "--keep I")
 
     def test_an_outer_area_that_is_preserved(self):
@@ -338,7 +338,7 @@ class InnerAreas(CheckTest):
             change|-|-|-|erase blocks differ|1
             bad|O|-|0x1000|erase blocks differ|1
             change|I|-|0x1000|erase blocks differ|1
-            1 bad, 1 remarks, 2 changes
+            not sound: 1 bad, 1 remarks, 2 changes
         """,
                      "--keep-preserved")
 
@@ -348,11 +348,11 @@ class Outside(CheckTest):
 
     def test_an_empty_area_after_the_end_of_the_old_image(self):
         new = blocks_of([("E", 0x3001, 0)], size=0x3001)
-        self.changes(0, new[:0x3000], new, """
-            change|-|-|-|image size changed from|0x3000
+        self.changes(1, new[:0x3000], new, """
+            bad|-|-|-|image size changed from|0x3000
             change|-|-|-|erase blocks differ|1
             change|E|-|0x3001|not compared
-            0 bad, 2 remarks, 3 changes
+            not sound: 1 bad, 2 remarks, 2 changes
         """)
 
     def test_an_area_outside_both_images(self):
@@ -360,26 +360,26 @@ class Outside(CheckTest):
         self.changes(1, image, image, """
             bad|C|-|0x1000|ends outside the image
             change|C|-|0x1000|not compared
-            1 bad, 1 remarks, 1 changes
+            not sound: 1 bad, 1 remarks, 1 changes
         """)
 
     def test_an_area_outside_the_old_image(self):
         new = blocks_of([("C", 0x1000, 0x2001)], size=0x3001)
-        self.changes(0, new[:0x3000], new, """
-            change|-|-|-|image size changed from|0x3000
+        self.changes(1, new[:0x3000], new, """
+            bad|-|-|-|image size changed from|0x3000
             change|-|-|-|erase blocks differ|1
             change|C|-|0x1000|not compared
-            0 bad, 1 remarks, 3 changes
+            not sound: 1 bad, 1 remarks, 2 changes
         """)
 
     def test_an_area_outside_the_new_image(self):
         new = blocks_of([("B", 0x2000, 0x1000)], size=0x2FFF)
         self.changes(1, new + b"\xff", new, """
             bad|B|-|0x2000|ends outside the image
-            change|-|-|-|image size changed from|0x3000
+            bad|-|-|-|image size changed from|0x3000
             change|-|-|-|erase blocks differ|1
             change|B|-|0x2000|not compared
-            1 bad, 1 remarks, 3 changes
+            not sound: 2 bad, 1 remarks, 2 changes
         """)
 
 

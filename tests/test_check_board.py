@@ -53,7 +53,7 @@ class Board(CheckTest):
                 remark|FW_MAIN_A|-|-|components|1
                 remark|FW_MAIN_A|-|-|free bytes|60480
                 remark|FW_MAIN_A|-|-|largest content that add takes|60448
-                0 bad, 12 remarks, 0 changes
+                sound: 0 bad, 12 remarks, 0 changes
             """, need)
 
     def test_a_bit_of_the_first_magic(self):
@@ -64,7 +64,7 @@ class Board(CheckTest):
             remark|FW_MAIN_A|-|-|components|1
             remark|FW_MAIN_A|-|-|free bytes|60480
             remark|FW_MAIN_A|-|-|largest content that add takes|60448
-            1 bad, 5 remarks, 0 changes
+            not sound: 1 bad, 5 remarks, 0 changes
         """)
         self.reports(1, flipped(0x4000, 1), """
             remark|-|-|0x0|flashmap
@@ -74,7 +74,7 @@ class Board(CheckTest):
             remark|FW_MAIN_A|-|-|free bytes|60480
             remark|FW_MAIN_A|-|-|largest content that add takes|60448
             bad|COREBOOT|bootblock|-|needed component isn't there
-            2 bad, 5 remarks, 0 changes
+            not sound: 2 bad, 5 remarks, 0 changes
         """, NEED)
 
     def test_each_bit_of_a_magic_in_the_middle(self):
@@ -96,7 +96,7 @@ class Board(CheckTest):
                     remark|FW_MAIN_A|-|-|components|1
                     remark|FW_MAIN_A|-|-|free bytes|60480
                     remark|FW_MAIN_A|-|-|largest content that add takes|60448
-                    4 bad, 10 remarks, 0 changes
+                    not sound: 4 bad, 10 remarks, 0 changes
                 """)
 
     def test_a_bit_of_the_last_magic(self):
@@ -114,7 +114,7 @@ class Board(CheckTest):
             remark|FW_MAIN_A|-|-|components|1
             remark|FW_MAIN_A|-|-|free bytes|60480
             remark|FW_MAIN_A|-|-|largest content that add takes|60448
-            1 bad, 12 remarks, 0 changes
+            not sound: 1 bad, 12 remarks, 0 changes
         """)
 
     def test_an_erased_bootblock(self):
@@ -133,7 +133,7 @@ class Board(CheckTest):
             remark|FW_MAIN_A|-|-|components|1
             remark|FW_MAIN_A|-|-|free bytes|60480
             remark|FW_MAIN_A|-|-|largest content that add takes|60448
-            0 bad, 12 remarks, 0 changes
+            sound: 0 bad, 12 remarks, 0 changes
         """)
         self.reports(1, image, """
             remark|-|-|0x0|flashmap
@@ -149,7 +149,7 @@ class Board(CheckTest):
             remark|FW_MAIN_A|-|-|free bytes|60480
             remark|FW_MAIN_A|-|-|largest content that add takes|60448
             bad|COREBOOT|bootblock|-|needed component isn't there
-            1 bad, 12 remarks, 0 changes
+            not sound: 1 bad, 12 remarks, 0 changes
         """, NEED)
 
     def test_COREBOOT_erased_or_shifted(self):
@@ -164,7 +164,7 @@ class Board(CheckTest):
                 remark|FW_MAIN_A|-|-|components|1
                 remark|FW_MAIN_A|-|-|free bytes|60480
                 remark|FW_MAIN_A|-|-|largest content that add takes|60448
-                1 bad, 5 remarks, 0 changes
+                not sound: 1 bad, 5 remarks, 0 changes
             """)
             self.changes(1, BOARD, image, """
                 bad|COREBOOT|-|-|no CBFS
@@ -174,7 +174,7 @@ class Board(CheckTest):
                 change|COREBOOT|b|0x1400|component removed
                 change|COREBOOT|c|0x2800|component removed
                 change|COREBOOT|bootblock|0x1ec40|component removed
-                1 bad, 5 remarks, 6 changes
+                not sound: 1 bad, 5 remarks, 6 changes
             """)
 
     def test_FW_MAIN_A_erased(self):
@@ -189,14 +189,14 @@ class Board(CheckTest):
             remark|COREBOOT|-|-|components|4
             remark|COREBOOT|-|-|free bytes|110656
             remark|COREBOOT|-|-|largest content that add takes|110628
-            0 bad, 8 remarks, 0 changes
+            sound: 0 bad, 8 remarks, 0 changes
         """)
         self.changes(1, BOARD, image, """
             bad|FW_MAIN_A|-|-|no CBFS
             change|-|-|-|erase blocks differ|2
             change|FW_MAIN_A|-|0x24000|erase blocks differ|2
             change|FW_MAIN_A|main|0x0|component removed
-            1 bad, 8 remarks, 3 changes
+            not sound: 1 bad, 8 remarks, 3 changes
         """)
 
     def test_no_component(self):
@@ -207,7 +207,7 @@ class Board(CheckTest):
             remark|COREBOOT|-|-|no components
             remark|COREBOOT|-|-|free bytes|131072
             remark|COREBOOT|-|-|largest content that add takes|131040
-            0 bad, 5 remarks, 0 changes
+            sound: 0 bad, 5 remarks, 0 changes
         """)
         self.reports(1, image, """
             remark|-|-|0x0|flashmap
@@ -216,7 +216,7 @@ class Board(CheckTest):
             remark|COREBOOT|-|-|free bytes|131072
             remark|COREBOOT|-|-|largest content that add takes|131040
             bad|COREBOOT|bootblock|-|needed component isn't there
-            1 bad, 5 remarks, 0 changes
+            not sound: 1 bad, 5 remarks, 0 changes
         """, NEED)
 
     def test_a_bit_of_the_name_of_the_bootblock(self):
@@ -234,7 +234,7 @@ class Board(CheckTest):
             remark|FW_MAIN_A|-|-|free bytes|60480
             remark|FW_MAIN_A|-|-|largest content that add takes|60448
             bad|COREBOOT|bootblock|-|needed component isn't there
-            1 bad, 12 remarks, 0 changes
+            not sound: 1 bad, 12 remarks, 0 changes
         """, NEED)
 
     def test_a_bit_of_the_type_so_that_it_has_no_name(self):
@@ -252,7 +252,7 @@ class Board(CheckTest):
             remark|FW_MAIN_A|-|-|components|1
             remark|FW_MAIN_A|-|-|free bytes|60480
             remark|FW_MAIN_A|-|-|largest content that add takes|60448
-            0 bad, 13 remarks, 0 changes
+            sound: 0 bad, 13 remarks, 0 changes
         """, NEED)
 
     def test_a_bit_of_the_type_so_that_the_bootblock_is_deleted(self):
@@ -271,7 +271,7 @@ class Board(CheckTest):
             remark|FW_MAIN_A|-|-|free bytes|60480
             remark|FW_MAIN_A|-|-|largest content that add takes|60448
             bad|COREBOOT|bootblock|-|needed component isn't there
-            1 bad, 13 remarks, 0 changes
+            not sound: 1 bad, 13 remarks, 0 changes
         """, NEED)
 
     def test_a_bootblock_at_another_place(self):
@@ -291,7 +291,7 @@ class Board(CheckTest):
             remark|FW_MAIN_A|-|-|free bytes|60480
             remark|FW_MAIN_A|-|-|largest content that add takes|60448
             bad|COREBOOT|bootblock|0x3c24|needed component is elsewhere
-            1 bad, 12 remarks, 0 changes
+            not sound: 1 bad, 12 remarks, 0 changes
         """, NEED)
 
     def test_a_byte_of_a_stored_digest(self):
@@ -309,7 +309,7 @@ class Board(CheckTest):
             remark|FW_MAIN_A|-|-|components|1
             remark|FW_MAIN_A|-|-|free bytes|60480
             remark|FW_MAIN_A|-|-|largest content that add takes|60448
-            1 bad, 11 remarks, 0 changes
+            not sound: 1 bad, 11 remarks, 0 changes
         """, NEED)
 
     def test_a_bit_of_the_number_of_areas(self):
@@ -333,7 +333,7 @@ class Board(CheckTest):
             bad|-|-|-|more of these|240
             remark|-|-|-|more of these|240
             bad|-|-|-|more of these|239
-            511 bad, 268 remarks, 0 changes
+            not sound: 511 bad, 268 remarks, 0 changes
         """.strip()]))
 
 

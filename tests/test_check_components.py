@@ -19,9 +19,8 @@ class Components(CheckTest):
         self.changes(1, old, new, bad, "--keep A")
 
     def test_the_same_image(self):
-        for image in region(192, [A, NULL_64, U]), region(5056, [L_5000]):
-            count = 6 if b"u" in image else 5
-            self.changes(0, image, image, f"0 bad, {count} remarks, 0 changes")
+        for image in region(192, [A, NULL_64, B]), region(5056, [L_5000]):
+            self.changes(0, image, image, "sound: 0 bad, 5 remarks, 0 changes")
 
     def test_another_component(self):
         old, new = region(64, [A]), region(64, [B])
@@ -30,15 +29,15 @@ class Components(CheckTest):
             change|A|-|0x100|erase blocks differ|1
             change|A|b|0x0|component added
             change|A|a|0x0|component removed
-            0 bad, 5 remarks, 4 changes
-        """, "    3 bad, 5 remarks, 1 changes")
+            sound: 0 bad, 5 remarks, 4 changes
+        """, "    not sound: 3 bad, 5 remarks, 1 changes")
         self.changes(1, old, new, """
             change|-|-|-|erase blocks differ|1
             bad|A|-|0x100|erase blocks differ|1
             bad|A|b|0x0|component added
             bad|A|a|0x0|component removed
             bad|NONE|-|-|no such area
-            4 bad, 5 remarks, 1 changes
+            not sound: 4 bad, 5 remarks, 1 changes
         """, "--keep A,NONE")
 
     def test_a_component_that_is_removed(self):
@@ -46,16 +45,16 @@ class Components(CheckTest):
             change|-|-|-|erase blocks differ|1
             change|A|-|0x100|erase blocks differ|1
             change|A|a|0x0|component removed
-            0 bad, 5 remarks, 3 changes
-        """, "    2 bad, 5 remarks, 1 changes")
+            sound: 0 bad, 5 remarks, 3 changes
+        """, "    not sound: 2 bad, 5 remarks, 1 changes")
 
     def test_a_component_that_is_added(self):
         self.becomes(region(64, [NULL_64]), region(64, [A]), """
             change|-|-|-|erase blocks differ|1
             change|A|-|0x100|erase blocks differ|1
             change|A|a|0x0|component added
-            0 bad, 5 remarks, 3 changes
-        """, "    2 bad, 5 remarks, 1 changes")
+            sound: 0 bad, 5 remarks, 3 changes
+        """, "    not sound: 2 bad, 5 remarks, 1 changes")
 
     def test_another_type(self):
         """Of several fields that differ, the first one has a row."""
@@ -64,61 +63,64 @@ class Components(CheckTest):
             change|-|-|-|erase blocks differ|1
             change|A|-|0x100|erase blocks differ|1
             change|A|a|0x0|type changed
-            0 bad, 5 remarks, 3 changes
-        """, "    2 bad, 5 remarks, 1 changes")
+            sound: 0 bad, 5 remarks, 3 changes
+        """, "    not sound: 2 bad, 5 remarks, 1 changes")
         self.becomes(old, region(64, [A_51], (8, b"\0\0\0\x09")), """
             change|-|-|-|erase blocks differ|1
             change|A|-|0x100|erase blocks differ|1
             change|A|a|0x0|type changed
-            0 bad, 5 remarks, 3 changes
-        """, "    2 bad, 5 remarks, 1 changes")
+            sound: 0 bad, 5 remarks, 3 changes
+        """, "    not sound: 2 bad, 5 remarks, 1 changes")
 
     def test_another_length(self):
         self.becomes(region(64, [A]), region(64, [A_9], (0x28, b"x")), """
             change|-|-|-|erase blocks differ|1
             change|A|-|0x100|erase blocks differ|1
             change|A|a|0x0|length changed
-            0 bad, 5 remarks, 3 changes
-        """, "    2 bad, 5 remarks, 1 changes")
+            sound: 0 bad, 5 remarks, 3 changes
+        """, "    not sound: 2 bad, 5 remarks, 1 changes")
 
     def test_another_content(self):
         self.becomes(region(64, [A]), region(64, [A], (0x31, b"x")), """
             change|-|-|-|erase blocks differ|1
             change|A|-|0x100|erase blocks differ|1
             change|A|a|0x0|content changed
-            0 bad, 5 remarks, 3 changes
-        """, "    2 bad, 5 remarks, 1 changes")
+            sound: 0 bad, 5 remarks, 3 changes
+        """, "    not sound: 2 bad, 5 remarks, 1 changes")
 
     def test_another_content_and_other_attributes(self):
         new = region(128, [H], (0x33, b"\x09"), (0x56, b"d"))
         self.becomes(region(128, [H]), new, """
+            bad|A|h|0x0|digest has an unknown algorithm
             change|-|-|-|erase blocks differ|1
             change|A|-|0x100|erase blocks differ|1
             change|A|h|0x0|content changed
-            0 bad, 6 remarks, 3 changes
-        """, "    2 bad, 6 remarks, 1 changes")
+            not sound: 1 bad, 6 remarks, 3 changes
+        """, "    not sound: 3 bad, 6 remarks, 1 changes", status=1)
 
     def test_other_attributes(self):
         self.becomes(region(128, [H]), region(128, [H], (0x33, b"\x09")), """
+            bad|A|h|0x0|digest has an unknown algorithm
             change|-|-|-|erase blocks differ|1
             change|A|-|0x100|erase blocks differ|1
             change|A|h|0x0|attributes changed
-            0 bad, 6 remarks, 3 changes
-        """, "    2 bad, 6 remarks, 1 changes")
+            not sound: 1 bad, 6 remarks, 3 changes
+        """, "    not sound: 3 bad, 6 remarks, 1 changes", status=1)
         self.becomes(region(64, [U]), region(64, [U], (0x33, b"x")), """
+            bad|A|u|0x0|digest has an unknown algorithm
             change|-|-|-|erase blocks differ|1
             change|A|-|0x100|erase blocks differ|1
             change|A|u|0x0|attributes changed
-            0 bad, 6 remarks, 3 changes
-        """, "    2 bad, 6 remarks, 1 changes")
+            not sound: 1 bad, 6 remarks, 3 changes
+        """, "    not sound: 3 bad, 6 remarks, 1 changes", status=1)
 
     def test_attributes_that_are_none_any_more(self):
         self.becomes(region(64, [U]), region(64, [U_PLAIN]), """
             change|-|-|-|erase blocks differ|1
             change|A|-|0x100|erase blocks differ|1
             change|A|u|0x0|attributes changed
-            0 bad, 5 remarks, 3 changes
-        """, "    2 bad, 5 remarks, 1 changes")
+            sound: 0 bad, 5 remarks, 3 changes
+        """, "    not sound: 2 bad, 5 remarks, 1 changes")
 
     def test_the_last_byte_of_a_content_of_two_pieces(self):
         old, new = region(5056, [L_5000]), region(5056, [L_5000], (0x13AF, b"x"))
@@ -126,16 +128,16 @@ class Components(CheckTest):
             change|-|-|-|erase blocks differ|1
             change|A|-|0x100|erase blocks differ|1
             change|A|l|0x0|content changed
-            0 bad, 5 remarks, 3 changes
-        """, "    2 bad, 5 remarks, 1 changes")
+            sound: 0 bad, 5 remarks, 3 changes
+        """, "    not sound: 2 bad, 5 remarks, 1 changes")
 
     def test_the_byte_after_a_content(self):
         old, new = region(5056, [L_5000]), region(5056, [L_5000], (0x13B0, b"x"))
         self.becomes(old, new, """
             change|-|-|-|erase blocks differ|1
             change|A|-|0x100|erase blocks differ|1
-            0 bad, 5 remarks, 2 changes
-        """, "    1 bad, 5 remarks, 1 changes")
+            sound: 0 bad, 5 remarks, 2 changes
+        """, "    not sound: 1 bad, 5 remarks, 1 changes")
 
     def test_two_components_that_moved(self):
         self.becomes(region(128, [A, B]), region(128, [B, A]), """
@@ -143,8 +145,8 @@ class Components(CheckTest):
             change|A|-|0x100|erase blocks differ|1
             change|A|b|0x0|component moved from|0x40
             change|A|a|0x40|component moved from|0x0
-            0 bad, 5 remarks, 4 changes
-        """, "    3 bad, 5 remarks, 1 changes")
+            sound: 0 bad, 5 remarks, 4 changes
+        """, "    not sound: 3 bad, 5 remarks, 1 changes")
 
     def test_a_component_that_moved_with_another_content(self):
         old, new = region(192, [A, NULL_128]), region(192, [NULL_128, A], (0xB1, b"x"))
@@ -153,8 +155,8 @@ class Components(CheckTest):
             change|A|-|0x100|erase blocks differ|1
             change|A|a|0x80|content changed
             change|A|a|0x80|component moved from|0x0
-            0 bad, 5 remarks, 4 changes
-        """, "    3 bad, 5 remarks, 1 changes")
+            sound: 0 bad, 5 remarks, 4 changes
+        """, "    not sound: 3 bad, 5 remarks, 1 changes")
 
     def test_a_second_component_of_a_name(self):
         """Only the first one counts."""
@@ -162,27 +164,27 @@ class Components(CheckTest):
         self.becomes(old, region(128, [A, NULL_64]), """
             change|-|-|-|erase blocks differ|1
             change|A|-|0x100|erase blocks differ|1
-            0 bad, 5 remarks, 2 changes
-        """, "    1 bad, 5 remarks, 1 changes")
+            sound: 0 bad, 5 remarks, 2 changes
+        """, "    not sound: 1 bad, 5 remarks, 1 changes")
         self.becomes(old, region(128, [A_51, A]), """
             bad|A|a|0x40|has the name of an earlier component
             change|-|-|-|erase blocks differ|1
             change|A|-|0x100|erase blocks differ|1
             change|A|a|0x0|type changed
-            1 bad, 5 remarks, 3 changes
-        """, "    3 bad, 5 remarks, 1 changes", status=1)
+            not sound: 1 bad, 5 remarks, 3 changes
+        """, "    not sound: 3 bad, 5 remarks, 1 changes", status=1)
         self.becomes(old, region(128, [NULL_128]), """
             change|-|-|-|erase blocks differ|1
             change|A|-|0x100|erase blocks differ|1
             change|A|a|0x0|component removed
-            0 bad, 5 remarks, 3 changes
-        """, "    2 bad, 5 remarks, 1 changes")
+            sound: 0 bad, 5 remarks, 3 changes
+        """, "    not sound: 2 bad, 5 remarks, 1 changes")
         self.becomes(region(128, [A, NULL_64]), old, """
             bad|A|a|0x40|has the name of an earlier component
             change|-|-|-|erase blocks differ|1
             change|A|-|0x100|erase blocks differ|1
-            1 bad, 5 remarks, 2 changes
-        """, "    2 bad, 5 remarks, 1 changes", status=1)
+            not sound: 1 bad, 5 remarks, 2 changes
+        """, "    not sound: 2 bad, 5 remarks, 1 changes", status=1)
 
     def test_a_component_after_damage(self):
         """It does not count."""
@@ -192,15 +194,15 @@ class Components(CheckTest):
             change|-|-|-|erase blocks differ|1
             change|A|-|0x100|erase blocks differ|1
             change|A|b|0x80|component added
-            0 bad, 5 remarks, 3 changes
-        """, "    2 bad, 5 remarks, 1 changes")
+            sound: 0 bad, 5 remarks, 3 changes
+        """, "    not sound: 2 bad, 5 remarks, 1 changes")
         self.becomes(sound, damaged, """
             bad|A|-|0x40|damaged entry: attribute length
             change|-|-|-|erase blocks differ|1
             change|A|-|0x100|erase blocks differ|1
             change|A|b|0x80|component removed
-            1 bad, 4 remarks, 3 changes
-        """, "    3 bad, 4 remarks, 1 changes", status=1)
+            not sound: 1 bad, 4 remarks, 3 changes
+        """, "    not sound: 3 bad, 4 remarks, 1 changes", status=1)
 
     def test_a_region_without_an_entry_at_its_start(self):
         """Its components do not count."""
@@ -210,8 +212,8 @@ class Components(CheckTest):
             change|-|-|-|erase blocks differ|1
             change|A|-|0x100|erase blocks differ|1
             change|A|a|0x0|component added
-            1 bad, 4 remarks, 3 changes
-        """, "    3 bad, 4 remarks, 1 changes", status=1)
+            not sound: 1 bad, 4 remarks, 3 changes
+        """, "    not sound: 3 bad, 4 remarks, 1 changes", status=1)
 
 
 def small(areas, *pieces):
@@ -236,7 +238,7 @@ class Regions(CheckTest):
             change|B|a|0x0|content changed
             change|C|b|0x0|component added
             change|C|a|0x0|component removed
-            0 bad, 13 remarks, 6 changes
+            sound: 0 bad, 13 remarks, 6 changes
         """)
 
     def test_regions_that_changed_places(self):
@@ -247,7 +249,7 @@ class Regions(CheckTest):
             change|FMAP|-|0x0|erase blocks differ|1
             change|B|-|0x100|area moved from|0x200
             change|A|-|0x200|area moved from|0x100
-            0 bad, 9 remarks, 4 changes
+            sound: 0 bad, 9 remarks, 4 changes
         """)
 
     def test_the_first_area_of_a_name(self):
@@ -258,7 +260,7 @@ class Regions(CheckTest):
             change|A|-|0x100|erase blocks differ|1
             change|A|b|0x0|component added
             change|A|a|0x0|component removed
-            0 bad, 5 remarks, 5 changes
+            sound: 0 bad, 5 remarks, 5 changes
         """)
 
     def test_a_region_that_one_image_lacks(self):
@@ -270,33 +272,33 @@ class Regions(CheckTest):
             change|-|-|-|erase blocks differ|1
             change|FMAP|-|0x0|erase blocks differ|1
             change|B|-|0x200|area added
-            0 bad, 9 remarks, 3 changes
+            sound: 0 bad, 9 remarks, 3 changes
         """)
         self.changes(1, two, other, """
             change|-|-|-|erase blocks differ|1
             change|FMAP|-|0x0|erase blocks differ|1
             bad|A|-|0x100|area gone
-            1 bad, 5 remarks, 2 changes
+            not sound: 1 bad, 5 remarks, 2 changes
         """)
         self.changes(1, two, other, """
             change|-|-|-|erase blocks differ|1
             bad|FMAP|-|0x0|erase blocks differ|1
             bad|A|-|0x100|area gone
             bad|R|-|-|no such area
-            3 bad, 5 remarks, 1 changes
+            not sound: 3 bad, 5 remarks, 1 changes
         """, "--keep FMAP,A,R,B")
         self.changes(1, other, two, """
             change|-|-|-|erase blocks differ|1
             bad|FMAP|-|0x0|erase blocks differ|1
             bad|A|-|0x100|area added
-            2 bad, 9 remarks, 1 changes
+            not sound: 2 bad, 9 remarks, 1 changes
         """, "--keep A,FMAP")
         self.changes(1, other, two, """
             change|-|-|-|erase blocks differ|1
             change|FMAP|-|0x0|erase blocks differ|1
             change|A|-|0x100|area added
             bad|F|-|-|no such area
-            1 bad, 9 remarks, 3 changes
+            not sound: 1 bad, 9 remarks, 3 changes
         """, "--keep F")
 
     def test_old_regions_of_more_bytes_than_the_image(self):
@@ -308,7 +310,7 @@ class Regions(CheckTest):
             change|A|-|0x100|area resized from|0x300
             change|B|-|0x200|area resized from|0x200
             change|B|-|0x200|components not compared
-            0 bad, 13 remarks, 5 changes
+            sound: 0 bad, 13 remarks, 5 changes
         """)
         old = [("A", 0x100, 0x300), AREA_B, AREA_C]
         self.changes(0, small(old, (0x100, A), (0x200, A), (0x300, A)), new, """
@@ -316,7 +318,7 @@ class Regions(CheckTest):
             change|FMAP|-|0x0|erase blocks differ|1
             change|A|-|0x100|area resized from|0x300
             change|C|-|0x300|components not compared
-            0 bad, 13 remarks, 4 changes
+            sound: 0 bad, 13 remarks, 4 changes
         """)
 
     def test_a_region_with_one_byte_in_the_old_image(self):
@@ -328,7 +330,7 @@ class Regions(CheckTest):
             change|B|-|0x200|area moved from|0x3ff
             change|B|-|0x200|not compared
             change|B|-|0x200|components not compared
-            0 bad, 9 remarks, 5 changes
+            sound: 0 bad, 9 remarks, 5 changes
         """)
         self.changes(1, old, new, """
             change|-|-|-|erase blocks differ|1
@@ -336,7 +338,7 @@ class Regions(CheckTest):
             bad|B|-|0x200|area moved from|0x3ff
             bad|B|-|0x200|not compared
             bad|B|-|0x200|components not compared
-            3 bad, 9 remarks, 2 changes
+            not sound: 3 bad, 9 remarks, 2 changes
         """, "--keep B")
 
 
@@ -352,7 +354,7 @@ class Erased(CheckTest):
             change|A|-|0x100|erase blocks differ|1
             change|A|a|0x0|component removed
             change|A|b|0x40|component removed
-            1 bad, 1 remarks, 4 changes
+            not sound: 1 bad, 1 remarks, 4 changes
         """)
 
     def test_an_erased_region_at_another_place(self):
@@ -364,7 +366,7 @@ class Erased(CheckTest):
             change|A|-|0x200|erase blocks differ|1
             change|A|a|0x0|component removed
             change|A|b|0x40|component removed
-            1 bad, 1 remarks, 6 changes
+            not sound: 1 bad, 1 remarks, 6 changes
         """)
 
     def test_another_name(self):
@@ -373,14 +375,14 @@ class Erased(CheckTest):
             change|FMAP|-|0x0|erase blocks differ|1
             change|B|-|0x100|area added
             bad|A|-|0x100|area gone
-            1 bad, 1 remarks, 3 changes
+            not sound: 1 bad, 1 remarks, 3 changes
         """)
 
     def test_an_area_that_did_not_begin_with_an_entry(self):
         self.changes(0, small([AREA_A], (0x108, A)), small([AREA_A]), """
             change|-|-|-|erase blocks differ|1
             change|A|-|0x100|erase blocks differ|1
-            0 bad, 1 remarks, 2 changes
+            sound: 0 bad, 1 remarks, 2 changes
         """)
 
     def test_a_larger_area_that_was_not_checked(self):
@@ -391,7 +393,7 @@ class Erased(CheckTest):
             change|OUTER|-|0x100|erase blocks differ|1
             change|A|-|0x100|erase blocks differ|1
             change|A|a|0x0|component removed
-            1 bad, 1 remarks, 4 changes
+            not sound: 1 bad, 1 remarks, 4 changes
         """)
 
 

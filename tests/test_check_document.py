@@ -4,7 +4,8 @@ import json
 import unittest
 
 from tests.findings import (
-    A, B, DELETED_64, FMAP, H, NULL_64, NULL_128, U, CheckTest, board, patched, region, report,
+    A, B, DELETED_64, FMAP, H, NULL_64, NULL_128, U, CheckTest, board, conclusion, patched, region,
+    report, verdict,
 )
 from tests.image import Component, compression
 from tests.samples import Sample
@@ -32,6 +33,7 @@ class DocumentTest(CheckTest):
         if components is not None:
             expected["components"] = components
         expected["rows"] = rows
+        expected["verdict"] = verdict(counts[0])
         expected.update(zip(("bad", "remarks", "changes"), counts))
         self.assertTrue(REPORTS.accepts(expected), "not valid by the schema")
         text = json.dumps(expected, ensure_ascii=False, separators=(",", ":"))
@@ -88,6 +90,9 @@ class Samples(DocumentTest):
                 rows.append(row("remark", "component-type", "type without a name", **at,
                                 value=numbers[name]))
             rows.append(row("remark", "hash-missing", "no hash", **at))
+            if name == "t/stage":
+                rows.append(row("bad", "attributes-invalid",
+                                "stage has no stage attribute of 24 bytes", **at))
         rows += [row("remark", "complete", "complete", area="COREBOOT"),
                  *of_region("COREBOOT", 20, 41664, 40864),
                  row("remark", "descriptor-blank", "blank: no flash descriptor", area="SI_DESC"),
@@ -95,7 +100,7 @@ class Samples(DocumentTest):
                      area="SI_ME"),
                  row("remark", "gbb-blank", "blank: no GBB", area="GBB"),
                  row("remark", "slot-blank", "blank: no signatures", area="VBLOCK_A")]
-        self.document(0, {"image.rom": TYPES}, "-v", rows, (0, 33, 0))
+        self.document(1, {"image.rom": TYPES}, "-v", rows, (1, 33, 0))
 
     def test_a_change_of_a_component(self):
         files = {"old.rom": HASHES, "image.rom": patched(HASHES, (0x15A0, b"X"))}
@@ -133,11 +138,13 @@ class Lists(DocumentTest):
         deleted = row("remark", "component-deleted", "deleted component", area="A", position=0)
         no_hash = hash_row("remark", "hash-missing", "a", 0x40, "no hash", "A")
         rest = [hash_row("remark", "hash-unsupported", "u", 0xC0, "hash unsupported", "A"),
+                hash_row("bad", "attributes-invalid", "u", 0xC0,
+                         "digest has an unknown algorithm", "A"),
                 hash_row("remark", "hash-valid", "h", 0x100, "sha256 valid", "A"),
                 COMPLETE, *of_region("A", 3, 128, 36)]
         files = {"image.rom": region(384, [DELETED_64, A, NULL_64, U, H])}
-        self.document(0, files, "--list", [MAP, deleted, *rest], (0, 8, 0), components)
-        self.document(0, files, "--list -v", [MAP, deleted, no_hash, *rest], (0, 9, 0), components)
+        self.document(1, files, "--list", [MAP, deleted, *rest], (1, 8, 0), components)
+        self.document(1, files, "--list -v", [MAP, deleted, no_hash, *rest], (1, 9, 0), components)
 
     def test_compressed_components(self):
         packed = [Component(b"p", b"abcd", attributes=[compression(n, 100)]) for n in (1, 2, 9)]
@@ -266,7 +273,7 @@ class Options(DocumentTest):
         for options, status, bad, remarks, changes in self.CHOICES:
             chosen = [(text, rows) for option, text, rows in self.ROWS if option in options
                       or (option == "no --keep A" and "--keep" not in options)]
-            last = f"{bad} bad, {remarks} remarks, {changes} changes"
+            last = conclusion(bad, remarks, changes)
             with self.subTest(options):
                 self.check(f"cbfscheck old.rom image.rom {options}", files, status,
                            report("\n".join([*(text.strip() for text, _ in chosen), last])))
@@ -312,7 +319,7 @@ class Names(DocumentTest):
         '{"verdict":"remark","code":"components","area":[255,49],"what":"components","value":1},'
         '{"verdict":"remark","code":"free-bytes","area":[255,49],"what":"free bytes","value":0},'
         '{"verdict":"remark","code":"no-room","area":[255,49],"what":"no room for a component"}],'
-        '"bad":2,"remarks":14,"changes":0}\n'
+        '"verdict":"not sound","bad":2,"remarks":14,"changes":0}\n'
     )
     COMPONENTS = (
         '"components":[{"area":"a\\t\\"\\\\\\u0001\x7f\\n","component":"é","position":0,'
@@ -339,7 +346,7 @@ class Names(DocumentTest):
             remark|\xff1|-|-|components|1
             remark|\xff1|-|-|free bytes|0
             remark|\xff1|-|-|no room for a component
-            2 bad, 14 remarks, 0 changes
+            not sound: 2 bad, 14 remarks, 0 changes
         """, "-v")
 
     def test_the_document(self):

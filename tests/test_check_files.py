@@ -10,7 +10,7 @@ from tests.programs import HAS_COMPILER, Faults, if_memory_can_be_refused, locke
 from tests.samples import Sample
 from tests.strace import traces, tracing
 
-FILES = {name: Sample(name.split(".")[0]).image for name in ("hashes.rom", "types.rom")}
+FILES = {f"{name}.rom": Sample(name).image for name in ("hashes", "packed", "types")}
 # A command that takes longer waits for something.
 LIMIT = 10
 REPORT = report(r"""
@@ -23,7 +23,7 @@ REPORT = report(r"""
     remark|COREBOOT|-|-|components|5
     remark|COREBOOT|-|-|free bytes|15744
     remark|COREBOOT|-|-|largest content that add takes|15264
-    0 bad, 9 remarks, 0 changes
+    sound: 0 bad, 9 remarks, 0 changes
 """)
 ABSENT, DENIED = "No such file or directory", "Permission denied"
 
@@ -132,7 +132,7 @@ class Calls(CheckTest):
         """The first calls on it are an opening, a lock and a read."""
         faults = Faults("hashes.rom")
         self.check("cbfscheck hashes.rom", FILES, output=REPORT, faults=faults)
-        names = [name for name, _, _ in faults.calls]
+        names = [call.name for call in faults.calls]
         self.assertEqual([name for name in names if name != "stat"][:3], ["open", "lock", "read"])
         self.assertLessEqual(set(names), {"stat", "open", "lock", "read", "seek", "close"})
 
@@ -147,12 +147,12 @@ class Memory(CheckTest):
         self.assertEqual(len(spared), 4)
 
     def test_two_images(self):
-        done = self.folder(FILES).run("cbfscheck hashes.rom types.rom --json")
-        self.assertEqual(done.output[:51], b'{"format":1,"image":"types.rom","old":"hashes.rom",')
-        reported, spared = self.refuse_memory("cbfscheck hashes.rom types.rom --json", FILES,
+        done = self.folder(FILES).run("cbfscheck packed.rom hashes.rom --json")
+        self.assertEqual(done.output[:52], b'{"format":1,"image":"hashes.rom","old":"packed.rom",')
+        reported, spared = self.refuse_memory("cbfscheck packed.rom hashes.rom --json", FILES,
                                               done.output, status=2)
-        self.assertGreaterEqual(len(reported) + len(spared), 380)
-        self.assertEqual(len(spared), 6)
+        self.assertGreaterEqual(len(reported) + len(spared), 240)
+        self.assertEqual(len(spared), 7)
 
 
 class Locks(CheckTest):
@@ -163,8 +163,8 @@ class Locks(CheckTest):
         with locked(folder.path / "hashes.rom", fcntl.LOCK_SH):
             self.check("cbfscheck hashes.rom", folder, output=REPORT, limit=LIMIT)
 
-    def waits(self, command):
-        """Checks that a command waits for an exclusive lock of hashes.rom, and then succeeds."""
+    def waits(self, command, status=0):
+        """Checks that a command waits for an exclusive lock of hashes.rom, and its status then."""
         folder = self.folder({**FILES, "created.rom": Sample("created").image})
         with locked(folder.path / "hashes.rom"):
             started = folder.start(command)
@@ -172,18 +172,19 @@ class Locks(CheckTest):
             time.sleep(0.3)
             self.assertIsNone(started.process.poll())
         done = started.end(limit=LIMIT)
-        self.assertEqual((done.status, done.message, done.after), (0, b"", done.before))
+        self.assertEqual((done.status, done.message, done.after), (status, b"", done.before))
         return done
 
     def test_an_exclusive_lock(self):
         self.assertEqual(self.waits("cbfscheck hashes.rom").output, REPORT)
 
     def test_an_exclusive_lock_of_the_second_image(self):
-        self.waits("cbfscheck created.rom hashes.rom")
+        self.waits("cbfscheck created.rom hashes.rom", status=1)
 
     def test_one_image_twice(self):
         """The command shares the lock with itself."""
-        self.check("cbfscheck hashes.rom hashes.rom", FILES, output=REPORT, limit=LIMIT)
+        self.check("cbfscheck hashes.rom hashes.rom", FILES,
+                   output=REPORT.replace(b"sound", b"sound"), limit=LIMIT)
 
 
 class Rights(CheckTest):

@@ -7,7 +7,7 @@ from tests import image
 from tests.programs import TOP, ProgramTest, Folder
 
 OPTIONS = ["-r", "-v", "-h", "--need", "--all-hashed", "--list", "--json", "--help", "--version"]
-OPTIONS += ["--keep", "--keep-preserved"]
+OPTIONS += ["--flash", "--keep", "--keep-preserved"]
 # More components with a digest than rows of one kind are printed.
 MANY = 40
 PAGE = (TOP / "man" / "cbfscheck.1").read_text(encoding="utf-8")

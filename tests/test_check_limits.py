@@ -104,7 +104,7 @@ class Needs(Check):
         self.assertEqual(sum("\tmore of these\t" not in line and line.startswith("bad")
                              for line in lines), 16)
         self.assertIn("84", [line.split("\t")[-1] for line in lines if "more of these" in line])
-        self.assertEqual(lines[-1].split(",")[0], "100 bad")
+        self.assertEqual(lines[-1].split(",")[0], "not sound: 100 bad")
 
     def test_many_bytes_of_needs(self):
         names = [f"{number:0120}" for number in range(1000)]
@@ -120,9 +120,9 @@ class Needs(Check):
 # are blank.
 READS = [
     ("created.rom", 1, 1, 1, 1),
-    ("hashes.rom", 9, 9, 12, 16),
-    ("packed.rom", 9, 9, 12, 16),
-    ("types.rom", 14, 15, 27, 35),
+    ("hashes.rom", 9, 9, 20, 16),
+    ("packed.rom", 9, 9, 20, 16),
+    ("types.rom", 14, 15, 38, 35),
 ]
 OPTIONS = ["", "-v --list --json", "--all-hashed", "--need COREBOOT:bootblock@end"]
 
@@ -136,7 +136,7 @@ class Reads(Check):
         data = (TOP / "samples" / sample).read_bytes()
         faults = Faults(file)
         self.folder({"image.rom": data, "old.rom": data}).run(command, faults=faults)
-        return sum(call == "read" for call, _, _ in faults.calls)
+        return sum(call.name == "read" for call in faults.calls)
 
     def test_one_image(self):
         for sample, expected, with_areas, _, _ in READS:

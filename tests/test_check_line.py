@@ -57,8 +57,10 @@ class Errors(CheckTest):
         ("bad need 'A:a@x'", "hashes.rom --need A:a@x"),
         ("bad need 'A:a@4294967296'", "hashes.rom --need A:a@4294967296"),
         ("bad need 'b'", "hashes.rom --need A:a,b"),
-        ("--keep and --keep-preserved need two images", "--keep A hashes.rom"),
-        ("--keep and --keep-preserved need two images", "hashes.rom --keep-preserved"),
+        ("--flash, --keep and --keep-preserved need two images", "--keep A hashes.rom"),
+        ("--flash, --keep and --keep-preserved need two images", "--flash hashes.rom"),
+        ("--flash, --keep and --keep-preserved need two images",
+         "hashes.rom --keep-preserved"),
         ("an option is given twice at 'B'", "hashes.rom -r A -r B"),
         ("an option is given twice at 'B'", "hashes.rom hashes.rom --keep A --keep B"),
         ("an option is given twice at 'A:a'", "hashes.rom --need A:a --need A:a"),
@@ -89,7 +91,7 @@ class Outputs(CheckTest):
                 self.assertIn(name, run.output.decode())
 
     def test_the_version(self):
-        self.check("cbfscheck --version", output="cbfscheck 2.3\n")
+        self.check("cbfscheck --version", output="cbfscheck 3.0\n")
 
     def test_a_full_device(self):
         """A bad report ends with status 2 too."""

@@ -16,32 +16,34 @@ class List(CheckTest):
     def test_components_and_free_cells(self):
         """No free cell is listed. -v and --all-hashed change other rows."""
         image = region(384, [DELETED_64, A, NULL_64, U, H])
-        self.reports(0, image, """
+        self.reports(1, image, """
             component|A|a|0x40|raw|10|none|no hash
             component|A|u|0xc0|raw|0|none|hash unsupported
             component|A|h|0x100|raw|3|none|sha256 valid
             remark|-|-|0x0|flashmap
             remark|A|-|0x0|deleted component
             remark|A|u|0xc0|hash unsupported
+            bad|A|u|0xc0|digest has an unknown algorithm
             remark|A|h|0x100|sha256 valid
             remark|A|-|-|complete
             remark|A|-|-|components|3
             remark|A|-|-|free bytes|128
             remark|A|-|-|largest content that add takes|36
-            0 bad, 8 remarks, 0 changes
+            not sound: 1 bad, 8 remarks, 0 changes
         """, "--list")
-        self.reports(0, image, """
+        self.reports(1, image, """
             remark|-|-|0x0|flashmap
             remark|A|-|0x0|deleted component
             remark|A|u|0xc0|hash unsupported
+            bad|A|u|0xc0|digest has an unknown algorithm
             remark|A|h|0x100|sha256 valid
             remark|A|-|-|complete
             remark|A|-|-|components|3
             remark|A|-|-|free bytes|128
             remark|A|-|-|largest content that add takes|36
-            0 bad, 8 remarks, 0 changes
+            not sound: 1 bad, 8 remarks, 0 changes
         """)
-        self.reports(0, image, """
+        self.reports(1, image, """
             component|A|a|0x40|raw|10|none|no hash
             component|A|u|0xc0|raw|0|none|hash unsupported
             component|A|h|0x100|raw|3|none|sha256 valid
@@ -49,12 +51,13 @@ class List(CheckTest):
             remark|A|-|0x0|deleted component
             remark|A|a|0x40|no hash
             remark|A|u|0xc0|hash unsupported
+            bad|A|u|0xc0|digest has an unknown algorithm
             remark|A|h|0x100|sha256 valid
             remark|A|-|-|complete
             remark|A|-|-|components|3
             remark|A|-|-|free bytes|128
             remark|A|-|-|largest content that add takes|36
-            0 bad, 9 remarks, 0 changes
+            not sound: 1 bad, 9 remarks, 0 changes
         """, "-v --list")
         self.reports(1, image, """
             component|A|a|0x40|raw|10|none|no hash
@@ -64,29 +67,31 @@ class List(CheckTest):
             remark|A|-|0x0|deleted component
             bad|A|a|0x40|no hash
             bad|A|u|0xc0|hash unsupported
+            bad|A|u|0xc0|digest has an unknown algorithm
             remark|A|h|0x100|sha256 valid
             remark|A|-|-|complete
             remark|A|-|-|components|3
             remark|A|-|-|free bytes|128
             remark|A|-|-|largest content that add takes|36
-            2 bad, 7 remarks, 0 changes
+            not sound: 3 bad, 7 remarks, 0 changes
         """, "--list --all-hashed")
 
     def test_the_option_before_the_image(self):
         image = region(384, [DELETED_64, A, NULL_64, U, H])
-        self.check("cbfscheck --list image.rom -r A", {"image.rom": image}, output=report("""
+        self.check("cbfscheck --list image.rom -r A", {"image.rom": image}, 1, output=report("""
             component|A|a|0x40|raw|10|none|no hash
             component|A|u|0xc0|raw|0|none|hash unsupported
             component|A|h|0x100|raw|3|none|sha256 valid
             remark|-|-|0x0|flashmap
             remark|A|-|0x0|deleted component
             remark|A|u|0xc0|hash unsupported
+            bad|A|u|0xc0|digest has an unknown algorithm
             remark|A|h|0x100|sha256 valid
             remark|A|-|-|complete
             remark|A|-|-|components|3
             remark|A|-|-|free bytes|128
             remark|A|-|-|largest content that add takes|36
-            0 bad, 8 remarks, 0 changes
+            not sound: 1 bad, 8 remarks, 0 changes
         """))
 
     def test_an_invalid_digest_and_a_type_without_a_name(self):
@@ -100,7 +105,7 @@ class List(CheckTest):
             remark|A|-|-|components|2
             remark|A|-|-|free bytes|0
             remark|A|-|-|no room for a component
-            1 bad, 6 remarks, 0 changes
+            not sound: 1 bad, 6 remarks, 0 changes
         """, "--list")
 
     def test_compressed_components(self):
@@ -115,7 +120,7 @@ class List(CheckTest):
             remark|A|-|-|components|3
             remark|A|-|-|free bytes|0
             remark|A|-|-|no room for a component
-            2 bad, 5 remarks, 0 changes
+            not sound: 2 bad, 5 remarks, 0 changes
         """, "--list")
 
     def test_more_components_than_rows_of_a_kind(self):
@@ -163,7 +168,7 @@ class List(CheckTest):
             remark|A|-|-|free bytes|0
             remark|A|-|-|no room for a component
             bad|-|-|-|more of these|3
-            19 bad, 5 remarks, 0 changes
+            not sound: 19 bad, 5 remarks, 0 changes
         """, "--list")
 
     def test_components_before_damage(self):
@@ -174,7 +179,7 @@ class List(CheckTest):
             remark|A|-|-|components|1
             remark|A|-|-|free bytes|0
             remark|A|-|-|no room for a component
-            1 bad, 4 remarks, 0 changes
+            not sound: 1 bad, 4 remarks, 0 changes
         """, "--list")
 
     def test_no_components(self):
@@ -184,7 +189,7 @@ class List(CheckTest):
             remark|A|-|-|no components
             remark|A|-|-|free bytes|128
             remark|A|-|-|largest content that add takes|96
-            0 bad, 5 remarks, 0 changes
+            sound: 0 bad, 5 remarks, 0 changes
         """, "--list")
 
     def test_areas_in_the_order_of_the_map(self):
@@ -203,7 +208,7 @@ class List(CheckTest):
             remark|A|-|-|components|1
             remark|A|-|-|free bytes|0
             remark|A|-|-|no room for a component
-            0 bad, 9 remarks, 0 changes
+            sound: 0 bad, 9 remarks, 0 changes
         """, "--list")
 
 

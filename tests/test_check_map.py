@@ -36,7 +36,7 @@ class Sampled(CheckTest):
         image = patched(HASHES, (0x1000, b"X"))
         self.reports(1, image, """
             bad|-|-|-|no flashmap
-            1 bad, 0 remarks, 0 changes
+            not sound: 1 bad, 0 remarks, 0 changes
         """)
         self.trips("no FMAP", "image.rom layout", image)
 
@@ -53,7 +53,7 @@ class Sampled(CheckTest):
             remark|COREBOOT|-|-|components|5
             remark|COREBOOT|-|-|free bytes|15744
             remark|COREBOOT|-|-|largest content that add takes|15264
-            0 bad, 10 remarks, 0 changes
+            sound: 0 bad, 10 remarks, 0 changes
         """)
 
     def test_a_longer_image(self):
@@ -69,7 +69,7 @@ class Sampled(CheckTest):
             remark|COREBOOT|-|-|components|5
             remark|COREBOOT|-|-|free bytes|15744
             remark|COREBOOT|-|-|largest content that add takes|15264
-            1 bad, 9 remarks, 0 changes
+            not sound: 1 bad, 9 remarks, 0 changes
         """)
 
     def test_a_shorter_image(self):
@@ -86,7 +86,7 @@ class Sampled(CheckTest):
             remark|COREBOOT|-|-|components|5
             remark|COREBOOT|-|-|free bytes|15744
             remark|COREBOOT|-|-|largest content that add takes|15264
-            2 bad, 9 remarks, 0 changes
+            not sound: 2 bad, 9 remarks, 0 changes
         """)
         self.trips("region outside the image", "image.rom read -r TAIL -f out", image, {"out": b""})
 
@@ -102,7 +102,7 @@ class Sampled(CheckTest):
             remark|COREBOOT|-|-|components|5
             remark|COREBOOT|-|-|free bytes|15744
             remark|COREBOOT|-|-|largest content that add takes|15264
-            0 bad, 10 remarks, 0 changes
+            sound: 0 bad, 10 remarks, 0 changes
         """)
 
     def test_the_name_of_an_earlier_area(self):
@@ -119,7 +119,7 @@ class Sampled(CheckTest):
             remark|COREBOOT|-|-|components|5
             remark|COREBOOT|-|-|free bytes|15744
             remark|COREBOOT|-|-|largest content that add takes|15264
-            1 bad, 9 remarks, 0 changes
+            not sound: 1 bad, 9 remarks, 0 changes
         """)
         self.trips("no such region", "image.rom read -r TAIL -f out", image, {"out": b""})
         self.check("cbfstool image.rom read -r SMMSTORE -f out", {"image.rom": image},
@@ -140,7 +140,7 @@ class Sampled(CheckTest):
             remark|COREBOOT|-|-|components|5
             remark|COREBOOT|-|-|free bytes|15744
             remark|COREBOOT|-|-|largest content that add takes|15264
-            2 bad, 9 remarks, 0 changes
+            not sound: 2 bad, 9 remarks, 0 changes
         """)
         self.check("cbfstool image.rom write -r TAIL -f zeros",
                    {"image.rom": image, "zeros": bytes(4096)},
@@ -159,7 +159,7 @@ class Sampled(CheckTest):
             remark|COREBOOT|-|-|components|5
             remark|COREBOOT|-|-|free bytes|15744
             remark|COREBOOT|-|-|largest content that add takes|15264
-            1 bad, 9 remarks, 0 changes
+            not sound: 1 bad, 9 remarks, 0 changes
         """)
         self.trips("bad FMAP area", "made.rom create -M table", image,
                    {"made.rom": b"\xff" * 0x8000})
@@ -169,7 +169,7 @@ class Sampled(CheckTest):
         image = patched(HASHES, (area(1), b"\0\x11"))
         self.reports(1, image, r"""
             remark|-|-|0x1000|flashmap
-            bad|FMAP|-|0x1100|doesn't hold the flashmap
+            bad|FMAP|-|0x1100|doesn't begin with the flashmap
             remark|COREBOOT|h\x20sha1|0x0|hash unsupported
             remark|COREBOOT|h\x20sha256|0x80|sha256 valid
             remark|COREBOOT|h\x20sha512|0x100|sha512 valid
@@ -178,7 +178,7 @@ class Sampled(CheckTest):
             remark|COREBOOT|-|-|components|5
             remark|COREBOOT|-|-|free bytes|15744
             remark|COREBOOT|-|-|largest content that add takes|15264
-            1 bad, 9 remarks, 0 changes
+            not sound: 1 bad, 9 remarks, 0 changes
         """)
         folder = self.folder({"table": image[0x1000:0x110A]})
         folder.run("cbfstool made.rom create -M table")
@@ -198,7 +198,7 @@ class Sampled(CheckTest):
             remark|COREBOOT|-|-|components|5
             remark|COREBOOT|-|-|free bytes|15744
             remark|COREBOOT|-|-|largest content that add takes|15264
-            0 bad, 9 remarks, 0 changes
+            sound: 0 bad, 9 remarks, 0 changes
         """)
         self.reports(0, image, r"""
             remark|-|-|0x1000|flashmap
@@ -210,7 +210,7 @@ class Sampled(CheckTest):
             remark|COREBOOT|-|-|components|5
             remark|COREBOOT|-|-|free bytes|15744
             remark|COREBOOT|-|-|largest content that add takes|15264
-            0 bad, 9 remarks, 0 changes
+            sound: 0 bad, 9 remarks, 0 changes
         """, "-r COREBOOT")
         self.reports(0, image, r"""
             remark|-|-|0x1000|flashmap
@@ -230,7 +230,7 @@ class Sampled(CheckTest):
             remark|SMMSTORE|-|-|components|5
             remark|SMMSTORE|-|-|free bytes|15744
             remark|SMMSTORE|-|-|largest content that add takes|15268
-            0 bad, 17 remarks, 0 changes
+            sound: 0 bad, 17 remarks, 0 changes
         """, "-r SMMSTORE,COREBOOT")
         self.reports(0, image, r"""
             remark|-|-|0x1000|flashmap
@@ -250,7 +250,7 @@ class Sampled(CheckTest):
             remark|SMMSTORE|-|-|components|5
             remark|SMMSTORE|-|-|free bytes|15744
             remark|SMMSTORE|-|-|largest content that add takes|15268
-            0 bad, 17 remarks, 0 changes
+            sound: 0 bad, 17 remarks, 0 changes
         """, "-r SMMSTORE")
 
     def test_a_region_after_one_that_the_map_has_later(self):
@@ -272,7 +272,7 @@ class Sampled(CheckTest):
             remark|SMMSTORE|-|-|components|5
             remark|SMMSTORE|-|-|free bytes|15744
             remark|SMMSTORE|-|-|largest content that add takes|15264
-            1 bad, 12 remarks, 0 changes
+            not sound: 1 bad, 12 remarks, 0 changes
         """)
         self.trips("damaged entry at 0x0: extent", "image.rom print", image)
 
@@ -288,7 +288,7 @@ class Sampled(CheckTest):
             remark|COREBOOT|-|-|free bytes|15744
             remark|COREBOOT|-|-|largest content that add takes|15264
             bad|ABSENT|-|-|no such area
-            1 bad, 9 remarks, 0 changes
+            not sound: 1 bad, 9 remarks, 0 changes
         """, "-r COREBOOT,ABSENT")
         self.trips("no such region", "image.rom print -r ABSENT", HASHES)
 
@@ -310,14 +310,14 @@ class ManyAreas(CheckTest):
         self.reports(1, self.image(0x30000, 4097), """
             remark|-|-|0x0|flashmap
             bad|-|-|-|too many areas to look for overlaps
-            1 bad, 1 remarks, 0 changes
+            not sound: 1 bad, 1 remarks, 0 changes
         """)
 
     def test_4097_areas_with_an_overlap(self):
         self.reports(1, self.image(0x30008, 4097), """
             remark|-|-|0x0|flashmap
             bad|-|-|-|too many areas to look for overlaps
-            1 bad, 1 remarks, 0 changes
+            not sound: 1 bad, 1 remarks, 0 changes
         """)
 
     def test_4096_areas_with_an_overlap(self):
@@ -325,7 +325,7 @@ class ManyAreas(CheckTest):
             remark|-|-|0x0|flashmap
             bad|A1|-|0x30008|overlaps|A2
             bad|A2|-|0x30010|overlaps|A1
-            2 bad, 1 remarks, 0 changes
+            not sound: 2 bad, 1 remarks, 0 changes
         """)
 
 
@@ -336,14 +336,14 @@ class Small(CheckTest):
         image = board(0x400, [FMAP, ("A", 0x100, 0x80), ("C", 0x100, 0x40), ("D", 0x180, 0x280)])
         self.reports(0, image, """
             remark|-|-|0x0|flashmap
-            0 bad, 1 remarks, 0 changes
+            sound: 0 bad, 1 remarks, 0 changes
         """)
 
     def test_a_map_without_the_last_byte_of_its_head(self):
         image = board(0x400, [FMAP, ("A", 0x100, 0x80), ("C", 0x100, 0x40), ("D", 0x180, 0x280)])
         self.reports(1, image[:55], """
             bad|-|-|-|no flashmap
-            1 bad, 0 remarks, 0 changes
+            not sound: 1 bad, 0 remarks, 0 changes
         """)
 
     def test_two_further_maps(self):
@@ -355,14 +355,14 @@ class Small(CheckTest):
             remark|-|-|0x0|flashmap
             remark|-|-|0x2bc|another flashmap
             bad|-|-|-|the flashmap states another size than the image has
-            1 bad, 2 remarks, 0 changes
+            not sound: 1 bad, 2 remarks, 0 changes
         """)
 
     def test_an_area_that_ends_one_byte_after_the_image(self):
         self.reports(1, board(0x400, [FMAP, ("D", 0x180, 641)]), """
             remark|-|-|0x0|flashmap
             bad|D|-|0x180|ends outside the image
-            1 bad, 1 remarks, 0 changes
+            not sound: 1 bad, 1 remarks, 0 changes
         """)
 
     def test_an_area_without_bytes(self):
@@ -370,7 +370,7 @@ class Small(CheckTest):
         self.reports(0, image, """
             remark|-|-|0x0|flashmap
             remark|E|-|0x12c|has no bytes
-            0 bad, 2 remarks, 0 changes
+            sound: 0 bad, 2 remarks, 0 changes
         """)
 
     def test_the_name_of_an_earlier_area(self):
@@ -378,7 +378,7 @@ class Small(CheckTest):
         self.reports(1, image, """
             remark|-|-|0x0|flashmap
             bad|A|-|0x180|has the name of an earlier area|A
-            1 bad, 1 remarks, 0 changes
+            not sound: 1 bad, 1 remarks, 0 changes
         """)
 
     def test_three_areas_of_a_name(self):
@@ -387,7 +387,7 @@ class Small(CheckTest):
             remark|-|-|0x0|flashmap
             bad|A|-|0x180|has the name of an earlier area|A
             bad|A|-|0x180|has the name of an earlier area|A
-            2 bad, 1 remarks, 0 changes
+            not sound: 2 bad, 1 remarks, 0 changes
         """)
 
     def test_an_overlap_at_the_start(self):
@@ -397,7 +397,7 @@ class Small(CheckTest):
             remark|-|-|0x0|flashmap
             bad|B|-|0x140|overlaps|A
             bad|A|-|0x100|overlaps|B
-            2 bad, 1 remarks, 0 changes
+            not sound: 2 bad, 1 remarks, 0 changes
         """)
 
     def test_an_overlap_at_the_end(self):
@@ -406,35 +406,35 @@ class Small(CheckTest):
             remark|-|-|0x0|flashmap
             bad|D|-|0x180|overlaps|B
             bad|B|-|0x140|overlaps|D
-            2 bad, 1 remarks, 0 changes
+            not sound: 2 bad, 1 remarks, 0 changes
         """)
 
     def test_no_area_FMAP(self):
         self.reports(1, board(0x400, [("A", 0x100, 0x80)]), """
             remark|-|-|0x0|flashmap
             bad|-|-|-|no area FMAP
-            1 bad, 1 remarks, 0 changes
+            not sound: 1 bad, 1 remarks, 0 changes
         """)
 
     def test_an_area_FMAP_that_begins_after_the_map(self):
         self.reports(1, board(0x400, [("A", 0x100, 0x80), ("FMAP", 1, 255)]), """
             remark|-|-|0x0|flashmap
-            bad|FMAP|-|0x1|doesn't hold the flashmap
-            1 bad, 1 remarks, 0 changes
+            bad|FMAP|-|0x1|doesn't begin with the flashmap
+            not sound: 1 bad, 1 remarks, 0 changes
         """)
 
     def test_an_area_FMAP_that_lacks_the_last_byte_of_the_map(self):
         """The map has 140 bytes."""
         self.reports(1, board(0x400, [("A", 0x100, 0x80), ("FMAP", 0, 139)]), """
             remark|-|-|0x0|flashmap
-            bad|FMAP|-|0x0|doesn't hold the flashmap
-            1 bad, 1 remarks, 0 changes
+            bad|FMAP|-|0x0|doesn't begin with the flashmap
+            not sound: 1 bad, 1 remarks, 0 changes
         """)
 
     def test_an_area_FMAP_of_the_map_alone(self):
         self.reports(0, board(0x400, [("A", 0x100, 0x80), ("FMAP", 0, 140)]), """
             remark|-|-|0x0|flashmap
-            0 bad, 1 remarks, 0 changes
+            sound: 0 bad, 1 remarks, 0 changes
         """)
 
     def test_names_that_are_not_utf_8(self):
@@ -447,7 +447,7 @@ class Small(CheckTest):
             remark|B\xc3|-|0x140|name isn't UTF-8
             bad|\xff1|-|0x100|overlaps|B\xc3
             bad|B\xc3|-|0x140|overlaps|\xff1
-            2 bad, 3 remarks, 0 changes
+            not sound: 2 bad, 3 remarks, 0 changes
         """)
 
 
@@ -462,7 +462,7 @@ class CheckedAreas(CheckTest):
             remark|A|-|-|no components
             remark|A|-|-|free bytes|256
             remark|A|-|-|largest content that add takes|224
-            0 bad, 5 remarks, 0 changes
+            sound: 0 bad, 5 remarks, 0 changes
         """)
 
     def test_the_order_of_the_map(self):
@@ -478,7 +478,7 @@ class CheckedAreas(CheckTest):
             remark|A|-|-|no components
             remark|A|-|-|free bytes|256
             remark|A|-|-|largest content that add takes|224
-            1 bad, 8 remarks, 0 changes
+            not sound: 1 bad, 8 remarks, 0 changes
         """)
 
     def test_an_area_before_a_larger_one_at_the_same_place(self):
@@ -491,7 +491,7 @@ class CheckedAreas(CheckTest):
             remark|A|-|-|no components
             remark|A|-|-|free bytes|256
             remark|A|-|-|largest content that add takes|224
-            0 bad, 5 remarks, 0 changes
+            sound: 0 bad, 5 remarks, 0 changes
         """)
         self.reports(0, image, """
             remark|-|-|0x0|flashmap
@@ -499,7 +499,7 @@ class CheckedAreas(CheckTest):
             remark|A|-|-|no components
             remark|A|-|-|free bytes|256
             remark|A|-|-|largest content that add takes|224
-            0 bad, 5 remarks, 0 changes
+            sound: 0 bad, 5 remarks, 0 changes
         """, "-r A")
         self.reports(0, image, """
             remark|-|-|0x0|flashmap
@@ -511,7 +511,7 @@ class CheckedAreas(CheckTest):
             remark|OUTER|-|-|no components
             remark|OUTER|-|-|free bytes|256
             remark|OUTER|-|-|largest content that add takes|228
-            0 bad, 9 remarks, 0 changes
+            sound: 0 bad, 9 remarks, 0 changes
         """, "-r OUTER")
         self.reports(0, image, """
             remark|-|-|0x0|flashmap
@@ -523,7 +523,7 @@ class CheckedAreas(CheckTest):
             remark|OUTER|-|-|no components
             remark|OUTER|-|-|free bytes|256
             remark|OUTER|-|-|largest content that add takes|228
-            0 bad, 9 remarks, 0 changes
+            sound: 0 bad, 9 remarks, 0 changes
         """, "-r OUTER,A")
 
     def test_an_area_after_a_larger_one_at_the_same_place(self):
@@ -535,7 +535,7 @@ class CheckedAreas(CheckTest):
             remark|A|-|-|no components
             remark|A|-|-|free bytes|256
             remark|A|-|-|largest content that add takes|224
-            0 bad, 5 remarks, 0 changes
+            sound: 0 bad, 5 remarks, 0 changes
         """)
         self.reports(0, image, """
             remark|-|-|0x0|flashmap
@@ -543,7 +543,7 @@ class CheckedAreas(CheckTest):
             remark|A|-|-|no components
             remark|A|-|-|free bytes|256
             remark|A|-|-|largest content that add takes|224
-            0 bad, 5 remarks, 0 changes
+            sound: 0 bad, 5 remarks, 0 changes
         """, "-r A")
         self.reports(0, image, """
             remark|-|-|0x0|flashmap
@@ -555,7 +555,7 @@ class CheckedAreas(CheckTest):
             remark|A|-|-|no components
             remark|A|-|-|free bytes|256
             remark|A|-|-|largest content that add takes|224
-            0 bad, 9 remarks, 0 changes
+            sound: 0 bad, 9 remarks, 0 changes
         """, "-r OUTER")
         self.reports(0, image, """
             remark|-|-|0x0|flashmap
@@ -567,7 +567,7 @@ class CheckedAreas(CheckTest):
             remark|A|-|-|no components
             remark|A|-|-|free bytes|256
             remark|A|-|-|largest content that add takes|224
-            0 bad, 9 remarks, 0 changes
+            sound: 0 bad, 9 remarks, 0 changes
         """, "-r OUTER,A")
 
     def test_two_areas_of_the_same_bytes(self):
@@ -582,7 +582,7 @@ class CheckedAreas(CheckTest):
             remark|A|-|-|no components
             remark|A|-|-|free bytes|256
             remark|A|-|-|largest content that add takes|224
-            0 bad, 9 remarks, 0 changes
+            sound: 0 bad, 9 remarks, 0 changes
         """)
 
     def test_a_larger_area_whose_parts_begin_elsewhere(self):
@@ -603,7 +603,7 @@ class CheckedAreas(CheckTest):
             remark|B|-|-|no components
             remark|B|-|-|free bytes|0
             remark|B|-|-|no room for a component
-            1 bad, 12 remarks, 0 changes
+            not sound: 1 bad, 12 remarks, 0 changes
         """)
 
     def test_a_smaller_area_of_23_bytes(self):
@@ -615,7 +615,7 @@ class CheckedAreas(CheckTest):
             remark|A|-|-|no components
             remark|A|-|-|free bytes|256
             remark|A|-|-|largest content that add takes|224
-            0 bad, 5 remarks, 0 changes
+            sound: 0 bad, 5 remarks, 0 changes
         """)
 
     def test_a_smaller_area_of_24_bytes(self):
@@ -623,7 +623,7 @@ class CheckedAreas(CheckTest):
         self.reports(1, image, """
             remark|-|-|0x0|flashmap
             bad|S|-|-|size is 0 or no multiple of 64
-            1 bad, 1 remarks, 0 changes
+            not sound: 1 bad, 1 remarks, 0 changes
         """)
 
     def test_an_area_outside_the_image(self):
@@ -632,12 +632,12 @@ class CheckedAreas(CheckTest):
         self.reports(1, image, """
             remark|-|-|0x0|flashmap
             bad|A|-|0x300|ends outside the image
-            1 bad, 1 remarks, 0 changes
+            not sound: 1 bad, 1 remarks, 0 changes
         """)
         self.reports(1, image, """
             remark|-|-|0x0|flashmap
             bad|A|-|0x300|ends outside the image
-            1 bad, 1 remarks, 0 changes
+            not sound: 1 bad, 1 remarks, 0 changes
         """, "-r A")
 
     def test_COREBOOT_and_the_area_of_a_need(self):
@@ -645,21 +645,21 @@ class CheckedAreas(CheckTest):
         self.reports(1, image, """
             remark|-|-|0x0|flashmap
             bad|COREBOOT|-|-|no CBFS
-            1 bad, 1 remarks, 0 changes
+            not sound: 1 bad, 1 remarks, 0 changes
         """)
         self.reports(1, image, """
             remark|-|-|0x0|flashmap
             bad|COREBOOT|-|-|no CBFS
             bad|A|-|-|no CBFS
             bad|A|a|-|needed component isn't there
-            3 bad, 1 remarks, 0 changes
+            not sound: 3 bad, 1 remarks, 0 changes
         """, "--need A:a")
 
     def test_names_that_resemble_COREBOOT(self):
         image = board(0x400, [FMAP, ("COREBOO", 0x100, 0x100), ("COREBOOTS", 0x200, 0x100)])
         self.reports(0, image, """
             remark|-|-|0x0|flashmap
-            0 bad, 1 remarks, 0 changes
+            sound: 0 bad, 1 remarks, 0 changes
         """)
 
     def test_requested_areas(self):
@@ -672,7 +672,7 @@ class CheckedAreas(CheckTest):
             remark|A|-|-|largest content that add takes|224
             bad|B|-|-|no CBFS
             bad|X|-|-|no such area
-            2 bad, 5 remarks, 0 changes
+            not sound: 2 bad, 5 remarks, 0 changes
         """, "-r B,X")
         self.reports(1, image, """
             remark|-|-|0x0|flashmap
@@ -683,7 +683,7 @@ class CheckedAreas(CheckTest):
             bad|X|-|-|no such area
             bad|Y|-|-|no such area
             bad|X|-|-|no such area
-            3 bad, 5 remarks, 0 changes
+            not sound: 3 bad, 5 remarks, 0 changes
         """, "-r X,Y,A,X")
 
 
@@ -708,7 +708,7 @@ class CheckedBytes(CheckTest):
             remark|A|-|-|free bytes|64
             remark|A|-|-|largest content that add takes|32
             remark|B|-|0x3c0|isn't checked: checked areas would exceed twice the image
-            2 bad, 7 remarks, 0 changes
+            not sound: 2 bad, 7 remarks, 0 changes
         """, "-r P,Q")
         self.reports(1, image, """
             remark|-|-|0x0|flashmap
@@ -721,7 +721,7 @@ class CheckedBytes(CheckTest):
             remark|A|-|-|largest content that add takes|32
             bad|B|-|0x3c0|isn't checked: checked areas would exceed twice the image
             bad|E|-|-|size is 0 or no multiple of 64
-            4 bad, 6 remarks, 0 changes
+            not sound: 4 bad, 6 remarks, 0 changes
         """, "-r P,Q,B,E")
         self.reports(1, image, """
             remark|-|-|0x0|flashmap
@@ -734,7 +734,7 @@ class CheckedBytes(CheckTest):
             remark|A|-|-|largest content that add takes|32
             bad|B|-|0x3c0|isn't checked: checked areas would exceed twice the image
             bad|B|x|-|needed component isn't there
-            4 bad, 6 remarks, 0 changes
+            not sound: 4 bad, 6 remarks, 0 changes
         """, "-r P,Q --need B:x")
 
     def test_an_area_of_one_byte_too_many(self):
@@ -748,7 +748,7 @@ class CheckedBytes(CheckTest):
             remark|A|-|-|free bytes|64
             remark|A|-|-|largest content that add takes|32
             bad|O|-|0x3ff|isn't checked: checked areas would exceed twice the image
-            3 bad, 5 remarks, 0 changes
+            not sound: 3 bad, 5 remarks, 0 changes
         """, "-r P,Q,O")
 
     def test_an_area_of_the_last_byte(self):
@@ -762,7 +762,7 @@ class CheckedBytes(CheckTest):
             remark|A|-|-|free bytes|64
             remark|A|-|-|largest content that add takes|32
             bad|O|-|-|size is 0 or no multiple of 64
-            3 bad, 5 remarks, 0 changes
+            not sound: 3 bad, 5 remarks, 0 changes
         """, "-r P,Q,O")
 
     def test_an_area_that_is_left_out_takes_nothing(self):
@@ -782,7 +782,7 @@ class CheckedBytes(CheckTest):
             remark|B|-|-|free bytes|64
             remark|B|-|-|largest content that add takes|32
             remark|C|-|0x3c0|isn't checked: checked areas would exceed twice the image
-            3 bad, 10 remarks, 0 changes
+            not sound: 3 bad, 10 remarks, 0 changes
         """, "-r P,P8,Q")
 
     def test_the_order_of_the_map(self):
@@ -797,7 +797,7 @@ class CheckedBytes(CheckTest):
             remark|A|-|-|largest content that add takes|32
             bad|P8|-|-|no CBFS
             remark|B|-|0x3c0|isn't checked: checked areas would exceed twice the image
-            2 bad, 6 remarks, 0 changes
+            not sound: 2 bad, 6 remarks, 0 changes
         """, "-r P,P8")
 
 

@@ -3,7 +3,8 @@
 import unittest
 
 from tests.findings import (
-    A, A_216, B, DELETED_64, FMAP, NULL_64, SHORT, CheckTest, board, patched, region,
+    A, A_216, B, DELETED_64, FMAP, NULL_64, SHORT, CheckTest, board, conclusion, patched,
+    region,
 )
 
 MISSING, ELSEWHERE = "needed component isn't there", "needed component is elsewhere"
@@ -17,7 +18,7 @@ class Needs(CheckTest):
         for need, *bad in rows:
             with self.subTest(need):
                 remarks, other = text.count("remark|"), text.count("bad|")
-                last = f"{other + len(bad)} bad, {remarks} remarks, 0 changes"
+                last = conclusion(other + len(bad), remarks, 0)
                 expected = "\n".join([text.strip(), *bad, last])
                 self.reports(int(other + len(bad) > 0), image, expected, need)
 
@@ -108,7 +109,7 @@ class Needs(CheckTest):
             remark|A|-|-|free bytes|0
             remark|A|-|-|no room for a component
             bad|A|a|-|needed component isn't there
-            3 bad, 5 remarks, 0 changes
+            not sound: 3 bad, 5 remarks, 0 changes
         """, "--need A:a")
 
 

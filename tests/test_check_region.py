@@ -31,7 +31,7 @@ class Sampled(CheckTest):
         self.reports(1, image, """
             remark|-|-|0x1000|flashmap
             bad|COREBOOT|-|-|size is 0 or no multiple of 64
-            1 bad, 1 remarks, 0 changes
+            not sound: 1 bad, 1 remarks, 0 changes
         """)
         self.trips("bad region size", "print", image)
 
@@ -41,12 +41,12 @@ class Sampled(CheckTest):
         self.reports(1, image, """
             remark|-|-|0x1000|flashmap
             bad|COREBOOT|-|-|no CBFS
-            1 bad, 1 remarks, 0 changes
+            not sound: 1 bad, 1 remarks, 0 changes
         """)
         self.reports(1, image, """
             remark|-|-|0x1000|flashmap
             bad|COREBOOT|-|-|no CBFS
-            1 bad, 1 remarks, 0 changes
+            not sound: 1 bad, 1 remarks, 0 changes
         """, "-r COREBOOT")
         self.trips("not a CBFS region", "print", image)
 
@@ -54,12 +54,12 @@ class Sampled(CheckTest):
         image = patched(HASHES, (0x1400, b"X"), (0x1094, b"X"))
         self.reports(0, image, """
             remark|-|-|0x1000|flashmap
-            0 bad, 1 remarks, 0 changes
+            sound: 0 bad, 1 remarks, 0 changes
         """)
         self.reports(1, image, """
             remark|-|-|0x1000|flashmap
             bad|COREBOOT|-|-|no such area
-            1 bad, 1 remarks, 0 changes
+            not sound: 1 bad, 1 remarks, 0 changes
         """, "-r COREBOOT")
 
     def test_the_name_of_an_earlier_component(self):
@@ -71,6 +71,7 @@ class Sampled(CheckTest):
             remark|COREBOOT|t/mma|0x300|type without a name|0x62
             remark|COREBOOT|t/efi|0x340|type without a name|0x63
             remark|COREBOOT|t/struct|0x380|type without a name|0x70
+            bad|COREBOOT|t/stage|0x3c0|stage has no stage attribute of 24 bytes
             remark|COREBOOT|unknown|0x480|type without a name|0x1234
             remark|COREBOOT|-|-|complete
             remark|COREBOOT|-|-|components|20
@@ -80,7 +81,7 @@ class Sampled(CheckTest):
             remark|SI_ME|-|-|blank: no partition table of the ME
             remark|GBB|-|-|blank: no GBB
             remark|VBLOCK_A|-|-|blank: no signatures
-            1 bad, 13 remarks, 0 changes
+            not sound: 2 bad, 13 remarks, 0 changes
         """)
         self.check("cbfstool image.rom extract -n t/mrc -f out", {"image.rom": image},
                    left={"out": b"abc"})
@@ -98,7 +99,7 @@ class Sampled(CheckTest):
             remark|COREBOOT|-|-|components|5
             remark|COREBOOT|-|-|free bytes|15744
             remark|COREBOOT|-|-|largest content that add takes|15264
-            1 bad, 8 remarks, 0 changes
+            not sound: 1 bad, 8 remarks, 0 changes
         """)
         self.reports(1, sha512, r"""
             remark|-|-|0x1000|flashmap
@@ -110,7 +111,7 @@ class Sampled(CheckTest):
             remark|COREBOOT|-|-|components|5
             remark|COREBOOT|-|-|free bytes|15744
             remark|COREBOOT|-|-|largest content that add takes|15264
-            1 bad, 8 remarks, 0 changes
+            not sound: 1 bad, 8 remarks, 0 changes
         """)
         for image in sha256, sha512:
             shown = self.folder({"image.rom": image}).run("cbfstool image.rom print -v").output
@@ -128,7 +129,7 @@ class Sampled(CheckTest):
             remark|COREBOOT|-|-|components|5
             remark|COREBOOT|-|-|free bytes|15744
             remark|COREBOOT|-|-|largest content that add takes|15264
-            0 bad, 10 remarks, 0 changes
+            sound: 0 bad, 10 remarks, 0 changes
         """)
 
     def damaged(self, kind, at, data, text):
@@ -145,7 +146,7 @@ class Sampled(CheckTest):
             remark|COREBOOT|-|-|no components
             remark|COREBOOT|-|-|free bytes|0
             remark|COREBOOT|-|-|no room for a component
-            1 bad, 4 remarks, 0 changes
+            not sound: 1 bad, 4 remarks, 0 changes
         """)
 
     def test_damaged_attributes(self):
@@ -155,7 +156,7 @@ class Sampled(CheckTest):
             remark|COREBOOT|-|-|no components
             remark|COREBOOT|-|-|free bytes|0
             remark|COREBOOT|-|-|no room for a component
-            1 bad, 4 remarks, 0 changes
+            not sound: 1 bad, 4 remarks, 0 changes
         """)
 
     def test_a_damaged_extent(self):
@@ -165,7 +166,7 @@ class Sampled(CheckTest):
             remark|COREBOOT|-|-|no components
             remark|COREBOOT|-|-|free bytes|0
             remark|COREBOOT|-|-|no room for a component
-            1 bad, 4 remarks, 0 changes
+            not sound: 1 bad, 4 remarks, 0 changes
         """)
 
     def test_a_name_without_a_nul(self):
@@ -176,7 +177,7 @@ class Sampled(CheckTest):
             remark|COREBOOT|-|-|no components
             remark|COREBOOT|-|-|free bytes|0
             remark|COREBOOT|-|-|no room for a component
-            1 bad, 4 remarks, 0 changes
+            not sound: 1 bad, 4 remarks, 0 changes
         """)
 
     def test_a_damaged_attribute(self):
@@ -186,7 +187,7 @@ class Sampled(CheckTest):
             remark|COREBOOT|-|-|no components
             remark|COREBOOT|-|-|free bytes|0
             remark|COREBOOT|-|-|no room for a component
-            1 bad, 4 remarks, 0 changes
+            not sound: 1 bad, 4 remarks, 0 changes
         """)
 
     def test_damage_after_components(self):
@@ -200,7 +201,7 @@ class Sampled(CheckTest):
             remark|COREBOOT|-|-|components|3
             remark|COREBOOT|-|-|free bytes|0
             remark|COREBOOT|-|-|no room for a component
-            1 bad, 7 remarks, 0 changes
+            not sound: 1 bad, 7 remarks, 0 changes
         """)
         self.check("cbfstool image.rom print", {"image.rom": image}, 1, (
             "h\\x20sha1\t0x0\traw\t10\tnone\n"
@@ -217,21 +218,21 @@ class Components(CheckTest):
             remark|-|-|0x0|flashmap
             remark|A|-|0x100|has no bytes
             bad|A|-|-|size is 0 or no multiple of 64
-            1 bad, 2 remarks, 0 changes
+            not sound: 1 bad, 2 remarks, 0 changes
         """, "-r A")
 
     def test_a_size_that_is_no_multiple_of_64(self):
         self.reports(1, region(500, [A]), """
             remark|-|-|0x0|flashmap
             bad|A|-|-|size is 0 or no multiple of 64
-            1 bad, 1 remarks, 0 changes
+            not sound: 1 bad, 1 remarks, 0 changes
         """)
 
     def test_a_region_without_an_entry_at_its_start(self):
         self.reports(1, region(512, [], (0x40, A)), """
             remark|-|-|0x0|flashmap
             bad|A|-|-|no CBFS
-            1 bad, 1 remarks, 0 changes
+            not sound: 1 bad, 1 remarks, 0 changes
         """, "-r A")
 
     def test_a_component_without_a_digest(self):
@@ -244,7 +245,7 @@ class Components(CheckTest):
             remark|A|-|-|components|1
             remark|A|-|-|free bytes|0
             remark|A|-|-|no room for a component
-            0 bad, 5 remarks, 0 changes
+            sound: 0 bad, 5 remarks, 0 changes
         """)
         self.reports(0, image, """
             remark|-|-|0x0|flashmap
@@ -253,7 +254,7 @@ class Components(CheckTest):
             remark|A|-|-|components|1
             remark|A|-|-|free bytes|0
             remark|A|-|-|no room for a component
-            0 bad, 6 remarks, 0 changes
+            sound: 0 bad, 6 remarks, 0 changes
         """, "-v")
 
     def test_rows_of_two_names(self):
@@ -271,7 +272,7 @@ class Components(CheckTest):
             remark|A|-|-|components|4
             remark|A|-|-|free bytes|0
             remark|A|-|-|no room for a component
-            2 bad, 11 remarks, 0 changes
+            not sound: 2 bad, 11 remarks, 0 changes
         """, "-v")
 
     def test_a_valid_digest(self):
@@ -282,7 +283,7 @@ class Components(CheckTest):
             remark|A|-|-|components|1
             remark|A|-|-|free bytes|0
             remark|A|-|-|no room for a component
-            0 bad, 6 remarks, 0 changes
+            sound: 0 bad, 6 remarks, 0 changes
         """)
 
     def test_an_invalid_digest(self):
@@ -293,32 +294,34 @@ class Components(CheckTest):
             remark|A|-|-|components|1
             remark|A|-|-|free bytes|0
             remark|A|-|-|no room for a component
-            1 bad, 5 remarks, 0 changes
+            not sound: 1 bad, 5 remarks, 0 changes
         """)
 
     def test_a_digest_of_an_unknown_algorithm(self):
         image = region(192, [A, B_77, U])
-        self.reports(0, image, """
+        self.reports(1, image, """
             remark|-|-|0x0|flashmap
             remark|A|b|0x40|type without a name|0x77
             remark|A|u|0x80|hash unsupported
+            bad|A|u|0x80|digest has an unknown algorithm
             remark|A|-|-|complete
             remark|A|-|-|components|3
             remark|A|-|-|free bytes|0
             remark|A|-|-|no room for a component
-            0 bad, 7 remarks, 0 changes
+            not sound: 1 bad, 7 remarks, 0 changes
         """)
-        self.reports(0, image, """
+        self.reports(1, image, """
             remark|-|-|0x0|flashmap
             remark|A|a|0x0|no hash
             remark|A|b|0x40|type without a name|0x77
             remark|A|b|0x40|no hash
             remark|A|u|0x80|hash unsupported
+            bad|A|u|0x80|digest has an unknown algorithm
             remark|A|-|-|complete
             remark|A|-|-|components|3
             remark|A|-|-|free bytes|0
             remark|A|-|-|no room for a component
-            0 bad, 9 remarks, 0 changes
+            not sound: 1 bad, 9 remarks, 0 changes
         """, "-v")
 
     def test_deleted_components(self):
@@ -335,7 +338,7 @@ class Components(CheckTest):
             remark|A|-|-|components|2
             remark|A|-|-|free bytes|192
             remark|A|-|-|largest content that add takes|100
-            1 bad, 9 remarks, 0 changes
+            not sound: 1 bad, 9 remarks, 0 changes
         """, "-v")
 
     def test_damage_after_free_space(self):
@@ -345,7 +348,7 @@ class Components(CheckTest):
             remark|A|-|-|no components
             remark|A|-|-|free bytes|64
             remark|A|-|-|largest content that add takes|36
-            1 bad, 4 remarks, 0 changes
+            not sound: 1 bad, 4 remarks, 0 changes
         """, "-v")
 
     def test_names_that_are_not_utf_8(self):
@@ -365,7 +368,7 @@ class Components(CheckTest):
             remark|A|-|-|components|3
             remark|A|-|-|free bytes|0
             remark|A|-|-|no room for a component
-            1 bad, 12 remarks, 0 changes
+            not sound: 1 bad, 12 remarks, 0 changes
         """, "-v")
         self.reports(1, image, r"""
             remark|-|-|0x0|flashmap
@@ -378,7 +381,7 @@ class Components(CheckTest):
             remark|A|-|-|components|3
             remark|A|-|-|free bytes|0
             remark|A|-|-|no room for a component
-            1 bad, 9 remarks, 0 changes
+            not sound: 1 bad, 9 remarks, 0 changes
         """)
         self.reports(1, image, r"""
             component|A|\xff|0x0|0x77|10|none|no hash
@@ -397,7 +400,7 @@ class Components(CheckTest):
             remark|A|-|-|components|3
             remark|A|-|-|free bytes|0
             remark|A|-|-|no room for a component
-            1 bad, 12 remarks, 0 changes
+            not sound: 1 bad, 12 remarks, 0 changes
         """, "-v --list")
 
 
@@ -412,12 +415,13 @@ class AllHashed(CheckTest):
             remark|A|b|0x40|type without a name|0x77
             bad|A|b|0x40|no hash
             bad|A|u|0x80|hash unsupported
+            bad|A|u|0x80|digest has an unknown algorithm
             remark|A|h|0xc0|sha256 valid
             remark|A|-|-|complete
             remark|A|-|-|components|4
             remark|A|-|-|free bytes|0
             remark|A|-|-|no room for a component
-            3 bad, 7 remarks, 0 changes
+            not sound: 4 bad, 7 remarks, 0 changes
         """, "--all-hashed")
         self.reports(1, image, """
             remark|-|-|0x0|flashmap
@@ -425,12 +429,13 @@ class AllHashed(CheckTest):
             remark|A|b|0x40|type without a name|0x77
             bad|A|b|0x40|no hash
             bad|A|u|0x80|hash unsupported
+            bad|A|u|0x80|digest has an unknown algorithm
             remark|A|h|0xc0|sha256 valid
             remark|A|-|-|complete
             remark|A|-|-|components|4
             remark|A|-|-|free bytes|0
             remark|A|-|-|no room for a component
-            3 bad, 7 remarks, 0 changes
+            not sound: 4 bad, 7 remarks, 0 changes
         """, "--all-hashed -v")
 
     def test_a_component_with_a_valid_digest(self):
@@ -441,7 +446,7 @@ class AllHashed(CheckTest):
             remark|A|-|-|components|1
             remark|A|-|-|free bytes|0
             remark|A|-|-|no room for a component
-            0 bad, 6 remarks, 0 changes
+            sound: 0 bad, 6 remarks, 0 changes
         """, "--all-hashed")
 
 
@@ -455,7 +460,7 @@ class Tails(CheckTest):
             remark|A|-|-|components|1
             remark|A|-|-|free bytes|0
             remark|A|-|-|no room for a component
-            0 bad, 5 remarks, 0 changes
+            sound: 0 bad, 5 remarks, 0 changes
         """)
         self.reports(0, region(192, [A]), """
             remark|-|-|0x0|flashmap
@@ -464,7 +469,7 @@ class Tails(CheckTest):
             remark|A|-|-|components|1
             remark|A|-|-|free bytes|0
             remark|A|-|-|no room for a component
-            0 bad, 6 remarks, 0 changes
+            sound: 0 bad, 6 remarks, 0 changes
         """, "-v")
 
     def test_bytes_0_and_any_last_four_bytes(self):
@@ -475,7 +480,7 @@ class Tails(CheckTest):
             remark|A|-|-|components|1
             remark|A|-|-|free bytes|0
             remark|A|-|-|no room for a component
-            0 bad, 5 remarks, 0 changes
+            sound: 0 bad, 5 remarks, 0 changes
         """)
 
     def test_the_last_byte_before_the_last_four(self):
@@ -486,7 +491,7 @@ class Tails(CheckTest):
             remark|A|-|-|components|1
             remark|A|-|-|free bytes|0
             remark|A|-|-|no room for a component
-            1 bad, 5 remarks, 0 changes
+            not sound: 1 bad, 5 remarks, 0 changes
         """)
 
     def test_the_first_other_byte(self):
@@ -497,7 +502,7 @@ class Tails(CheckTest):
             remark|A|-|-|components|1
             remark|A|-|-|free bytes|0
             remark|A|-|-|no room for a component
-            1 bad, 5 remarks, 0 changes
+            not sound: 1 bad, 5 remarks, 0 changes
         """)
 
     def test_a_magic_at_a_multiple_of_64(self):
@@ -509,7 +514,7 @@ class Tails(CheckTest):
             remark|A|-|-|components|1
             remark|A|-|-|free bytes|0
             remark|A|-|-|no room for a component
-            2 bad, 5 remarks, 0 changes
+            not sound: 2 bad, 5 remarks, 0 changes
         """)
 
     def test_a_magic_at_other_offsets(self):
@@ -520,7 +525,7 @@ class Tails(CheckTest):
             remark|A|-|-|components|1
             remark|A|-|-|free bytes|0
             remark|A|-|-|no room for a component
-            1 bad, 5 remarks, 0 changes
+            not sound: 1 bad, 5 remarks, 0 changes
         """)
         self.reports(1, region(256, [A], (0x7F, b"LARCHIVE")), """
             remark|-|-|0x0|flashmap
@@ -529,7 +534,7 @@ class Tails(CheckTest):
             remark|A|-|-|components|1
             remark|A|-|-|free bytes|0
             remark|A|-|-|no room for a component
-            1 bad, 5 remarks, 0 changes
+            not sound: 1 bad, 5 remarks, 0 changes
         """)
         self.reports(1, region(256, [A], (0x81, b"LARCHIVE")), """
             remark|-|-|0x0|flashmap
@@ -538,7 +543,7 @@ class Tails(CheckTest):
             remark|A|-|-|components|1
             remark|A|-|-|free bytes|0
             remark|A|-|-|no room for a component
-            1 bad, 5 remarks, 0 changes
+            not sound: 1 bad, 5 remarks, 0 changes
         """)
         self.reports(1, region(256, [A], (0x88, b"LARCHIVE")), """
             remark|-|-|0x0|flashmap
@@ -547,7 +552,7 @@ class Tails(CheckTest):
             remark|A|-|-|components|1
             remark|A|-|-|free bytes|0
             remark|A|-|-|no room for a component
-            1 bad, 5 remarks, 0 changes
+            not sound: 1 bad, 5 remarks, 0 changes
         """)
 
     def test_a_part_of_a_magic(self):
@@ -558,7 +563,7 @@ class Tails(CheckTest):
             remark|A|-|-|components|1
             remark|A|-|-|free bytes|0
             remark|A|-|-|no room for a component
-            1 bad, 5 remarks, 0 changes
+            not sound: 1 bad, 5 remarks, 0 changes
         """)
 
     def test_two_entries(self):
@@ -572,7 +577,7 @@ class Tails(CheckTest):
             remark|A|-|-|components|1
             remark|A|-|-|free bytes|0
             remark|A|-|-|no room for a component
-            3 bad, 5 remarks, 0 changes
+            not sound: 3 bad, 5 remarks, 0 changes
         """)
 
     def test_a_tail_after_free_space(self):
@@ -582,7 +587,7 @@ class Tails(CheckTest):
             remark|A|-|-|no components
             remark|A|-|-|free bytes|64
             remark|A|-|-|largest content that add takes|36
-            0 bad, 5 remarks, 0 changes
+            sound: 0 bad, 5 remarks, 0 changes
         """)
 
 
@@ -610,7 +615,7 @@ class LargestContent(CheckTest):
             remark|A|-|-|components|1
             remark|A|-|-|free bytes|128
             remark|A|-|-|largest content that add takes|96
-            0 bad, 5 remarks, 0 changes
+            sound: 0 bad, 5 remarks, 0 changes
         """, 0x40)
 
     def test_a_run_between_components(self):
@@ -620,7 +625,7 @@ class LargestContent(CheckTest):
             remark|A|-|-|components|2
             remark|A|-|-|free bytes|128
             remark|A|-|-|largest content that add takes|100
-            0 bad, 5 remarks, 0 changes
+            sound: 0 bad, 5 remarks, 0 changes
         """, 0x40)
 
     def test_a_run_of_two_entries(self):
@@ -630,7 +635,7 @@ class LargestContent(CheckTest):
             remark|A|-|-|components|2
             remark|A|-|-|free bytes|128
             remark|A|-|-|largest content that add takes|100
-            0 bad, 5 remarks, 0 changes
+            sound: 0 bad, 5 remarks, 0 changes
         """, 0x40)
 
     def test_a_run_before_a_tail(self):
@@ -640,7 +645,7 @@ class LargestContent(CheckTest):
             remark|A|-|-|no components
             remark|A|-|-|free bytes|128
             remark|A|-|-|largest content that add takes|100
-            0 bad, 5 remarks, 0 changes
+            sound: 0 bad, 5 remarks, 0 changes
         """, 0)
 
     def test_two_runs_of_one_size(self):
@@ -650,7 +655,7 @@ class LargestContent(CheckTest):
             remark|A|-|-|components|2
             remark|A|-|-|free bytes|128
             remark|A|-|-|largest content that add takes|36
-            0 bad, 5 remarks, 0 changes
+            sound: 0 bad, 5 remarks, 0 changes
         """, 0x40)
 
     def test_a_larger_first_run(self):
@@ -660,7 +665,7 @@ class LargestContent(CheckTest):
             remark|A|-|-|components|2
             remark|A|-|-|free bytes|192
             remark|A|-|-|largest content that add takes|100
-            0 bad, 5 remarks, 0 changes
+            sound: 0 bad, 5 remarks, 0 changes
         """, 0x40)
 
     def test_a_larger_last_run(self):
@@ -670,7 +675,7 @@ class LargestContent(CheckTest):
             remark|A|-|-|components|2
             remark|A|-|-|free bytes|192
             remark|A|-|-|largest content that add takes|96
-            0 bad, 5 remarks, 0 changes
+            sound: 0 bad, 5 remarks, 0 changes
         """, 0xC0)
 
     def test_an_empty_region(self):
@@ -680,7 +685,7 @@ class LargestContent(CheckTest):
             remark|A|-|-|no components
             remark|A|-|-|free bytes|256
             remark|A|-|-|largest content that add takes|224
-            0 bad, 5 remarks, 0 changes
+            sound: 0 bad, 5 remarks, 0 changes
         """, 0)
 
     def test_no_free_space(self):
@@ -691,7 +696,7 @@ class LargestContent(CheckTest):
             remark|A|-|-|components|2
             remark|A|-|-|free bytes|0
             remark|A|-|-|no room for a component
-            0 bad, 5 remarks, 0 changes
+            sound: 0 bad, 5 remarks, 0 changes
         """)
         self.refuses(1, "no space", "cbfstool image.rom add -r A -n abc -t raw -f content",
                      {"image.rom": image, "content": b""})

@@ -37,7 +37,7 @@ class RowsOfAKind(CheckTest):
             remark|A|-|-|components|1
             remark|A|-|-|free bytes|0
             remark|A|-|-|no room for a component
-            17 bad, 6 remarks, 0 changes
+            not sound: 17 bad, 6 remarks, 0 changes
         """, "-v")
         self.reports(1, image, """
             remark|-|-|0x0|flashmap
@@ -62,7 +62,7 @@ class RowsOfAKind(CheckTest):
             remark|A|-|-|components|1
             remark|A|-|-|free bytes|0
             remark|A|-|-|no room for a component
-            17 bad, 5 remarks, 0 changes
+            not sound: 17 bad, 5 remarks, 0 changes
         """)
 
     def test_17_rows(self):
@@ -92,7 +92,7 @@ class RowsOfAKind(CheckTest):
             remark|A|-|-|components|1
             remark|A|-|-|free bytes|0
             remark|A|-|-|no room for a component
-            18 bad, 6 remarks, 0 changes
+            not sound: 18 bad, 6 remarks, 0 changes
         """, "-v")
         self.reports(1, image, """
             remark|-|-|0x0|flashmap
@@ -118,7 +118,7 @@ class RowsOfAKind(CheckTest):
             remark|A|-|-|free bytes|0
             remark|A|-|-|no room for a component
             bad|-|-|-|more of these|1
-            18 bad, 5 remarks, 0 changes
+            not sound: 18 bad, 5 remarks, 0 changes
         """)
 
     def test_kinds_in_the_order_of_their_first_rows(self):
@@ -160,7 +160,7 @@ class RowsOfAKind(CheckTest):
             bad|N16|-|-|no such area
             remark|-|-|-|more of these|2
             bad|-|-|-|more of these|3
-            19 bad, 19 remarks, 0 changes
+            not sound: 19 bad, 19 remarks, 0 changes
         """, f"-r {names}")
 
     def test_a_hundred_names_of_areas(self):
@@ -169,7 +169,7 @@ class RowsOfAKind(CheckTest):
         names = [f"N{number}" for number in range(1, 101)]
         rows = [f"bad|{name}|-|-|no such area" for name in names]
         self.reports(1, image, "\n".join(["remark|-|-|0x0|flashmap", *rows,
-                                          "100 bad, 1 remarks, 0 changes"]),
+                                          "not sound: 100 bad, 1 remarks, 0 changes"]),
                      f"-v -r {','.join(names)}")
 
 
@@ -184,8 +184,14 @@ class Texts(unittest.TestCase):
     """The manual page has the verdict and the text of each row that the tests of cbfscheck expect,
     and no other one. A test that expects a row compares it with the program."""
 
+    def texts_with_a_condition(self):
+        """Returns the texts of the page whose verdict depends on the image or the options."""
+        rows = re.findall(r"^\.It bad or remark Qq (.*)$", PAGE, re.M)
+        self.assertEqual(len(rows), len(set(rows)))
+        return set(rows)
+
     def texts_of_the_page(self):
-        """Returns the verdicts and texts of the tables of the page."""
+        """Returns the verdicts and texts of the tables of the page that have one verdict."""
         found = set()
         for verdict, texts in re.findall(r"^\.It (bad|remark|change) (Q[qo] .*)", PAGE, re.M):
             names = re.sub(r"Q[qo] | Qc", "", texts).split(" , ")
@@ -204,11 +210,15 @@ class Texts(unittest.TestCase):
     def test_the_texts_of_the_page(self):
         """A change of a kept area has the verdict `bad`, and its row on the page is a change. An
         area that is gone is bad without an option too."""
-        page = self.texts_of_the_page()
+        page, either = self.texts_of_the_page(), self.texts_with_a_condition()
         kept = {("bad", text) for verdict, text in page if verdict == "change"}
         kept -= {("bad", "area gone"), ("bad", "more of these")}
-        self.assertGreater(len(page), 80)
-        self.assertEqual(sorted(self.texts_of_tests() - kept), sorted(page))
+        self.assertGreater(len(page) + len(either), 80)
+        expected = self.texts_of_tests() - kept
+        of_either = {(verdict, text) for verdict, text in expected if text in either}
+        self.assertEqual({text for _, text in of_either}, either)
+        self.assertEqual({verdict for verdict, _ in of_either}, {"bad", "remark"})
+        self.assertEqual(sorted(expected - of_either), sorted(page))
 
 
 if __name__ == "__main__":

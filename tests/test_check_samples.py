@@ -17,7 +17,7 @@ class Samples(CheckTest):
             remark|COREBOOT|-|-|no components
             remark|COREBOOT|-|-|free bytes|512
             remark|COREBOOT|-|-|largest content that add takes|480
-            0 bad, 5 remarks, 0 changes
+            sound: 0 bad, 5 remarks, 0 changes
         """)
 
     def test_digests(self):
@@ -32,7 +32,7 @@ class Samples(CheckTest):
             remark|COREBOOT|-|-|components|5
             remark|COREBOOT|-|-|free bytes|15744
             remark|COREBOOT|-|-|largest content that add takes|15264
-            0 bad, 9 remarks, 0 changes
+            sound: 0 bad, 9 remarks, 0 changes
         """)
         self.check("cbfscheck -r COREBOOT image.rom", {"image.rom": image}, output=report(r"""
             remark|-|-|0x1000|flashmap
@@ -44,7 +44,7 @@ class Samples(CheckTest):
             remark|COREBOOT|-|-|components|5
             remark|COREBOOT|-|-|free bytes|15744
             remark|COREBOOT|-|-|largest content that add takes|15264
-            0 bad, 9 remarks, 0 changes
+            sound: 0 bad, 9 remarks, 0 changes
         """))
         self.reports(0, image, r"""
             remark|-|-|0x1000|flashmap
@@ -57,7 +57,7 @@ class Samples(CheckTest):
             remark|COREBOOT|-|-|components|5
             remark|COREBOOT|-|-|free bytes|15744
             remark|COREBOOT|-|-|largest content that add takes|15264
-            0 bad, 10 remarks, 0 changes
+            sound: 0 bad, 10 remarks, 0 changes
         """, "-v")
 
     def test_compressed_components(self):
@@ -68,15 +68,16 @@ class Samples(CheckTest):
             remark|COREBOOT|-|-|components|5
             remark|COREBOOT|-|-|free bytes|13888
             remark|COREBOOT|-|-|largest content that add takes|13856
-            0 bad, 6 remarks, 0 changes
+            sound: 0 bad, 6 remarks, 0 changes
         """)
 
     def test_types(self):
-        self.reports(0, Sample("types").image, """
+        self.reports(1, Sample("types").image, """
             remark|-|-|0x4800|flashmap
             remark|COREBOOT|t/mma|0x300|type without a name|0x62
             remark|COREBOOT|t/efi|0x340|type without a name|0x63
             remark|COREBOOT|t/struct|0x380|type without a name|0x70
+            bad|COREBOOT|t/stage|0x3c0|stage has no stage attribute of 24 bytes
             remark|COREBOOT|unknown|0x480|type without a name|0x1234
             remark|COREBOOT|-|-|complete
             remark|COREBOOT|-|-|components|20
@@ -86,7 +87,7 @@ class Samples(CheckTest):
             remark|SI_ME|-|-|blank: no partition table of the ME
             remark|GBB|-|-|blank: no GBB
             remark|VBLOCK_A|-|-|blank: no signatures
-            0 bad, 13 remarks, 0 changes
+            not sound: 1 bad, 13 remarks, 0 changes
         """)
 
 
@@ -100,7 +101,7 @@ class Lists(CheckTest):
             remark|COREBOOT|-|-|no components
             remark|COREBOOT|-|-|free bytes|512
             remark|COREBOOT|-|-|largest content that add takes|480
-            0 bad, 5 remarks, 0 changes
+            sound: 0 bad, 5 remarks, 0 changes
         """, "--list")
 
     def test_digests(self):
@@ -119,7 +120,7 @@ class Lists(CheckTest):
             remark|COREBOOT|-|-|components|5
             remark|COREBOOT|-|-|free bytes|15744
             remark|COREBOOT|-|-|largest content that add takes|15264
-            0 bad, 9 remarks, 0 changes
+            sound: 0 bad, 9 remarks, 0 changes
         """, "--list")
 
     def test_compressed_components(self):
@@ -135,11 +136,11 @@ class Lists(CheckTest):
             remark|COREBOOT|-|-|components|5
             remark|COREBOOT|-|-|free bytes|13888
             remark|COREBOOT|-|-|largest content that add takes|13856
-            0 bad, 6 remarks, 0 changes
+            sound: 0 bad, 6 remarks, 0 changes
         """, "--list")
 
     def test_types(self):
-        self.reports(0, Sample("types").image, """
+        self.reports(1, Sample("types").image, """
             component|COREBOOT|t/raw|0x0|raw|3|none|no hash
             component|COREBOOT|t/spd|0x40|spd|3|none|no hash
             component|COREBOOT|t/cmos_default|0x80|cmos_default|3|none|no hash
@@ -164,6 +165,7 @@ class Lists(CheckTest):
             remark|COREBOOT|t/mma|0x300|type without a name|0x62
             remark|COREBOOT|t/efi|0x340|type without a name|0x63
             remark|COREBOOT|t/struct|0x380|type without a name|0x70
+            bad|COREBOOT|t/stage|0x3c0|stage has no stage attribute of 24 bytes
             remark|COREBOOT|unknown|0x480|type without a name|0x1234
             remark|COREBOOT|-|-|complete
             remark|COREBOOT|-|-|components|20
@@ -173,7 +175,7 @@ class Lists(CheckTest):
             remark|SI_ME|-|-|blank: no partition table of the ME
             remark|GBB|-|-|blank: no GBB
             remark|VBLOCK_A|-|-|blank: no signatures
-            0 bad, 13 remarks, 0 changes
+            not sound: 1 bad, 13 remarks, 0 changes
         """, "--list")
 
 

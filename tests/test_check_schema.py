@@ -38,7 +38,7 @@ TEXTS = {
     "too-many-areas": ["too many areas to look for overlaps"],
     "area-name": ["name isn't UTF-8"],
     "no-map-area": ["no area FMAP"],
-    "map-area": ["doesn't hold the flashmap"],
+    "map-area": ["doesn't begin with the flashmap"],
     "metadata-hash-valid": ["metadata hash sha256 valid"],
     "metadata-hash-invalid": [
         "metadata hash sha256 invalid: run cbfsseal IMAGE",
@@ -63,6 +63,7 @@ TEXTS = {
     "hash-missing": ["no hash"],
     "hash-unsupported": ["hash unsupported"],
     "hash-other-algorithm": ["hash isn't of the anchor's algorithm"],
+    "attributes-invalid": ["stage has no stage attribute of 24 bytes"],
     "component-deleted": ["deleted component"],
     "complete": ["complete"],
     "tail": ["unused tail"],
@@ -106,6 +107,7 @@ TEXTS = {
     "anchor-added": ["anchor added"],
     "anchor-gone": ["anchor gone"],
     "anchor-algorithm-changed": ["anchor's algorithm changed from sha256"],
+    "structure-gone": ["GBB is gone", "signatures of the slot are gone"],
     "area-added": ["area added"],
     "area-gone": ["area gone"],
     "area-moved": ["area moved from"],
@@ -121,6 +123,7 @@ TEXTS = {
     "component-attributes-changed": ["attributes changed"],
     "component-moved": ["component moved from"],
     "components-not-compared": ["components not compared"],
+    "none-preserved": ["no area has the flag PRESERVE"],
 }
 
 
@@ -215,13 +218,14 @@ BOARDS = [
     ("", board_with(COREBOOT=coreboot(b"x", boot=bootblock(0x400, reset=ERASED)))),
     ("", board_with(GBB=sound_gbb(flags=1), VBLOCK_A=signed_block(0))),
     ("", with_table(microcode(96))), ("", with_table(microcode(96, sum_is=1))),
+    ("", BOARD, board_with(GBB=None, VBLOCK_A=None)),
 ]
 OF_SAMPLES = [row for sample in SAMPLES for row in [
     ("", sample), ("-v --all-hashed --need COREBOOT:none", sample),
     ("--keep-preserved", SAMPLES[1], sample), ("--list", sample), ("--list", SAMPLES[1], sample)]]
 TWENTY_NAMES = ",".join(f"N{number}" for number in range(20))
 RUNS = [*OF_SAMPLES, *faults_of_maps(), *faults_of_regions(), *changes(), *ANCHORS, *BOARDS,
-        (f"-r {TWENTY_NAMES}", OLD)]
+        (f"-r {TWENTY_NAMES}", OLD), ("--flash", OLD, OLD)]
 
 
 class Documents(CheckTest):
@@ -274,7 +278,7 @@ VALID = {
                     "compression": "none", "hash": "no hash"}],
     "rows": [{"verdict": "remark", "code": "hash-missing", "area": "A", "component": [255],
               "position": 0, "what": "no hash"}],
-    "bad": 0, "remarks": 1, "changes": 0,
+    "verdict": "sound", "bad": 0, "remarks": 1, "changes": 0,
 }
 
 
@@ -297,6 +301,7 @@ class Faults(unittest.TestCase):
             ("another format", {"format": 2}), ("a further member", {"more": 1}),
             ("a count that is a text", {"bad": "0"}), ("a count below 0", {"bad": -1}),
             ("a count that is a truth value", {"bad": True}),
+            ("another verdict", {"verdict": "may not be flashed"}),
             ("rows that are no array", {"rows": {}}),
             ("an image that is a number", {"image": 1}), ("an old image of bytes", {"old": [97]}),
             ("components that are no array", {"components": {}}),

@@ -8,7 +8,7 @@ import hashlib
 import struct
 import unittest
 
-from tests.findings import CheckTest, patched, report
+from tests.findings import CheckTest, conclusion, patched, report
 from tests.image import Component, region
 from tests.structured_board import (
     BODY_END, BOARD, BOOTBLOCK_SIZE, DESCRIPTOR, HARDWARE_ID, HEADER_AT, KEY, PLACES, REGIONS,
@@ -65,7 +65,7 @@ class StructureTest(CheckTest):
         for row in {**SOUND, **rows}.values():
             lines += lines_of(row)
         bad = sum(line.startswith("bad|") for line in lines)
-        lines.append(f"{bad} bad, {len(lines) - bad} remarks, 0 changes")
+        lines.append(conclusion(bad, len(lines) - bad, 0))
         self.reports(1 if bad else 0, image, "\n".join(lines))
 
 
@@ -94,7 +94,7 @@ class Boards(CheckTest):
             remark|GBB|-|-|GBB
             remark|VBLOCK_A|-|-|signed slot
             remark|VBLOCK_B|-|-|blank: no signatures
-            0 bad, 20 remarks, 0 changes
+            sound: 0 bad, 20 remarks, 0 changes
         """)
 
     def test_a_needed_component_and_changes_stand_around_the_structures(self):
@@ -115,7 +115,7 @@ class Boards(CheckTest):
             remark|VBLOCK_B|-|-|blank: no signatures
             change|-|-|-|erase blocks differ|1
             change|GBB|-|0x3000|erase blocks differ|1
-            1 bad, 20 remarks, 2 changes
+            not sound: 1 bad, 20 remarks, 2 changes
         """))
 
 

@@ -27,42 +27,43 @@ def with_entry(position, name):
 
 class Components(CheckTest):
     def test_fields_of_a_component(self):
-        for title, at, data, text in [
-            ("type", 0x158C, b"\0\0\0\x53", r"""
+        for title, status, at, data, text in [
+            ("type", 0, 0x158C, b"\0\0\0\x53", r"""
                 change|-|-|-|erase blocks differ|1
                 change|COREBOOT|-|0x1400|erase blocks differ|1
                 change|COREBOOT|h\x20none|0x180|type changed
-                0 bad, 9 remarks, 3 changes
+                sound: 0 bad, 9 remarks, 3 changes
             """),
-            ("length", 0x1588, b"\0\0\0\x09", r"""
+            ("length", 0, 0x1588, b"\0\0\0\x09", r"""
                 change|-|-|-|erase blocks differ|1
                 change|COREBOOT|-|0x1400|erase blocks differ|1
                 change|COREBOOT|h\x20none|0x180|length changed
-                0 bad, 9 remarks, 3 changes
+                sound: 0 bad, 9 remarks, 3 changes
             """),
-            ("content", 0x15A0, b"X", r"""
+            ("content", 0, 0x15A0, b"X", r"""
                 change|-|-|-|erase blocks differ|1
                 change|COREBOOT|-|0x1400|erase blocks differ|1
                 change|COREBOOT|h\x20none|0x180|content changed
-                0 bad, 9 remarks, 3 changes
+                sound: 0 bad, 9 remarks, 3 changes
             """),
-            ("attributes", 0x142B, b"\x09", r"""
+            ("attributes", 1, 0x142B, b"\x09", r"""
+                bad|COREBOOT|h\x20sha1|0x0|digest has an unknown algorithm
                 change|-|-|-|erase blocks differ|1
                 change|COREBOOT|-|0x1400|erase blocks differ|1
                 change|COREBOOT|h\x20sha1|0x0|attributes changed
-                0 bad, 9 remarks, 3 changes
+                not sound: 1 bad, 9 remarks, 3 changes
             """),
-            ("a byte after the content", 0x15B0, b"X", """
+            ("a byte after the content", 0, 0x15B0, b"X", """
                 change|-|-|-|erase blocks differ|1
                 change|COREBOOT|-|0x1400|erase blocks differ|1
-                0 bad, 9 remarks, 2 changes
+                sound: 0 bad, 9 remarks, 2 changes
             """),
         ]:
             with self.subTest(title):
-                self.changes(0, HASHES, patched(HASHES, (at, data)), text)
+                self.changes(status, HASHES, patched(HASHES, (at, data)), text)
 
     def test_the_same_sample(self):
-        self.changes(0, HASHES, HASHES, "0 bad, 9 remarks, 0 changes")
+        self.changes(0, HASHES, HASHES, "sound: 0 bad, 9 remarks, 0 changes")
 
     def test_a_component_that_moved_or_that_one_image_lacks(self):
         old, new = with_entry(0x5C0, b"note"), with_entry(0x7C0, b"note")
@@ -70,19 +71,19 @@ class Components(CheckTest):
             change|-|-|-|erase blocks differ|1
             change|COREBOOT|-|0x1400|erase blocks differ|1
             change|COREBOOT|note|0x7c0|component moved from|0x5c0
-            0 bad, 9 remarks, 3 changes
+            sound: 0 bad, 9 remarks, 3 changes
         """)
         self.changes(0, HASHES, new, """
             change|-|-|-|erase blocks differ|1
             change|COREBOOT|-|0x1400|erase blocks differ|1
             change|COREBOOT|note|0x7c0|component added
-            0 bad, 9 remarks, 3 changes
+            sound: 0 bad, 9 remarks, 3 changes
         """)
         self.changes(0, old, HASHES, """
             change|-|-|-|erase blocks differ|1
             change|COREBOOT|-|0x1400|erase blocks differ|1
             change|COREBOOT|note|0x5c0|component removed
-            0 bad, 9 remarks, 3 changes
+            sound: 0 bad, 9 remarks, 3 changes
         """)
 
     def test_two_blocks_of_the_image_and_one_of_the_region(self):
@@ -91,7 +92,7 @@ class Components(CheckTest):
             change|-|-|-|erase blocks differ|2
             change|COREBOOT|-|0x1400|erase blocks differ|1
             change|COREBOOT|far|0xdc0|component added
-            0 bad, 9 remarks, 3 changes
+            sound: 0 bad, 9 remarks, 3 changes
         """)
 
 
@@ -103,7 +104,7 @@ class Areas(CheckTest):
             change|FMAP|-|0x1000|erase blocks differ|1
             change|SMMSTORE|-|0x7000|area moved from|0x6000
             change|TAIL|-|0x6000|area moved from|0x7000
-            0 bad, 9 remarks, 4 changes
+            sound: 0 bad, 9 remarks, 4 changes
         """)
 
     def test_a_shorter_area(self):
@@ -111,7 +112,7 @@ class Areas(CheckTest):
             change|-|-|-|erase blocks differ|1
             change|FMAP|-|0x1000|erase blocks differ|1
             change|TAIL|-|0x7000|area resized from|0x1000
-            0 bad, 9 remarks, 3 changes
+            sound: 0 bad, 9 remarks, 3 changes
         """)
 
     def test_another_name(self):
@@ -120,25 +121,25 @@ class Areas(CheckTest):
             change|FMAP|-|0x1000|erase blocks differ|1
             change|LAST|-|0x7000|area added
             change|TAIL|-|0x7000|area gone
-            0 bad, 9 remarks, 4 changes
+            sound: 0 bad, 9 remarks, 4 changes
         """)
 
     def test_an_old_image_that_was_cut(self):
         """An area ends outside it, and then the region too."""
-        self.changes(0, HASHES[:0x7800], HASHES, """
-            change|-|-|-|image size changed from|0x7800
+        self.changes(1, HASHES[:0x7800], HASHES, """
+            bad|-|-|-|image size changed from|0x7800
             change|-|-|-|erase blocks differ|1
             change|TAIL|-|0x7000|not compared
-            0 bad, 9 remarks, 3 changes
+            not sound: 1 bad, 9 remarks, 2 changes
         """)
-        self.changes(0, HASHES[:0x5000], HASHES, """
-            change|-|-|-|image size changed from|0x5000
+        self.changes(1, HASHES[:0x5000], HASHES, """
+            bad|-|-|-|image size changed from|0x5000
             change|-|-|-|erase blocks differ|3
             change|COREBOOT|-|0x1400|not compared
             change|SMMSTORE|-|0x6000|not compared
             change|TAIL|-|0x7000|not compared
             change|COREBOOT|-|0x1400|components not compared
-            0 bad, 9 remarks, 6 changes
+            not sound: 1 bad, 9 remarks, 5 changes
         """)
 
     def test_kept_areas(self):
@@ -146,26 +147,26 @@ class Areas(CheckTest):
             change|-|-|-|erase blocks differ|1
             bad|COREBOOT|-|0x1400|erase blocks differ|1
             bad|COREBOOT|h\x20none|0x180|content changed
-            2 bad, 9 remarks, 1 changes
+            not sound: 2 bad, 9 remarks, 1 changes
         """, "--keep TAIL,COREBOOT")
         self.changes(1, HASHES, NONE_CHANGED, r"""
             change|-|-|-|erase blocks differ|1
             bad|COREBOOT|-|0x1400|erase blocks differ|1
             bad|COREBOOT|h\x20none|0x180|content changed
-            2 bad, 9 remarks, 1 changes
+            not sound: 2 bad, 9 remarks, 1 changes
         """, "--keep=COREBOOT")
         self.changes(0, HASHES, NONE_CHANGED, r"""
             change|-|-|-|erase blocks differ|1
             change|COREBOOT|-|0x1400|erase blocks differ|1
             change|COREBOOT|h\x20none|0x180|content changed
-            0 bad, 9 remarks, 3 changes
+            sound: 0 bad, 9 remarks, 3 changes
         """, "--keep TAIL")
         self.changes(1, HASHES, NONE_CHANGED, r"""
             change|-|-|-|erase blocks differ|1
             change|COREBOOT|-|0x1400|erase blocks differ|1
             change|COREBOOT|h\x20none|0x180|content changed
             bad|RW_VPD|-|-|no such area
-            1 bad, 9 remarks, 3 changes
+            not sound: 1 bad, 9 remarks, 3 changes
         """, "--keep TAIL,RW_VPD")
 
     def test_a_new_image_without_a_map(self):
@@ -178,7 +179,7 @@ class Areas(CheckTest):
             bad|COREBOOT|-|0x1400|area gone
             change|SMMSTORE|-|0x6000|area gone
             change|TAIL|-|0x7000|area gone
-            2 bad, 0 remarks, 5 changes
+            not sound: 2 bad, 0 remarks, 5 changes
         """)
 
 

@@ -30,7 +30,7 @@ RW = "RW_MRC_CACHE|RW_SECTION_A|RW_FWID_A"
 TYPES = [name for row in re.findall(r"^\| 0x\w+ \| ([^|]+) \| 0x\w+ \| ([^|]+) \|$", FORMAT, re.M)
          for name in row if name not in ("deleted", "null")]
 DIGESTS = "sha256|sha512"
-CHECK_OPTIONS = "--need|--all-hashed|--list|--json|--keep|--keep-preserved|--help|--version"
+CHECK_OPTIONS = "--need|--all-hashed|--list|--json|--flash|--keep|--keep-preserved|--help|--version"
 
 # A line, and the words that each shell offers for its end. (Of a list with commas, the last names.)
 OFFERS = [
@@ -79,7 +79,7 @@ OFFERS = [
     ("cbfscheck image.rom --l", "--list"),
     ("cbfscheck -r COREBOOT -v image.rom -", CHECK_OPTIONS),
     ("cbfscheck --json --keep GBB image.rom -",
-     "-r|-v|--need|--all-hashed|--list|--keep-preserved|--help|--version"),
+     "-r|-v|--need|--all-hashed|--list|--flash|--keep-preserved|--help|--version"),
     ("cbfscheck --keep GBB image.rom ha", "hashes.rom"), ("cbfscheck --keep ", ""),
     ("cbfscheck image.rom -r ", AREAS), ("cbfscheck image.rom --keep ", AREAS),
     ("cbfscheck image.rom hashes.rom -r COREBOOT --keep RW_", RW),

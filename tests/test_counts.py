@@ -87,19 +87,20 @@ class Skips(unittest.TestCase):
                                   stderr=subprocess.STDOUT, text=True)
             self.assertEqual((done.returncode, done.stdout), (1, f"tests: needs {needed}\n"))
 
-    def test_parts_of_scripts(self):
-        """The list has one script, of which a part needs one tool that is missing and another."""
+    def test_the_quick_test(self):
+        """checks/check prints them before it runs a script, if it runs the tests."""
         folder = Folder({
-            "checks/list": "sources   one\n",
-            "checks/one": 'skip absent "a part"\n    skip sh "another part"\n',
+            "checks/list": "programs  tests\n",
+            "checks/tests": '#!/bin/sh\necho "tests $1"\n',
         })
         self.addCleanup(folder.remove)
-        (folder.path / "checks" / "one").chmod(0o755)
+        (folder.path / "checks" / "tests").chmod(0o755)
         shutil.copy(TOP / "checks" / "check", folder.path / "checks" / "check")
-        done = subprocess.run(["checks/check", "--sources"], cwd=folder.path,
-                              stdout=subprocess.PIPE, stderr=subprocess.DEVNULL, text=True)
-        rows = [line for line in done.stdout.splitlines() if line.startswith("to be skipped")]
-        self.assertEqual(rows, ["to be skipped: a part of checks/one (absent is missing)"])
+        for mode, rows in ("--built", ["tests --skips", "tests --built"]), ("--sources", []):
+            done = subprocess.run(["checks/check", mode], cwd=folder.path,
+                                  stdout=subprocess.PIPE, stderr=subprocess.DEVNULL, text=True)
+            lines = [line for line in done.stdout.splitlines() if line.startswith("tests ")]
+            self.assertEqual(lines, rows)
 
 
 if __name__ == "__main__":

@@ -164,18 +164,17 @@ class Room(ProgramTest):
         areas = [image.Area("FMAP", 0, 0x400), image.Area("COREBOOT", 0x400, 0x8000)]
         data = image.Image(0x8400, areas).put("COREBOOT", image.empty_region(0x8000)).data()
         row = self.folder({"image.rom": data}).run("cbfstool image.rom print").output.decode()
-        length = row.split("\t")[3]
-        self.assertEqual(row, f"(empty)\t0x0\tnull\t{length}\tnone\n")
+        self.assertRegex(row, r"^\(empty\)\t0x0\tnull\t\d+\tnone\n$")
         digest = ("-A", "sha256")
         sizes = [self.largest(data, 0x8001, "logo.bmp", *digest, *options)
                  for options in ((), ("-a", "4096"), ("-b", "80"))]
         self.assertFalse(self.accepts(data, 0, "logo.bmp", *digest, "-b", "79"))
         text = " ".join(section("Room for a component").replace("\\-", "-").split())
         for stated in [
-            f"at the offset 0x0 with the length {length}, in a region of {0x8000} bytes.",
-            "the metadata have 28 + 8 + 44 = 80 bytes.",
-            f"The largest content has {length} - 8 - 44 = {sizes[0]} bytes.",
-            f"begins at 4096, and has at most {length} + 28 - 4096 = {sizes[1]} bytes.",
+            f"as the only row, in a region of {0x8000} bytes: P is 0 and E is {0x8000}.",
+            "the fields have 28 + 8 + 44 = 80 bytes.",
+            f"The largest content has {0x8000} - 80 - 4 = {sizes[0]} bytes.",
+            f"begins at 4096, and has at most {0x8000} - 4 - 4096 = {sizes[1]} bytes.",
             f"it has at most {0x8000} - 80 = {sizes[2]} bytes, and .Fl b Cm 79 is refused.",
         ]:
             self.assertIn(stated, text)
@@ -196,21 +195,22 @@ class Room(ProgramTest):
             empty = [row for row in rows if row[0] == "(empty)"]
             self.assertEqual(len(empty), len(cells))
             start = int(empty[0][1], 16)
-            length = int(empty[-1][1], 16) - start + int(empty[-1][3])
+            following = [int(row[1], 16) for row in rows if row[0] == "last"]
+            end = following[0] if following else size
+            limit = end - 4 if ends else end
             for name, digest, bytes_of_digest in [
                 ("b", (), 0), ("bcd", (), 0), ("bcde", (), 0), ("b" * 9, ("-A", "sha256"), 44),
                 ("b" * 30, ("-A", "sha512"), 76),
             ]:
                 rounded = len(name) // 4 * 4
-                wanted = length - rounded - bytes_of_digest
-                self.assertEqual(self.largest(made, 1000, name, *digest), wanted, (cells, name))
                 place = start + 28 + rounded + bytes_of_digest
-                end = start + length + (32 if ends else 28)
+                wanted = limit - place
+                self.assertEqual(self.largest(made, 1000, name, *digest), wanted, (cells, name))
                 at = ("-b", str(place))
                 self.assertEqual(self.largest(made, 1000, name, *digest, *at), end - place)
                 self.assertFalse(self.accepts(made, 0, name, *digest, "-b", str(place - 1)))
                 aligned = -(-place // 256) * 256
-                wanted = max(start + length + 28 - aligned, -1)
+                wanted = max(limit - aligned, -1)
                 self.assertEqual(self.largest(made, 1000, name, *digest, "-a", "256"), wanted)
 
 

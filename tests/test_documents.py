@@ -13,7 +13,7 @@ import re
 import shutil
 import unittest
 
-from tests import image
+from tests import image, structured_board, structures
 from tests.programs import NAMES, TOP, Folder, ProgramTest
 
 FOLDERS = ("bench", "checks", "completion", "crates", "dist", "docs", "man", "samples", "tests")
@@ -223,8 +223,8 @@ FACTS = [
      "refusal.", [DONE, BAD_LINE, REFUSED]),
     ("docs/MOVING.md", "A refusal is one line on standard error, with status {}, or {} for a bad "
      "command line.", [REFUSED, BAD_LINE]),
-    ("dist/examples/check-build", "ends with the status of cbfscheck: {} if nothing is bad, {} if "
-     "something # is, {} without a complete report.", [SOUND, BAD, INCOMPLETE]),
+    ("dist/examples/check-build", "ends with the # status of cbfscheck: {} if nothing is bad, {} "
+     "if something is, {} without a complete report.", [SOUND, BAD, INCOMPLETE]),
     # ---- names and lists
     (TOOL, "A new one has 1 to {} bytes.", [longest_name]),
     (TOOL, "The new name is empty, over {} bytes, or has a NUL", [longest_name]),
@@ -286,17 +286,18 @@ FACTS = [
     ("CHANGELOG.md", "The limit of memory is {} MB per MiB of both images together.", [MEMORY]),
     # ---- bytes, calls and memory
     (TOOL, "up to {} bytes between them have any content.", [PIECE]),
+    (TOOL, "A kill can cut a write at a border of two blocks of {} bytes,", [PIECE]),
     (PROMISES, "with at most {} arbitrary bytes between them", [PIECE]),
     (PROMISES, "at most 2n + 64 device calls, with at most {} bytes each. This is a bound",
      [PIECE]),
     (PROMISES, "A *commit* is a write of a {}-byte header that changes the entries", [COMMIT]),
-    (TOOL, "otherwise the kill could cut a header of {} bytes", [COMMIT]),
+    (TOOL, "A header has {} bytes.", [COMMIT]),
     (TOOL, "ends too early for listings over {} KiB", [lambda: OUTPUT() // 1024]),
     (PROMISES, "the text of a listing, or {} KiB of other output", [lambda: OUTPUT() // 1024]),
     (PROMISES, "They repeat an interrupted call up to {:,} times.", [TRIES]),
     (SEAL, "metadata longer than {} bytes at 0x40", [SEALED]),
     (FORMAT, "Firmware finds a component only if its metadata has at most {} bytes.", [SEALED]),
-    (TOOL, "Firmware does not find a component with more than {} bytes before its content.",
+    (TOOL, "Firmware does not find a component with more than {} bytes of metadata.",
      [SEALED]),
     (FORMAT, "without those of more than {} bytes, which the firmware does not find", [SEALED]),
     (FORMAT, "| 13 | `metadata longer than {} bytes at 0x40` |", [SEALED]),
@@ -314,14 +315,15 @@ FACTS = [
      [the(image.NONE), the(image.LZMA), the(image.LZ4)]),
     (TOOL, "a sequence of .Em entries whose lengths are multiples of {}:", [cell_size]),
     (TOOL, "The size is 0 or no multiple of {}", [cell_size]),
-    (TOOL, "Up to {} bytes of 0xff may separate metadata and content.", [lambda: cell_size() - 1]),
+    (TOOL, "Up to {} bytes of 0xff, the gap, may separate fields and content.",
+     [lambda: cell_size() - 1]),
     (CHECK, ".It bad Qq size is 0 or no multiple of {}", [cell_size]),
     (CHECK, "A lost entry, at a multiple of {} bytes.", [cell_size]),
     (LANGUAGE, "a coreboot file system, whose size is a multiple of {}.", [cell_size]),
-    (FORMAT, "| 0 to {} | the gap, bytes 0xff, if the content requires a higher offset |",
+    (FORMAT, "| 0 to {} | the gap, bytes 0xff, if the content requires a higher offset.",
      [lambda: cell_size() - 1]),
     (CHECK, "no smaller area of at least {} bytes has the same offset", [START_HEAD]),
-    (FORMAT, "(*) it has at least {} bytes and starts with the magic", [START_HEAD]),
+    (FORMAT, "lies inside its image, has at least {} bytes, starts with the magic", [START_HEAD]),
     (FORMAT, "Each CBFS entry starts with a *head* of {} bytes.", [ENTRY_HEAD]),
     (CHECK, "A comparison of two images needs a stack of {} KiB", [PROMISED_STACK]),
     # ---- systems
@@ -471,6 +473,21 @@ class Refusals(ProgramTest):
             self.assertEqual(shown, stated, page)
             self.assertEqual([int(number) for number, _ in stated],
                              list(range(1, len(stated) + 1)))
+
+    def test_the_order_of_add(self):
+        """The table of the page has the numbers of the refusals, and the order of FORMAT.md."""
+        stated = words_of_document(FORMAT)
+        first = re.search(r"For each command with a region: (.*?)\.", stated)[1]
+        then = re.search(r"\| `add` \| (`bad name`.*?) \|", stated)[1]
+        part = text_of(TOOL).split("\n.Ss The refusals of add, in order\n")[1].split("\n.El\n")[0]
+        rows = re.findall(r"^\.It (\d+) Ta (.*?) Ta ", part, re.MULTILINE)
+        opened = ["bad command line", "device fault", "image too large", "source fault",
+                  "image too large"]
+        self.assertEqual([text for _, text in rows],
+                         [*opened, *re.findall(r"`([^`]+)`", f"{first}, {then}")])
+        numbers = dict(self.rows(TOOL, r"^\.It (\d+) Qq (.*)$"))
+        for number, text in rows:
+            self.assertEqual(numbers[number].split(" at ")[0], text)
 
     def stated_in(self, *names):
         """Returns numbers and texts of the refusals of sources, with the pages' placeholders."""
@@ -681,9 +698,10 @@ class Promises(unittest.TestCase):
                                text_of("crates/flash_device/specs/Device.antt"), re.MULTILINE)
         one = f"at most {definition[1]}n + {definition[2]} device calls"
         clauses = words_of_document("crates/check_report/src/change_inspection.rt")
-        old = re.search(r"\.new / (\d+) \+ (\d+)\)", clauses)
+        old = re.search(r"\((\d+) \* \(lengths images\.old\)\.old \+ "
+                        r"\(lengths images\.old\)\.new / (\d+) \+ (\d+)\)", clauses)
         new = re.search(r"\((\d+) \* \(lengths images\.old\)\.new \+ (\d+)\)", clauses)
-        two = f"it makes at most m + n/{old[1]} + {old[2]} calls of the old image and "
+        two = f"it makes at most {old[1]}m + n/{old[2]} + {old[3]} calls of the old image and "
         two += f"{new[1]}n + {new[2]} of the new image"
         stated = words_of_document(PROMISES)
         promises = [
@@ -721,9 +739,49 @@ class Boards(unittest.TestCase):
             f"and {noticed('cbfscheck, two images')} with the board as the old image",
         ]:
             self.assertIn(text, stated)
+        missed = sum(not row["cbfscheck, two images"] for row in harmful)
+        self.assertIn(f"lists the other {missed} by class.", stated)
         refused = [row for row in rows if row["harm"] == "none" and row["cbfscheck, two images"]]
         self.assertEqual(len(refused), 9)
         self.assertIn("Of the 110 good changes it calls nine bad", stated)
+
+    # What PROMISES.md says of a class of missed harm, and the rows of the class: the first class of
+    # a row counts. A row is a text of its structure, its change and the rules, joined by bars.
+    CLASSES = [
+        ("| signatures of RSA and the keys that they belong to, and a byte of a slot that was "
+         "changed inside the signed bytes | {} |", r"\(RSA\)|changed within the signed length"),
+        ("| a broken master header on a board whose `COREBOOT` does not end with a bootblock (a "
+         "remark): only older payloads read it | {} |", r"^arm\|arm\|.*header"),
+        ("| wrong fields of the FIT: an entry or the microcode is missing, an entry is skipped, or "
+         "the table does not end with its component | {} |", r"^\w+\|FIT\|"),
+        ("| wrong fields of the GBB: an empty hardware id, or a key that begins inside its own "
+         "fields | {} |", r"^\w+\|GBB\|"),
+        ("| wrong code of the bootblock, also with an erased part: no digest covers it | {} |",
+         r"^intel\|bootblock\||^arm\|arm\|the first byte of the bootblock"),
+        ("| wrong content of the ME and of GbE | {} |", r"^intel\|descriptor\|"),
+        ("`cbfsseal` renews it) | {} | `--need AREA:NAME` |", r"^\w+\|anchor\|"),
+        ("| a stage whose memory is smaller than its content: builds make such stages on purpose | "
+         "{} |", r"memory is smaller"),
+        ("a changed content without a digest | {} |", r"digest"),
+        ("| a second flash map, which coreboot's tools and the firmware may prefer (a remark) "
+         "| {} |", r"\|flash map\|another map"),
+    ]
+
+    def test_the_classes_of_missed_harm(self):
+        """PROMISES.md lists each harmful change that cbfscheck misses, in one class."""
+        heads, *rows = [line.split("\t") for line in text_of("tests/boards.tsv").splitlines()]
+        rows = [dict(zip(heads, row)) for row in rows]
+        missed = [row for row in rows if row["harm"] != "none" and not row["cbfscheck, two images"]]
+        texts = ["|".join(row[key] for key in ("board", "structure", "change", "rules, two images"))
+                 for row in missed]
+        stated = words_of_document(PROMISES)
+        for text, pattern in self.CLASSES:
+            ours = [one for one in texts if re.search(pattern, one)]
+            texts = [one for one in texts if one not in ours]
+            with self.subTest(text):
+                self.assertTrue(text.format(len(ours)) in stated, f"there are {len(ours)}")
+        self.assertEqual(texts, [])
+        self.assertTrue(f"has no bad row for {len(missed)} of them." in stated)
 
 
 class Procedures(unittest.TestCase):
@@ -753,7 +811,8 @@ class Procedures(unittest.TestCase):
     def test_the_steps_of_a_locked_chip(self):
         text = words_of_document(README)
         page = words_of_document(CHECK).replace("\\-", "-")
-        for command in ["flashrom -p internal --ifd -i bios -r backup.rom", "--ifd -i bios -N"]:
+        for command in ["flashrom -p internal --ifd -i fd -i bios -r backup.rom",
+                        "--ifd -i bios -N"]:
             self.assertIn(f"`{command}`", text)
             self.assertIn(f".Ql {command} .", page)
 
@@ -775,6 +834,46 @@ class Procedures(unittest.TestCase):
                       text_of("dist/examples/flash-checked"))
         self.assertIn("The steps 1, 2 and 6 of .Sx FLASHING .", words_of_document(CHECK))
         self.assertIn("Step 7 of .Sx FLASHING .", words_of_document(CHECK))
+
+
+class Sample(ProgramTest):
+    """The report of the README that passes is that of the program, and each row has a decision."""
+
+    programs = ("cbfscheck",)
+    COMMAND = ("cbfscheck --flash -r COREBOOT,FW_MAIN_A,FW_MAIN_B --need COREBOOT:bootblock@end "
+               "backup.rom image.rom")
+
+    def image(self, content):
+        """Returns a board with a preserved area, and a component with this content."""
+        offset, size = structured_board.PLACES["COREBOOT"]
+        header_at, boot_size = structured_board.HEADER_AT, structured_board.BOOTBLOCK_SIZE
+        boot = structures.bootblock(boot_size,
+                                    header_pointer=structures.header_pointer(header_at, size))
+        digest = image.hash_attribute(image.SHA256, content)
+        region = image.region(size, {
+            0: structures.header_component(structures.master_header(offset + size, offset)),
+            0x80: image.Component(b"logo.bmp", content, type=0x40, attributes=[digest]),
+            size - boot_size - 64: image.Component(
+                b"bootblock", boot, type=image.BOOTBLOCK, gap=28),
+        })
+        areas = []
+        for area in structured_board.AREAS:
+            preserved = [("FMAP", 0xC000, 0x800), ("RW_VPD", 0xC800, 0x800, image.PRESERVED)]
+            areas += preserved if area[0] == "FMAP" else [area]
+        return structured_board.board(areas, COREBOOT=region)
+
+    def test_the_report(self):
+        section = text_of(README).split("\n### A report that passes\n")[1].split("\n### ")[0]
+        self.assertIn(f"`{self.COMMAND}`", section)
+        _, shown, rest = section.split("```\n")
+        files = {"backup.rom": self.image(b"the old logo")}
+        files["image.rom"] = self.image(b"the new logo")
+        self.check(self.COMMAND, files, 0, shown.encode())
+        table = rest.strip().split("\n\n")[0].splitlines()
+        decided = re.findall(r"`([^`]+)`", "".join(row.split("|")[1] for row in table))
+        *rows, last = shown.splitlines()
+        for text in [*(row.split("\t")[4] for row in rows), last.split(":")[0]]:
+            self.assertIn(text, decided)
 
 
 class Orders(ProgramTest):
@@ -964,7 +1063,7 @@ class Walks(unittest.TestCase):
         whole += "\n".join(path.read_text("utf-8") for path in (TOP / "tests").glob("*.py"))
         for line in lines:
             with self.subTest(line):
-                self.assertIn(line, whole)
+                self.assertTrue(line in whole, "no file has this line")
 
 
 class Versions(unittest.TestCase):

@@ -4,13 +4,16 @@ tests/test_examples.py has the cases in which a script could lose data; here are
 images in which a region begins at no round place, and free space lies between components.
 """
 
+import json
 import re
+import shutil
 import struct
+import time
 import unittest
 
 from tests import image
-from tests.programs import ProgramTest, program
-from tests.test_examples import ExampleTest, board
+from tests.programs import ProgramTest, locked, program, waits_for_lock
+from tests.test_examples import EXAMPLES, HOSTILE, ExampleTest, board
 
 START = 0x440
 ALIGNED = "add-aligned", "image.rom", "COREBOOT"
@@ -233,6 +236,15 @@ class Readings(ExampleTest):
         self.assertEqual(run.message, b"")
         self.example(folder, "check-build", "absent.rom", status=2)
 
+    def test_check_build_without_a_report(self):
+        """report.txt is a folder, or the check is a program that does not exist."""
+        folder = self.folder({"image.rom": board(), "report.txt/file": b""})
+        run = self.example(folder, "check-build", "image.rom", status=2)
+        self.assertIn(b"report.txt: Is a directory\n", run.message)
+        self.leaves(run, run.before)
+        folder = self.folder({"image.rom": board()})
+        self.example(folder, "check-build", "image.rom", status=2, CBFSCHECK="./absent")
+
 
 class SignRegion(ExampleTest):
     def test_the_signed_bytes(self):
@@ -248,16 +260,17 @@ class SignRegion(ExampleTest):
 
 
 class FlashChecked(ExampleTest):
+    # With --ifd flashrom reads zeros for the bytes of other regions.
+    FLASHROM = ('echo "$*" >> calls\nread=chip; [[ "$*" != *--ifd* ]] || read=part\n'
+                'case $3 in -r) cp "$read" "$4" ;; -w) cp "$4" chip ;; *) exit 9 ;; esac')
+
     def setUp(self):
         super().setUp()
-        # (with --ifd flashrom reads zeros for the bytes of other regions)
-        self.stand_in("flashrom", 'echo "$*" >> calls\n'
-                      'read=chip; [[ "$*" != *--ifd* ]] || read=part\n'
-                      'case $3 in -r) cp "$read" "$4" ;; -w) cp "$4" chip ;; *) exit 9 ;; esac')
+        self.stand_in("flashrom", self.FLASHROM)
 
-    def calls(self, folder):
+    def calls(self, folder, place=""):
         """Returns the arguments of flashrom, with the path of the private copy as COPY."""
-        text = (folder.path / "calls").read_text()
+        text = (folder.path / place / "calls").read_text()
         return [re.sub("-w [^ ]*/image.rom", "-w COPY", line) for line in text.splitlines()]
 
     def test_a_kept_area_that_changes(self):
@@ -379,10 +392,13 @@ class FlashChecked(ExampleTest):
             made = self.intel("SI_BIOS", descriptor, engine, b"new")
             self.is_refused(chip, made, f"{area} is blank, and not on the chip: "
                             "copy it from chip.rom, or add --ifd -i bios")
-        # (cbfscheck refuses a cleared descriptor, and an engine without its table)
-        for descriptor, engine in [(b"\0", b"M"), (self.DESCRIPTOR, b"\0")]:
+        # (a cleared descriptor, and a cleared engine)
+        for descriptor, engine, area in [
+            (b"\0", b"M", "SI_DESC"), (self.DESCRIPTOR, b"\0", "SI_ME"),
+        ]:
             made = self.intel("SI_BIOS", descriptor, engine, b"new")
-            self.is_refused(chip, made, "see report.txt")
+            self.is_refused(chip, made, f"{area} is blank, and not on the chip: "
+                            "copy it from chip.rom, or add --ifd -i bios")
         # (an empty chip, and another descriptor)
         made = self.intel("SI_BIOS", b"\xff", b"\xff")
         self.is_written(made, made)
@@ -463,6 +479,123 @@ class FlashChecked(ExampleTest):
             self.example(folder, "flash-checked", "image.rom", *words, status=2)
             self.has_files(folder, "chip", "image.rom")
 
+    def test_a_dry_run(self):
+        """The chip is read and the report is written, but nothing is written to the chip."""
+        kept = ("KEPT", b"1" * 64, 8)
+        old, new = (board(areas=[kept, ("A", text * 64, 0)]) for text in (b"1", b"2"))
+        folder = self.folder({"image.rom": new, "chip": old})
+        words = ["flash-checked", "image.rom", "--flash", "-r", "COREBOOT"]
+        run = self.example(folder, *words, "--dry-run")
+        self.assertEqual(self.calls(folder), ["-p internal -r chip.rom"])
+        last = "dry run: nothing was written; without --dry-run, image.rom would be written"
+        rows = [row for row in run.after["report.txt"].decode().splitlines() if row[:6] == "change"]
+        self.assertEqual(run.output.decode().splitlines(), [*rows, f"{last} to the chip"])
+        self.assertIn("change\tA\t-\t0x2440\terase blocks differ\t1", rows)
+        self.assertEqual((run.after["chip"], run.after["chip.rom"]), (old, old))
+        # (the backup has to be moved before the chip is written)
+        run = self.example(folder, *words, status=2)
+        self.assertEqual((run.message, run.after["chip"]),
+                         (b"chip.rom exists: move it away first\n", old))
+        (folder.path / "chip.rom").rename(folder.path / "backup.rom")
+        self.assertEqual(self.example(folder, *words).after["chip"], new)
+
+    def test_a_dry_run_of_a_refused_image(self):
+        """The status and the message are those of a run without the option."""
+        old, new = (board(areas=[("KEPT", text * 64, 8)]) for text in (b"1", b"2"))
+        folder = self.folder({"image.rom": new, "chip": old})
+        run = self.example(folder, "flash-checked", "--dry-run", "--flash", status=2)
+        run = self.example(folder, "flash-checked", "image.rom", "--flash", "--dry-run", status=1)
+        self.assertEqual(run.message, b"image.rom is not written: see report.txt\n")
+        self.assertNotIn(b"dry run", run.output)
+        self.assertEqual(run.after["chip"], old)
+
+    def test_a_failed_read(self):
+        """flashrom refuses to read, for example a locked descriptor, or a signal ends it."""
+        for failure in ["exit 1", "kill -9 $$"]:
+            self.stand_in("flashrom", f'echo "$*" >> calls\n{failure}')
+            for words in [[], ["--ifd", "-i", "bios"], ["--dry-run"]]:
+                folder = self.folder({"image.rom": board(), "chip": board(), "report.txt": b"old"})
+                run = self.example(folder, "flash-checked", "image.rom", "--flash", *words,
+                                   status=2)
+                self.assertIn(b"image.rom is not written: flashrom cannot read the chip",
+                              run.message)
+                self.assertEqual([line.split()[2] for line in self.calls(folder)], ["-r"])
+                self.assertEqual(run.after["report.txt"], b"")
+
+    def test_files_that_cannot_be_used(self):
+        """report.txt is a folder, cbfscheck does not exist, or the image has no flash map."""
+        good = board(areas=self.areas(b"1"))
+        for files, words, variables in [
+            ({"report.txt/file": b""}, [], {}), ({}, [], {"CBFSCHECK": "./absent"}),
+            ({"image.rom": bytes(len(good))}, ["--fmap", "-i", "A"], {}),
+        ]:
+            folder = self.folder({"image.rom": good, "chip": good, **files})
+            run = self.example(folder, "flash-checked", "image.rom", "-r", "COREBOOT", *words,
+                               status=2, **variables)
+            self.leaves(run, {**run.after, "chip": good}, words)
+            self.assertNotIn(b"-w", run.after.get("calls", b""))
+
+    def fails_to_write(self, failure):
+        """Makes flashrom damage the chip, and then end in this way, if the file `broken` exists."""
+        self.stand_in("flashrom", f'if [ "$3" = -w ] && [ -e broken ]; then\necho "$*" >> calls\n'
+                                  f'head -c 100 "$4" > chip\n{failure}\nfi\n{self.FLASHROM}')
+
+    def restored(self, old, new, *words, part=b"", **variables):
+        """Runs the script, whose write fails, and then the command that it prints. Returns the
+        message, and the contents of the chip after the failure and after the command."""
+        files = {"image.rom": new, "chip": old, "part": part, "broken": b""}
+        folder = self.folder({f"{HOSTILE}/{name}": data for name, data in files.items()})
+        environment = self.environment(**variables)
+        inside = ["sh", "-c", 'cd "./$0" && exec "$@"', HOSTILE, EXAMPLES / "flash-checked"]
+        run = folder.run([*inside, "image.rom", "-r", "COREBOOT", *words], environment=environment)
+        self.compare(folder, run, "status", 3, run.status)
+        after = (folder.path / HOSTILE / "chip").read_bytes()
+        [command] = re.findall(r"^  (flashrom .*)$", run.message.decode(), re.MULTILINE)
+        # (the command has an absolute path, so it also runs in another folder)
+        other = self.folder({"chip": after})
+        done = other.run(["bash", "-c", command], environment=environment)
+        self.compare(other, done, "status", 0, done.status)
+        written = self.calls(folder, HOSTILE)[-1]
+        if "--fmap" in words:
+            # (chip.rom is the complete chip, whose flash map may be damaged)
+            written = written.partition(" --fmap")[0]
+        backup = str(folder.path / HOSTILE / "chip.rom")
+        self.assertEqual(done.after["calls"].decode(), written.replace("COPY", backup) + "\n")
+        return run.message.decode(), after, done.after["chip"]
+
+    def test_a_failed_write(self):
+        """The script prints a command that writes the previous content of the chip back."""
+        self.fails_to_write("exit 1")
+        old, new = (board([("config", text)], self.areas(text)) for text in (b"1", b"2"))
+        for words, programmer in [
+            ([], "internal"), (["-c", "W25Q64.V (1)"], "dummy:emulate=W25Q128FV,image=a b'c\\"),
+            (["--fmap", "-i", "A", "-i", "B", "-N"], "internal"),
+        ]:
+            message, after, restored = self.restored(old, new, *words, PROGRAMMER=programmer)
+            self.assertEqual((after, restored), ((old if "-N" in words else new)[:100], old))
+            self.assertIn("Do not restart the board, and do not switch it off.", message)
+            self.assertNotIn("Never write chip.rom completely", message)
+
+    def test_a_failed_write_of_the_bios_region(self):
+        """chip.rom has zeros in place of the other regions, and the message says so."""
+        self.fails_to_write("exit 1")
+        chip = self.intel("BIOS", self.DESCRIPTOR)
+        part = chip[:0x1000] + bytes(0x1000) + chip[0x2000:]
+        new = self.intel("BIOS", b"\xff", b"\xff", b"new")
+        message, _, restored = self.restored(chip, new, "--ifd", "-i", "bios", "-N", part=part)
+        self.assertEqual(restored, part)
+        self.assertIn("Never write chip.rom completely", message)
+
+    def test_a_signal_during_the_write(self):
+        """A signal ends flashrom, or it and the script, as an interruption at a terminal does."""
+        old, new = board([("config", b"1")]), board([("config", b"2")])
+        to_all = [f"kill -{name} 0; exit 9" for name in ("INT", "HUP", "TERM")]
+        for failure in ["kill -9 $$", *to_all]:
+            with self.subTest(failure):
+                self.fails_to_write(failure)
+                _, after, restored = self.restored(old, new)
+                self.assertEqual((after, restored), (new[:100], old))
+
 
 class EditVerified(ExampleTest):
     """The script needs cbfsseal too."""
@@ -503,6 +636,186 @@ class EditVerified(ExampleTest):
         folder = self.folder({"image.rom": bytes(data), "content": b"content"})
         run = self.edit(folder, status=1)
         self.leaves(run, run.before)
+
+
+@unittest.skipUnless(shutil.which("jq"), "jq is not installed")
+class Sbom(ExampleTest):
+    """sbom prints a document with all components of the image, or nothing."""
+
+    # The SHA-256 of `1`, of nothing, and of `packed`.
+    ONE = "6b86b273ff34fce19d6b804eff5a3f5747ada4eaa22f1d49c01e52ddb7875b4b"
+    NOTHING = "e3b0c44298fc1c149afbf4c8996fb92427ae41e4649b934ca495991b7852b855"
+    PACKED = "88cb8a087b6e8cebfc9ae5602f5a2159a6bcf923e7f2c56809bcda6cad1727a7"
+
+    def image(self, *regions, areas=()):
+        """Returns an image with these regions, each a name and the components by their offsets."""
+        table, at = [image.Area("FMAP", 0, 0x400)], 0x400
+        for name, _ in regions:
+            table.append(image.Area(name, at, 0x200, 4))
+            at += 0x240
+        made = image.Image(at, [*table, *areas])
+        for area, (_, components) in zip(table[1:], regions):
+            made.put_at(area.offset, image.region(0x200, components))
+        return made.data()
+
+    def sbom(self, data, *words, name="image.rom", status=0, message=""):
+        """Runs the script on an image, and returns the document. Only the image is left."""
+        folder = self.folder({name: data})
+        run = self.example(folder, "sbom", name, *words, status=status, TMPDIR=".")
+        self.assertEqual(run.message.decode(), message and f"{name}: {message}\n")
+        self.leaves(run, run.before)
+        return json.loads(run.output)
+
+    def components(self, document):
+        """Returns reference, digest and properties of the components of a document."""
+        return [(one["bom-ref"], one["hashes"][0]["content"],
+                 " ".join(each["value"] for each in one["properties"]))
+                for one in document["components"]]
+
+    def refused(self, data, message, *words, **variables):
+        """Checks that the script prints a message and no document."""
+        folder = self.folder({"image.rom": data})
+        run = self.example(folder, "sbom", "image.rom", *words, status=2, TMPDIR=".", **variables)
+        self.leaves(run, run.before)
+        self.assertEqual(run.output, b"")
+        self.assertEqual(run.message.decode().splitlines()[-1], f"image.rom: {message}")
+
+    def test_the_document(self):
+        """The digest of a compressed component is that of its stored bytes."""
+        packed = image.Component(b'a"b', b"packed", gap=20, attributes=[image.compression(1, 99)])
+        data = self.image(("EMPTY", {}), ("COREBOOT", {0x80: packed}),
+                          areas=[image.Area("RW VPD", 0x840, 64, 8)])
+        self.assertEqual(self.sbom(data), {
+            "bomFormat": "CycloneDX",
+            "specVersion": "1.5",
+            "serialNumber": "urn:uuid:871bcd5d-ca90-896d-8c24-4eda0abb0232",
+            "version": 1,
+            "metadata": {"component": {
+                "type": "firmware",
+                "name": "image.rom",
+                "hashes": [{"alg": "SHA-256", "content":
+                            "871bcd5dca90896ddc244eda0abb0232777b6f7b7125fc5b085d4194f13bc33f"}],
+                "properties": [
+                    {"name": "coreboot:verdict", "value": "sound"},
+                    {"name": "coreboot:fmap-area", "value": "FMAP 0x0 1024 0x0"},
+                    {"name": "coreboot:fmap-area", "value": "EMPTY 0x400 512 0x4"},
+                    {"name": "coreboot:fmap-area", "value": "COREBOOT 0x640 512 0x4"},
+                    {"name": "coreboot:fmap-area", "value": "RW\\x20VPD 0x840 64 0x8"},
+                ],
+            }},
+            "components": [{
+                "type": "file",
+                "bom-ref": 'COREBOOT/a"b@0x80',
+                "name": 'a"b',
+                "hashes": [{"alg": "SHA-256", "content": self.PACKED}],
+                "properties": [
+                    {"name": "coreboot:area", "value": "COREBOOT"},
+                    {"name": "coreboot:type", "value": "raw"},
+                    {"name": "coreboot:offset", "value": "0x80"},
+                    {"name": "coreboot:content-offset", "value": "0x700"},
+                    {"name": "coreboot:size", "value": "6"},
+                    {"name": "coreboot:compression", "value": "LZMA"},
+                    {"name": "coreboot:hash", "value": "no hash"},
+                ],
+            }],
+        })
+
+    def test_names(self):
+        """Names are as print shows them, and a reference is unique."""
+        one = image.Component(b"B/a", b"1", attributes=[image.hash_attribute(image.SHA256, b"1")])
+        two = image.Component("a\u00e4\u20ac\u202e\U0001f600\x7f\n".encode(), b"", type=0x77)
+        three = image.Component(b"\xff\x9b\\ ~", b"1", type=image.CBFS_HEADER)
+        data = self.image(("A", {0: one, 0x80: image.Component(b"", b"1")}),
+                          ("A/B", {0: image.Component(b"a", b"1")}), (b"\xfe A", {0: two}),
+                          ("COREBOOT", {0x40: three}))
+        document = self.sbom(data, name=HOSTILE)
+        self.assertEqual(document["metadata"]["component"]["name"], HOSTILE)
+        shown = r"a\xc3\xa4\xe2\x82\xac\xe2\x80\xae\xf0\x9f\x98\x80\x7f\x0a"
+        self.assertEqual(self.components(document), [
+            ("A/B/a@0x0", self.ONE, "A raw 0x0 0x448 1 none sha256 valid"),
+            ("A/@0x80", self.ONE, "A raw 0x80 0x49c 1 none no hash"),
+            (r"A\x2fB/a@0x0", self.ONE, "A/B raw 0x0 0x65c 1 none no hash"),
+            (rf"\xfe\x20A/{shown}@0x0", self.NOTHING, r"\xfe\x20A 0x77 0x0 0x8a8 0 none no hash"),
+            (r"COREBOOT/\xff\x9b\x5c\x20~@0x40", self.ONE,
+             "COREBOOT cbfs header 0x40 0xb20 1 none no hash"),
+        ])
+        self.assertEqual([one["name"] for one in document["components"]],
+                         ["B/a", "", "a", shown, r"\xff\x9b\x5c\x20~"])
+
+    def test_no_components(self):
+        document = self.sbom(self.image(("COREBOOT", {})), "-r", "COREBOOT")
+        self.assertEqual(document["components"], [])
+
+    def test_bad_findings(self):
+        """The document is printed, also if options require more than the image has."""
+        wrong = image.Component(b"a", b"1", attributes=[image.hash_attribute(image.SHA256, b"2")])
+        data = self.image(("COREBOOT", {0: wrong, 0x80: image.Component(b"a", b"1")}))
+        for words in [], ["-v", "--all-hashed", "--need", "COREBOOT:none"]:
+            document = self.sbom(data, *words, status=1, message="the document has all "
+                                 "components, but cbfscheck reports something bad")
+            verdict = document["metadata"]["component"]["properties"][0]["value"]
+            self.assertEqual(verdict, "not sound")
+            self.assertEqual(self.components(document), [
+                ("COREBOOT/a@0x0", self.ONE, "COREBOOT raw 0x0 0x448 1 none sha256 invalid"),
+                ("COREBOOT/a@0x80", self.ONE, "COREBOOT raw 0x80 0x49c 1 none no hash"),
+            ])
+
+    def test_components_that_would_be_missing(self):
+        one, two = (image.Component(name, b"1") for name in (b"a", b"b"))
+        good = self.image(("COREBOOT", {0: one, 0x40: two, 0x80: one}))
+        damaged = self.image(("COREBOOT", {0: image.Component(b"a", length=0x4000)}))
+        same = self.image(("A", {0: one}), ("A", {0: two}))
+        # (an area begins at each of the first four entries, and ends with the image)
+        nested = image.Image(0x1000, [image.Area("FMAP", 0, 0x200), *[
+            image.Area(f"A{each}", 0x200 + each * 64, 0xE00 - each * 64) for each in range(4)]])
+        nested.put("A0", image.region(0xE00, {each * 64: one for each in range(4)}))
+        # (more rows than are printed, so that the last one has no area)
+        outside = self.image(areas=[image.Area(f"A{at}", 0x400, at) for at in range(1, 20)])
+        for data, message, words in [
+            (good, "NONE: no such area", ["-r", "NONE"]), (good, "FMAP: no CBFS", ["-r", "FMAP"]),
+            (good.replace(two.bytes, b"\xff" * 64),
+             "COREBOOT: unused tail has other bytes than 0xff and 0x00", []),
+            (damaged, "COREBOOT: damaged entry: extent", []),
+            (same, "several areas have the name A", []),
+            (nested.data(), "A2: isn't checked: checked areas would exceed twice the image", []),
+            (outside, "A1: ends outside the image", []),
+            (bytes(len(good)), "cbfstool lists no areas", []),
+            (good, "one image only", ["image.rom"]), (good, "cbfscheck makes no report", ["-r"]),
+            (good, "no report can be read", ["--help"]),
+        ]:
+            with self.subTest(message):
+                self.refused(data, message, *words)
+
+    def test_files_and_programs_that_cannot_be_used(self):
+        good = self.image(("COREBOOT", {}))
+        self.refused(good, "cbfscheck makes no report", CBFSCHECK="./absent")
+        self.refused(good, "cbfstool lists no areas", CBFSTOOL="./absent")
+        for words in [], ["absent.rom"], ["."]:
+            run = self.example(self.folder({"image.rom": good}), "sbom", *words, status=2)
+            self.assertEqual(run.output, b"")
+        folder = self.folder({"image.rom": good})
+        words = ["sh", "-c", '"$0" image.rom > /dev/full', EXAMPLES / "sbom"]
+        self.assertEqual(folder.run(words, environment=self.environment()).status, 2)
+
+    def test_an_image_that_changes(self):
+        """The script waits for a writer, and reads a copy of what the writer leaves."""
+        old, new = (self.image(("COREBOOT", {0: image.Component(b"a", text)}))
+                    for text in (b"0", b"1"))
+        wanted = self.sbom(new)
+        self.stand_in("cbfscheck", 'printf 2 > image.rom\nexec "$REAL" "$@"')
+        folder = self.folder({"image.rom": old})
+        path = folder.path / "image.rom"
+        with locked(path):
+            words = [EXAMPLES / "sbom", "image.rom"]
+            started = folder.start(words, environment=self.environment())
+            # (flock is a process of its own)
+            while started.process.poll() is None and not waits_for_lock(r"\d+", path):
+                time.sleep(0.01)
+            path.write_bytes(new)
+        run = started.end()
+        self.compare(folder, run, "status", 0, run.status)
+        self.assertEqual(run.after["image.rom"], b"2")
+        self.assertEqual(json.loads(run.output), wanted)
 
 
 if __name__ == "__main__":

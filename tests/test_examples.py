@@ -417,12 +417,14 @@ class FlashChecked(ExampleTest):
         self.leaves(run, {**run.after, "chip": good})
 
     def test_a_dangling_link_for_the_backup(self):
-        """flashrom would write the backup to the file that the link names."""
-        folder = self.folder({"image.rom": board(), "chip": b"chip"})
+        """flashrom would write the backup to the file that the link names. An earlier report is
+        emptied, so that nobody takes it for that of this image."""
+        folder = self.folder({"image.rom": board(), "chip": b"chip", "report.txt": b"earlier"})
         (folder.path / "chip.rom").symlink_to("elsewhere")
         run = self.example(folder, "flash-checked", "image.rom", "-r", "COREBOOT", status=2)
         self.assertEqual(run.message, b"chip.rom exists: move it away first\n")
-        self.has_files(folder, "image.rom", "chip", "chip.rom")
+        self.has_files(folder, "image.rom", "chip", "chip.rom", "report.txt")
+        self.assertEqual(run.after["report.txt"], b"")
 
     def test_a_bad_image_is_not_written(self):
         folder = self.folder({"image.rom": b"no image", "chip": b"chip"})
@@ -431,7 +433,7 @@ class FlashChecked(ExampleTest):
         self.assertIn(b"bad\t-\t-\t-\tno flashmap", run.output)
 
     def test_an_image_name_of_any_bytes(self):
-        folder = self.folder({HOSTILE: board(), "chip": b"chip"})
+        folder = self.folder({HOSTILE: board(), "chip": bytes(len(board()))})
         run = self.example(folder, "flash-checked", HOSTILE, "-r", "COREBOOT")
         self.leaves(run, {**run.after, "chip": board()})
         self.has_files(folder, HOSTILE, "chip", "chip.rom", "report.txt")

@@ -30,7 +30,8 @@ TYPES = (
 )
 ADD = "image.rom add -n a -f unmade -t raw"
 
-# the arguments, the command whose usage follows, and the explanation
+# the arguments, the command whose usage follows, the explanation, and the word that is meant, if
+# the wrong word is near a known one
 ROWS = [
     ("image.rom", "", "no command after the image 'image.rom'"),
     ("--help", "", "'--help' precedes the command: options follow it"),
@@ -40,7 +41,12 @@ ROWS = [
     ("extract image.rom -n a -f unmade", "extract",
      "the image comes before the command: cbfstool image.rom extract"),
     ("image.rom frobnicate", "", "'frobnicate' is no command"),
-    ("image.rom Print", "", "'Print' is no command"),
+    ("image.rom Print", "", "'Print' is no command", "print"),
+    ("image.rom prnt", "", "'prnt' is no command", "print"),
+    ("image.rom pritn", "", "'pritn' is no command", "print"),
+    ("image.rom removes", "", "'removes' is no command", "remove"),
+    ("image.rom ad", "", "'ad' is no command", "add"),
+    ("image.rom prn", "", "'prn' is no command"),
     ("image.rom ''", "", "'' is no command"),
     ("image.rom -r COREBOOT print", "", "'-r' precedes the command: options follow it"),
     ("image.rom help", "", "'help' is not supported: see the manual page cbfstool(1)"),
@@ -51,7 +57,11 @@ ROWS = [
     ("image.rom remove -n a -f unmade", "remove", "'-f' is no option of this command"),
     ("image.rom print -c lzma", "print", "'-c' is no option of this command"),
     (f"{ADD} -c lzma", "add", "'-c' is no option of this command"),
-    ("image.rom print --region COREBOOT", "print", "'--region' is no option of this command"),
+    ("image.rom print --region COREBOOT", "print", "'--region' is no option of this command", "-r"),
+    ("image.rom print --regoin=A", "print", "'--regoin=A' is no option of this command", "-r"),
+    ("image.rom add --hash-algorithm x", "add", "'--hash-algorithm' is no option of this command",
+     "-A"),
+    ("image.rom layout --region A", "layout", "'--region' is no option of this command"),
     ("image.rom print -r", "print", "option '-r' has no value"),
     ("image.rom extract -n -f unmade", "extract", "option '-n' has no value"),
     ("image.rom print -r A -r B", "print", "option '-r' is given twice"),
@@ -92,29 +102,37 @@ ROWS = [
      r"the image comes before the command: cbfstool \x1b[2J print"),
 ]
 
-# the arguments, the refusal, and the line that names its subject
+AREAS = (
+    "cbfstool: its areas are: SI_ALL, SI_DESC, SI_ME, SI_BIOS, RW_MRC_CACHE, RW_SECTION_A, "
+    "VBLOCK_A, FW_MAIN_A, RW_FWID_A, RO, FMAP, GBB, COREBOOT\n"
+)
+
+# the arguments, the refusal, and the lines that name its subject, and what could have been meant
 SUBJECTS = [
     ("image.rom print -r coreboot", "no such region",
-     "cbfstool: the flash map has no area 'coreboot'\n"),
+     "cbfstool: the flash map has no area 'coreboot'\n" + AREAS),
     (["image.rom", "print", "-r", "a\x07"], "no such region",
-     "cbfstool: the flash map has no area 'a\\x07'\n"),
+     "cbfstool: the flash map has no area 'a\\x07'\n" + AREAS),
     ("image.rom remove -n absent", "no such component",
      "cbfstool: the region 'COREBOOT' has no component 'absent'\n"),
     ("image.rom add -n t/raw -f source -t raw", "component exists",
      "cbfstool: the region 'COREBOOT' has a component 't/raw'\n"),
-    ("absent.rom print", "device fault", "cbfstool: fault of the image 'absent.rom'\n"),
-    ("folder print", "device fault", "cbfstool: fault of the image 'folder'\n"),
+    ("absent.rom print", "device fault",
+     "cbfstool: fault of the image 'absent.rom': No such file or directory\n"),
+    ("folder print", "device fault",
+     "cbfstool: fault of the image 'folder': Is a directory\n"),
     ("image.rom add -n a -f absent -t raw", "source fault",
-     "cbfstool: fault of the file 'absent'\n"),
+     "cbfstool: fault of the file 'absent': No such file or directory\n"),
     ("source print", "no FMAP", ""),
     ("image.rom add -n '' -f source -t raw", "bad name", ""),
 ]
 
 
-def explained(command, line):
+def explained(command, line, meant=None):
     """Returns the refusal and the lines that explain it."""
     usage = USAGES.get(command, USAGES[""])
-    return f"{REFUSAL}cbfstool: {line}\nusage: cbfstool IMAGE {usage}\n"
+    known = f"cbfstool: did you mean '{meant}'?\n" if meant else ""
+    return f"{REFUSAL}cbfstool: {line}\n{known}usage: cbfstool IMAGE {usage}\n"
 
 
 def read_terminal(master):
@@ -139,12 +157,12 @@ class Explanations(ProgramTest):
                           environment=environment)
 
     def test_with_the_variable(self):
-        for arguments, command, line in ROWS:
+        for arguments, command, *lines in ROWS:
             with self.subTest(arguments):
-                self.refused(arguments, explained(command, line), CBFSTOOL_EXPLAIN="1")
+                self.refused(arguments, explained(command, *lines), CBFSTOOL_EXPLAIN="1")
 
     def test_without_a_terminal(self):
-        for arguments, _, _ in ROWS:
+        for arguments, *_ in ROWS:
             with self.subTest(arguments):
                 self.refused(arguments, REFUSAL)
 
@@ -171,6 +189,15 @@ class Explanations(ProgramTest):
                            environment={"CBFSTOOL_EXPLAIN": "1"})
                 self.check(self.words(arguments), files, 1, message=message)
 
+    def test_areas_of_a_given_map(self):
+        # `create` has filled the image when it finds no area
+        files = {"given": IMAGE[Sample("types").map.position :]}
+        self.check("cbfstool made.rom create -M given -r COREBOOT,absent", files, 1,
+                   message="cbfstool: no such region\n"
+                   "cbfstool: one of these is no area of the flash map: 'COREBOOT,absent'\n"
+                   + AREAS, left={"made.rom": b"\xff" * len(IMAGE)},
+                   environment={"CBFSTOOL_EXPLAIN": "1"})
+
 
 class Terminals(ProgramTest):
     """Standard error is a pseudo-terminal, and the other streams are pipes."""
@@ -193,10 +220,10 @@ class Terminals(ProgramTest):
         return done.returncode, done.stdout, message.decode()
 
     def test_bad_command_lines(self):
-        for arguments, command, line in ROWS:
+        for arguments, command, *lines in ROWS:
             with self.subTest(arguments):
                 self.assertEqual(self.on_terminal(words_of(arguments)),
-                                 (2, b"", explained(command, line)))
+                                 (2, b"", explained(command, *lines)))
 
     def test_other_refusals(self):
         self.assertEqual(self.on_terminal(["image.rom", "remove", "-n", "absent"]),

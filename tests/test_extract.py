@@ -4,7 +4,7 @@ import unittest
 
 from tests.image import RAW, Area, Component, Image, empty_region, head, join
 from tests.programs import HAS_COMPILER, Faults, ProgramTest, if_memory_can_be_refused
-from tests.regions import cells, compression_of
+from tests.regions import cells
 from tests.samples import NAMES, Sample
 
 AREAS = [Area("FMAP", 0, 512), Area("COREBOOT", 512, 512), Area("REST", 1024, 3072)]
@@ -31,7 +31,7 @@ class Extract(ProgramTest):
                     command = ["cbfstool", "image.rom", "extract", "-n", cell.name.decode(),
                                "-f", "out"]
                     files = {"image.rom": sample.image, "out": LONGER}
-                    if compression_of(cell.attributes):
+                    if cell.compression():
                         self.refuses(1, "component is compressed", command, files, {"out": b""})
                     else:
                         self.check(command, files, left={"out": cell.content})

@@ -32,7 +32,7 @@ FILES = """
 755 share/doc/cbfstool@/examples/add-aligned add-at-address add-at-end bad-digests cbfs-regions
 755 share/doc/cbfstool@/examples/check-build component-digest component-place copy-preserved
 755 share/doc/cbfstool@/examples/edit-verified extract-all flash-checked flashrom-layout fmap-config
-755 share/doc/cbfstool@/examples/replace-component sign-region undo-nested-map
+755 share/doc/cbfstool@/examples/replace-component sbom sign-region undo-nested-map
 644 share/fish/vendor_completions.d/cbfstool@.fish fmaptool@.fish cbfscheck@.fish cbfsseal@.fish
 644 share/man/man1/cbfstool@.1 fmaptool@.1 cbfscheck@.1 cbfsseal@.1
 644 share/man/man5/fmd@.5

@@ -9,7 +9,7 @@ import subprocess
 import sys
 import unittest
 
-from tests.findings import CheckTest, board, free, report
+from tests.findings import CheckTest, board, conclusion, free, report
 from tests.image import Component, join
 from tests.programs import program
 
@@ -54,7 +54,7 @@ class CheckedAreas(CheckTest):
             remark|L|-|-|free bytes|2048
             remark|L|-|-|largest content that add takes|2016
             remark|E|-|0xfc0|isn't checked: checked areas would exceed twice the image
-            0 bad, 14 remarks, 0 changes
+            sound: 0 bad, 14 remarks, 0 changes
         """)
 
     def test_the_last_area_exceeds_the_limit(self):
@@ -73,7 +73,7 @@ class CheckedAreas(CheckTest):
             remark|E|-|-|no components
             remark|E|-|-|free bytes|64
             remark|E|-|-|largest content that add takes|32
-            0 bad, 14 remarks, 0 changes
+            sound: 0 bad, 14 remarks, 0 changes
         """)
 
 
@@ -91,14 +91,14 @@ class Overlaps(CheckTest):
             remark|-|-|0x0|flashmap
             bad|A|-|0x40ffd|overlaps|B
             bad|B|-|0x40ffe|overlaps|A
-            2 bad, 1 remarks, 0 changes
+            not sound: 2 bad, 1 remarks, 0 changes
         """)
 
     def test_4097_areas(self):
         self.reports(1, self.image(4094), """
             remark|-|-|0x0|flashmap
             bad|-|-|-|too many areas to look for overlaps
-            1 bad, 1 remarks, 0 changes
+            not sound: 1 bad, 1 remarks, 0 changes
         """)
 
 
@@ -110,8 +110,8 @@ class ComparedAreas(CheckTest):
         areas = [("FMAP", 0, 0x2000), *((f"P{n}", 0, 0x2000) for n in range(1, 18))]
         new = board(0x2000, areas)
         old = board(0x4000, areas, (0x1FFF, b"\0"), map_size=0x2000)
-        self.changes(0, old, new, """
-            change|-|-|-|image size changed from|0x4000
+        self.changes(1, old, new, """
+            bad|-|-|-|image size changed from|0x4000
             change|-|-|-|erase blocks differ|3
             change|FMAP|-|0x0|erase blocks differ|1
             change|P1|-|0x0|erase blocks differ|1
@@ -131,7 +131,7 @@ class ComparedAreas(CheckTest):
             change|P15|-|0x0|not compared
             change|P16|-|0x0|not compared
             change|P17|-|0x0|not compared
-            0 bad, 1 remarks, 20 changes
+            not sound: 1 bad, 1 remarks, 19 changes
         """)
 
     def test_a_shorter_old_image(self):
@@ -139,8 +139,8 @@ class ComparedAreas(CheckTest):
         areas = [("FMAP", 0, 0x1000), *((f"P{n}", 0, 0x1000) for n in range(1, 18))]
         new = board(0x2000, areas)
         old = board(0x1000, areas, (0xFFF, b"\0"), map_size=0x2000)
-        self.changes(0, old, new, """
-            change|-|-|-|image size changed from|0x1000
+        self.changes(1, old, new, """
+            bad|-|-|-|image size changed from|0x1000
             change|-|-|-|erase blocks differ|2
             change|FMAP|-|0x0|erase blocks differ|1
             change|P1|-|0x0|erase blocks differ|1
@@ -160,7 +160,7 @@ class ComparedAreas(CheckTest):
             change|P15|-|0x0|erase blocks differ|1
             change|P16|-|0x0|not compared
             change|P17|-|0x0|not compared
-            0 bad, 1 remarks, 20 changes
+            not sound: 1 bad, 1 remarks, 19 changes
         """)
 
     # Seven areas of the whole image, after which one of eight lengths is left.
@@ -185,7 +185,7 @@ class ComparedAreas(CheckTest):
             change|R|-|0x1ffe|not compared
             change|S|-|0x1fff|erase blocks differ|1
             change|T|-|0x1fff|not compared
-            0 bad, 2 remarks, 12 changes
+            sound: 0 bad, 2 remarks, 12 changes
         """)
 
     def test_an_inner_area_that_is_compared(self):
@@ -195,7 +195,7 @@ class ComparedAreas(CheckTest):
         self.changes(0, old, new, """
             change|-|-|-|erase blocks differ|1
             change|I|-|0x1000|erase blocks differ|1
-            0 bad, 1 remarks, 2 changes
+            sound: 0 bad, 1 remarks, 2 changes
         """)
 
     def test_an_inner_area_that_is_not_compared(self):
@@ -204,7 +204,7 @@ class ComparedAreas(CheckTest):
         self.changes(0, old, new, """
             change|-|-|-|erase blocks differ|1
             change|I|-|0x1000|not compared
-            0 bad, 1 remarks, 2 changes
+            sound: 0 bad, 1 remarks, 2 changes
         """)
 
     def test_areas_that_take_nothing_from_the_limit(self):
@@ -229,7 +229,7 @@ class ComparedAreas(CheckTest):
             change|Q|-|0x0|erase blocks differ|1
             change|R|-|0xfff|not compared
             change|X|-|0x0|area gone
-            0 bad, 1 remarks, 15 changes
+            sound: 0 bad, 1 remarks, 15 changes
         """)
 
 
@@ -266,7 +266,7 @@ class ComparedRegions(CheckTest):
             change|B|-|0x240|area resized from|0x400
             change|A|-|0x200|components not compared
             change|B|a|0x0|component added
-            0 bad, 9 remarks, 7 changes
+            sound: 0 bad, 9 remarks, 7 changes
         """)
 
     def test_a_region_that_ended_with_the_image_takes_its_size(self):
@@ -278,7 +278,7 @@ class ComparedRegions(CheckTest):
             change|B|-|0x240|area resized from|0x201
             change|A|a|0x0|component added
             change|B|-|0x240|components not compared
-            0 bad, 9 remarks, 7 changes
+            sound: 0 bad, 9 remarks, 7 changes
         """)
 
     def test_two_regions_of_the_old_length(self):
@@ -290,7 +290,7 @@ class ComparedRegions(CheckTest):
             change|B|-|0x240|area resized from|0x200
             change|A|a|0x0|component added
             change|B|a|0x0|component added
-            0 bad, 9 remarks, 7 changes
+            sound: 0 bad, 9 remarks, 7 changes
         """)
 
     def test_a_region_of_what_a_larger_one_left(self):
@@ -307,7 +307,7 @@ class ComparedRegions(CheckTest):
             change|A|a|0x0|component added
             change|B|-|0x240|components not compared
             change|C|a|0x0|component added
-            0 bad, 13 remarks, 10 changes
+            sound: 0 bad, 13 remarks, 10 changes
         """)
 
     def test_two_regions_that_exceed_what_is_left(self):
@@ -323,7 +323,7 @@ class ComparedRegions(CheckTest):
             change|A|a|0x0|component added
             change|B|-|0x240|components not compared
             change|C|-|0x300|components not compared
-            0 bad, 13 remarks, 10 changes
+            sound: 0 bad, 13 remarks, 10 changes
         """)
 
     def test_an_added_region_takes_nothing(self):
@@ -334,7 +334,7 @@ class ComparedRegions(CheckTest):
             change|B|-|0x240|area moved from|0x0
             change|B|-|0x240|area resized from|0x400
             change|B|a|0x0|component added
-            0 bad, 9 remarks, 6 changes
+            sound: 0 bad, 9 remarks, 6 changes
         """)
 
     GROWN = [("A", 0x200, 0x100), ("B", 0x300, 0x40)]
@@ -348,7 +348,7 @@ class ComparedRegions(CheckTest):
             change|B|-|0x300|area resized from|0x3c0
             change|A|a|0x0|component added
             change|B|a|0x0|component added
-            0 bad, 9 remarks, 7 changes
+            sound: 0 bad, 9 remarks, 7 changes
         """)
 
     def test_the_old_sizes_exceed_the_limit(self):
@@ -360,13 +360,13 @@ class ComparedRegions(CheckTest):
             change|B|-|0x300|area resized from|0x3c1
             change|A|a|0x0|component added
             change|B|-|0x300|components not compared
-            0 bad, 9 remarks, 7 changes
+            sound: 0 bad, 9 remarks, 7 changes
         """)
 
     def test_a_shorter_old_image(self):
         old = [("A", 0, 0x400), ("B", 0, 0x3C0)]
-        self.changes(0, *self.images(0x400, old, 0x1001, [self.A, self.B]), """
-            change|-|-|-|image size changed from|0x400
+        self.changes(1, *self.images(0x400, old, 0x1001, [self.A, self.B]), """
+            bad|-|-|-|image size changed from|0x400
             change|-|-|-|erase blocks differ|2
             change|FMAP|-|0x0|erase blocks differ|1
             change|A|-|0x200|area moved from|0x0
@@ -375,13 +375,13 @@ class ComparedRegions(CheckTest):
             change|B|-|0x240|area resized from|0x3c0
             change|A|a|0x0|component added
             change|B|-|0x240|components not compared
-            0 bad, 9 remarks, 9 changes
+            not sound: 1 bad, 9 remarks, 8 changes
         """)
 
     def test_regions_of_a_longer_old_image(self):
         old = [("A", 0, 0x800), ("B", 0, 0x801)]
-        self.changes(0, *self.images(0x1001, old, 0x400, [self.A, self.B]), """
-            change|-|-|-|image size changed from|0x1001
+        self.changes(1, *self.images(0x1001, old, 0x400, [self.A, self.B]), """
+            bad|-|-|-|image size changed from|0x1001
             change|-|-|-|erase blocks differ|2
             change|FMAP|-|0x0|erase blocks differ|1
             change|A|-|0x200|area moved from|0x0
@@ -390,13 +390,13 @@ class ComparedRegions(CheckTest):
             change|B|-|0x240|area resized from|0x801
             change|A|a|0x0|component added
             change|B|a|0x0|component added
-            0 bad, 9 remarks, 9 changes
+            not sound: 1 bad, 9 remarks, 8 changes
         """)
 
     def test_regions_that_exceed_a_longer_old_image(self):
         old = [("A", 0, 0x800), ("B", 0, 0x802)]
-        self.changes(0, *self.images(0x1001, old, 0x400, [self.A, self.B]), """
-            change|-|-|-|image size changed from|0x1001
+        self.changes(1, *self.images(0x1001, old, 0x400, [self.A, self.B]), """
+            bad|-|-|-|image size changed from|0x1001
             change|-|-|-|erase blocks differ|2
             change|FMAP|-|0x0|erase blocks differ|1
             change|A|-|0x200|area moved from|0x0
@@ -405,7 +405,7 @@ class ComparedRegions(CheckTest):
             change|B|-|0x240|area resized from|0x802
             change|A|a|0x0|component added
             change|B|-|0x240|components not compared
-            0 bad, 9 remarks, 9 changes
+            not sound: 1 bad, 9 remarks, 8 changes
         """)
 
 
@@ -473,7 +473,7 @@ class MemoryTest(CheckTest):
             self.assertEqual([*seen, found["bad"], found["remarks"], found["changes"]],
                              [len(printed_rows), len(listed), *counts])
         else:
-            last = "{} bad, {} remarks, {} changes".format(*counts)
+            last = conclusion(*counts)
             expected = report("\n".join([*listed, *printed_rows, last]))
             self.assertTrue(printed == expected, printed[:2000])
         self.assertEqual(int(status), 1 if counts[0] else 0)

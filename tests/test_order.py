@@ -6,10 +6,11 @@ image or text. The image stays as it is, unless the row says otherwise.
 """
 
 from tests.image import (
-    COMPRESSION_TAG, DELETED, LZMA, SHA256, SHA512, Area, Component, FreeEntry, Image, attribute,
-    compression, empty_region, flash_map, hash_attribute, join,
+    COMPRESSION_TAG, DELETED, LZMA, SHA256, SHA512, STAGE, Area, Component, FreeEntry, Image,
+    attribute, compression, empty_region, flash_map, hash_attribute, join, region,
 )
 from tests.programs import ProgramTest
+from tests.structured_board import PLACES, board as structured
 
 FMAP = Area("FMAP", 0, 0x200)
 COREBOOT = Area("COREBOOT", 0x400, 0x400)
@@ -296,7 +297,7 @@ class CheckArguments(ProgramTest):
     """The errors of cbfscheck's arguments: the first wrong argument, no image, no second image, the
     lists of -r, --keep and --need; then OLD and NEW."""
 
-    TWO = "--keep and --keep-preserved need two images"
+    TWO = "--flash, --keep and --keep-preserved need two images"
 
     rows = [
         ("an unknown option before a third path", "--none a b c", "unknown option '--none'"),
@@ -314,6 +315,7 @@ class CheckArguments(ProgramTest):
         ("no image before a bad list", "-r ,", "no image"),
         ("no second image before the list of -r", "image.rom --keep A -r ,", TWO),
         ("no second image before the list of --keep", "image.rom --keep ,", TWO),
+        ("--flash: no second image before a need", "image.rom --flash --need x", TWO),
         ("--keep-preserved: no second image before a need", "image.rom --keep-preserved --need x",
          TWO),
         ("the list of -r before that of --keep", "a b --keep x, -r ,y",
@@ -341,7 +343,7 @@ class CheckArguments(ProgramTest):
             with self.subTest(title):
                 self.refuses(2, error, f"cbfscheck {words}", {"image.rom": b"no map"})
 
-    VERSION = "cbfscheck 2.3\n"
+    VERSION = "cbfscheck 3.0\n"
 
     def test_help_and_version(self):
         self.check("cbfscheck --none --version --help", output=self.VERSION)
@@ -426,9 +428,9 @@ class MapFindings(ReportTest):
              ["bad - - - too_many_areas_to_look_for_overlaps", none]),
             ("an overlap before the place of the map", 0x800,
              [COREBOOT, Area("FMAP", 1, 0x200), *overlap],
-             ["bad C - 0x241 overlaps B", "bad FMAP - 0x1 doesn't_hold_the_flashmap"]),
+             ["bad C - 0x241 overlaps B", "bad FMAP - 0x1 doesn't_begin_with_the_flashmap"]),
             ("the place of the map before a region", 0x800, [COREBOOT, Area("FMAP", 1, 0x200)],
-             ["bad FMAP - 0x1 doesn't_hold_the_flashmap", COMPLETE]),
+             ["bad FMAP - 0x1 doesn't_begin_with_the_flashmap", COMPLETE]),
         ]:
             at = 0x400 if size == 0x800 else 0x3F000
             areas = [Area("COREBOOT", at, 0x400), *areas[1:]]
@@ -442,6 +444,7 @@ class RegionFindings(ReportTest):
     CONTENT = b"0123456789"
     DIGEST = [hash_attribute(SHA256, CONTENT)]
     WRONG = [hash_attribute(SHA512, b"other")]
+    NO_STAGE = "bad COREBOOT x 0x0 stage_has_no_stage_attribute_of_24_bytes"
 
     def test_rows_of_a_cell(self):
         odd = Component(b"\xff", self.CONTENT)
@@ -462,6 +465,15 @@ class RegionFindings(ReportTest):
             ("the type before an invalid hash",
              [Component(b"x", self.CONTENT, attributes=self.WRONG, **typed)], "",
              [type_row, "bad COREBOOT x 0x0 sha512_invalid"]),
+            ("a hash before the fault of the attributes",
+             [Component(b"x", self.CONTENT, attributes=self.DIGEST, type=STAGE)], "",
+             ["remark COREBOOT x 0x0 sha256_valid", self.NO_STAGE]),
+            ("the fault of the attributes before the next component",
+             [Component(b"x", type=STAGE), Component(b"x")], "",
+             [self.NO_STAGE, "bad COREBOOT x 0x40 has_the_name_of_an_earlier_component"]),
+            ("the fault of the attributes before a deleted component",
+             [Component(b"x", type=STAGE), FreeEntry(0x40, type=DELETED)], "",
+             [self.NO_STAGE, "remark COREBOOT - 0x40 deleted_component"]),
             ("a hash before the next component",
              [Component(b"x", self.CONTENT, attributes=self.DIGEST), Component(b"x")], "",
              ["remark COREBOOT x 0x0 sha256_valid",
@@ -540,7 +552,7 @@ class RegionFindings(ReportTest):
         self.in_order("omitted rows after all others", "cbfscheck image.rom --need COREBOOT:x",
                       files, "bad COREBOOT x - needed_component_isn't_there",
                       "remark - - - more_of_these 1", "bad - - - more_of_these 1",
-                      "18 bad, 22 remarks, 0 changes".replace(" ", "_"))
+                      "not sound: 18 bad, 22 remarks, 0 changes".replace(" ", "_"))
 
 
 class Changes(ReportTest):
@@ -556,8 +568,8 @@ class Changes(ReportTest):
     def test_rows_of_images_and_maps(self):
         old = self.image()
         no_map = self.image(signature=b"__FMAX__")
-        size = "change - - - image_size_changed_from 0x1000"
-        moved = "change - - - flashmap_moved_from 0x0"
+        size = "bad - - - image_size_changed_from 0x1000"
+        moved = "change - - - flashmap_moved_from 0x10"
         base = "change - - - base_address_changed_from 0x0"
         name = "change - - - name_of_the_flashmap_changed"
         last = "remark COREBOOT - - largest_content_that_add_takes 992"
@@ -568,17 +580,18 @@ class Changes(ReportTest):
             ("the size before the blocks", old[:0x1000], old, [size, f"{self.BLOCKS} 1"]),
             ("the blocks before no map", no_map, old,
              [f"{self.BLOCKS} 1", "change - - - the_old_image_has_no_flashmap"]),
-            ("the blocks before the place of the map", old, self.image(map_at=0x10),
+            ("the blocks before the place of the map", self.image(map_at=0x10), old,
              [f"{self.BLOCKS} 1", moved]),
-            ("the place of the map before the base address", old,
-             self.image(map_at=0x10, base=1), [moved, base]),
+            ("the place of the map before the base address", self.image(map_at=0x10),
+             self.image(base=1), [moved, base]),
             ("the base address before the name", old, self.image(base=1, name=b"OTHER"),
              [base, name]),
             ("the name before an area", old, self.image(shifted, name=b"OTHER"),
              [name, "change DATA - 0x1100 area_moved_from 0x1000"]),
         ]:
             self.in_order(title, "cbfscheck old.rom new.rom",
-                          {"old.rom": before, "new.rom": after}, *rows, status=0)
+                          {"old.rom": before, "new.rom": after}, *rows,
+                          status=int(len(before) != len(after)))
 
     def test_rows_of_areas(self):
         moved = "change DATA - 0x1100 area_moved_from 0x1000"
@@ -613,6 +626,21 @@ class Changes(ReportTest):
         ]:
             self.in_order(title, "cbfscheck old.rom new.rom",
                           {"old.rom": old, "new.rom": after}, *rows, status=status)
+
+    def test_rows_of_structures(self):
+        """A structure that is lost stands behind the number of blocks, and before the areas."""
+        gbb = "bad GBB - - GBB_is_gone"
+        for title, after, rows in [
+            ("the blocks before a structure", structured(GBB=None), [f"{self.BLOCKS} 3", gbb]),
+            ("a structure before the areas", structured(GBB=None),
+             [gbb, "change GBB - 0x3000 erase_blocks_differ 3"]),
+            ("structures in their order",
+             structured(GBB=None, COREBOOT=region(PLACES["COREBOOT"][1], {})),
+             ["bad COREBOOT - - no_bootblock_ends_the_image_any_more",
+              "bad COREBOOT - - master_header_is_gone", gbb]),
+        ]:
+            self.in_order(title, "cbfscheck old.rom new.rom",
+                          {"old.rom": structured(), "new.rom": after}, *rows)
 
     def test_rows_of_components(self):
         def region(*components):
@@ -653,6 +681,9 @@ class Changes(ReportTest):
                       files, added, "bad NONE - - no_such_area")
         self.in_order("the names in order", "cbfscheck old.rom new.rom --keep Z,A", files,
                       "bad Z - - no_such_area", "bad A - - no_such_area")
+        self.in_order("the names before the areas with the flag PRESERVE",
+                      "cbfscheck old.rom new.rom --keep-preserved --keep NONE", files,
+                      "bad NONE - - no_such_area", "remark - - - no_area_has_the_flag_PRESERVE")
         self.in_order("a name of -r before the changes",
                       "cbfscheck old.rom new.rom --keep K -r R", files,
                       "bad R - - no_such_area", added, "bad K - - no_such_area")

@@ -88,6 +88,18 @@ class Examples(ProgramTest):
     def test_cbfscheck(self):
         self.check_page("cbfscheck.1")
 
+    def test_the_reports_of_cbfscheck(self):
+        """The complete reports that the page explains are those of the images of its examples."""
+        text = page_text("cbfscheck.1")
+        folder = self.run_all("cbfscheck.1", examples(section(text, "EXAMPLES")))
+        for title, status in [("A report, row by row", 1), ("A report before flashing", 0)]:
+            part = re.split(r"\n\.S[hs] ", text.split(f"\n.Ss {title}\n")[1])[0]
+            command = plain(re.search(r"^\.Ql (cbfscheck .*) ,$", part, re.MULTILINE)[1])
+            [(_, lines)] = literal_blocks(part)
+            with self.subTest(title):
+                run = folder.run(command)
+                self.compare_run(folder, run, status, "".join(f"{line}\n" for line in lines))
+
     def test_cbfsseal(self):
         self.check_page("cbfsseal.1")
 

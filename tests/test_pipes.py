@@ -86,7 +86,7 @@ class Pipes(ProgramTest):
 # at most 4096 areas.
 MANY = Example(4000)
 MANY_AREAS = Example(40, more=3000)
-REPORT = lines(*MANY.findings(*MANY.without_hashes()), "0_bad,_4005_remarks,_0_changes")
+REPORT = lines(*MANY.findings(*MANY.without_hashes()), "sound:_0_bad,_4005_remarks,_0_changes")
 LISTINGS = {
     "print": (MANY, "cbfstool image print", MANY.listing()),
     "print -v": (MANY, "cbfstool image print -v", MANY.listing()),

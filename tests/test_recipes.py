@@ -5,6 +5,8 @@ PARTS there are nested areas, no region begins at a multiple of 128, and the map
 a recipe makes is compared with literal values.
 """
 
+import hashlib
+import json
 import os
 import re
 import shutil
@@ -86,7 +88,7 @@ class Titles(unittest.TestCase):
         for title in RECIPES:
             with self.subTest(title):
                 self.assertIn(f'= "{title}"\n', text)
-        self.assertEqual(len(RECIPES), 10)
+        self.assertEqual(len(RECIPES), 11)
 
 
 class Names(RecipeTest):
@@ -283,6 +285,7 @@ class Checks(RecipeTest):
     CHANGES = "What changed between two releases"
     WITHOUT = "Components without a digest"
     FLASH = "Flash an image"
+    BILL = "A software bill of materials"
 
     def setUp(self):
         super().setUp()
@@ -318,7 +321,7 @@ class Checks(RecipeTest):
                                           self.JOB, status=status, image=name, needed=needed)
                     self.assertEqual(run.message.decode(), message)
                     if status == 0:
-                        self.assertIn(b"\n0 bad, 6 remarks, 0 changes\n", run.after["report.txt"])
+                        self.assertIn(b"\nsound: 0 bad, 6 remarks, 0 changes\n", run.after["report.txt"])
 
     def test_changes(self):
         for behind, files in self.files:
@@ -336,6 +339,23 @@ class Checks(RecipeTest):
             with self.subTest(behind=behind):
                 run = self.run_recipe(self.folder(files), self.WITHOUT, image="new.rom")
                 self.assertEqual(run.output, b"COREBOOT: note\n")
+
+    @unittest.skipUnless(shutil.which("jq"), "jq is not installed")
+    def test_a_bill(self):
+        """The content of both components is that of the file, at different offsets."""
+        for behind, files in self.files:
+            for name, status, count in [
+                ("new.rom", 0, 2), ("broken.rom", 1, 1), ("lost.rom", 2, 0),
+            ]:
+                with self.subTest(name, behind=behind):
+                    run = self.run_recipe(self.folder(files), self.BILL, status=status, image=name)
+                    bill = json.loads(run.after["sbom.json"] or '{"components": []}')
+                    found = [(one["bom-ref"], one["hashes"][0]["content"])
+                             for one in bill["components"]]
+                    content = (b"X" if name == "broken.rom" else BYTES[:1]) + BYTES[1:700]
+                    digest = hashlib.sha256(content).hexdigest()
+                    self.assertEqual(found, [("COREBOOT/config@0x0", digest),
+                                             ("COREBOOT/note@0x340", digest)][:count])
 
     def flash(self, behind, files, name, status, kept="CONFIG", **more):
         """Runs the recipe that flashes an image, and returns the run."""

@@ -20,9 +20,9 @@ def space(length, size):
 
 
 def image_of(*parts, size=512):
-    """Returns an image with a region of 512 bytes; missing bytes are 0xff."""
+    """Returns an image with a region of this size at 512; missing bytes are 0xff."""
     areas = [AREAS[0], Area("COREBOOT", 512, size), AREAS[2]]
-    return Image(4096, areas).put("COREBOOT", join(*parts, size=512)).data()
+    return Image(4096, areas).put("COREBOOT", join(*parts, size=size)).data()
 
 
 class Removal(ProgramTest):

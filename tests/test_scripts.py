@@ -36,17 +36,17 @@ esac
 mkdir -p out/rlib
 [ "$1" != run ] || { : > "out/${PWD##*/}" && chmod 755 "out/${PWD##*/}"; }
 """
-# The scripts of the small tree. The first one takes a program, the second one none under make's
+# The scripts of the small tree. The first two run programs, the second one none under make's
 # variables, and the third one runs no program.
 SCRIPTS = {
     "bench/report": "echo report",
-    "checks/one": '[ -x "$1" ] || exit 1\necho "one: 3 checks"',
+    "checks/one": '[ -x crates/cbfstool/out/cbfstool ] || exit 1\necho "one: 3 checks"',
     "checks/two": '[ "$1$MAKEFLAGS$MAKELEVEL" = --built ] || exit 1\n'
                   'echo "two: 4 checks, skipped: strace (2), flock (1)"',
     "checks/three": '[ "$#" = 0 ] || exit 1\necho text; echo "three: 5 checks"',
     "checks/counts": '[ "$#" = 1 ] && [ -s "$1" ] || exit 1\necho "counts: 1 checks"',
 }
-LIST = ("cbfstool  one\nprograms  two\nsources   three\nby-hand   check: x\nby-hand   counts: x\n"
+LIST = ("programs  one\nprograms  two\nsources   three\nby-hand   check: x\nby-hand   counts: x\n"
         "by-hand   gate: x\npart      list\n")
 COPIED = ["Makefile", "prove", "crates.txt", "HANDLES", "VERSION", "CHANGELOG.md", ".ci/run",
           "checks/gate", "checks/check"]
@@ -123,7 +123,7 @@ class Gate(TreeTest):
         self.tree()
         (self.rt / "makes_nothing").touch()
         self.gate(1, "167 passed, 1 failed",
-                  "failed: checks/one crates/cbfstool/out/cbfstool (status 1)")
+                  "failed: checks/one --built (status 1)")
 
     def test_a_script_that_fails(self):
         """It fails at once or at its end, or prints no sum, that of another script, or of none."""
@@ -213,7 +213,7 @@ class List(unittest.TestCase):
             ("programs  tests\n", ""), ("part      counts.tsv\n", ""),
             ("programs  tests\n", "programs  test\n"), ("programs  tests\n", "by-hand   tests\n"),
             ("programs  tests\n", "part      tests\n"),
-            ("part      counts.tsv\n", "cbfstool  counts.tsv\n"),
+            ("part      counts.tsv\n", "programs  counts.tsv\n"),
         ]:
             with self.subTest(old, new=new):
                 self.assertIn(old, text)
@@ -242,7 +242,8 @@ class Contracts(unittest.TestCase):
         folder = Folder({"crates/a/src/lib.rt": SOURCE, "crates/a/specs/Limit.antt": DEFINITION})
         self.addCleanup(folder.remove)
         (folder.path / "checks").mkdir()
-        shutil.copy(TOP / "checks" / "contracts", folder.path / "checks" / "contracts")
+        for name in "contracts", "sources.py":
+            shutil.copy(TOP / "checks" / name, folder.path / "checks" / name)
         for words in [["--write"], []]:
             done = subprocess.run(["checks/contracts", *words], cwd=folder.path,
                                   stdout=subprocess.PIPE, text=True)

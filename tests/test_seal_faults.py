@@ -73,7 +73,7 @@ class Faulty(ProgramTest):
         self.check("cbfsseal image.rom", folder, left={"image.rom": after})
         faults = Faults("image.rom")
         self.check("cbfsseal image.rom", folder, faults=faults)
-        self.assertNotIn("write", {name for name, _, _ in faults.calls})
+        self.assertNotIn("write", {call.name for call in faults.calls})
 
     def ends(self, folder, left, result, faults, command="cbfsseal image.rom"):
         """Checks status and message of a run with changed calls, and the image that it leaves."""
@@ -92,7 +92,7 @@ class EachCall(Faulty):
         self.check("cbfsseal image.rom", {"image.rom": before}, left={"image.rom": after},
                    faults=faults)
         numbers = {}
-        for name, number, _ in faults.calls:
+        for name, number, *_ in faults.calls:
             numbers[name] = number
         self.assertEqual(numbers, expected)
         for name, count in numbers.items():
@@ -312,7 +312,7 @@ LINES = [
     ("cbfsseal -v image.rom", AFTER, AFTER, 0, printed("valid"), ""),
     ("cbfsseal image.rom", NO_ANCHOR, NO_ANCHOR, 1, "", "cbfsseal: no anchor\n"),
     ("cbfsseal none.rom", BEFORE, BEFORE, 1, "", "cbfsseal: device fault\n"),
-    ("cbfsseal --version", BEFORE, BEFORE, 0, "cbfsseal 2.3\n", ""),
+    ("cbfsseal --version", BEFORE, BEFORE, 0, "cbfsseal 3.0\n", ""),
     ("cbfsseal -x image.rom", BEFORE, BEFORE, 2, "", BAD_LINE),
     ("cbfsseal", BEFORE, BEFORE, 2, "", USAGE),
 ]
@@ -467,7 +467,7 @@ class BlockDevice(Faulty):
         """Seals the device, and returns the calls."""
         faults = Faults(self.device, *changes)
         self.check(["cbfsseal", self.device], {}, result[0], b"", result[1], faults=faults)
-        return [name for name, _, _ in faults.calls]
+        return [call.name for call in faults.calls]
 
     def test_the_digests_are_stored(self):
         calls = self.seal(DONE)
@@ -508,7 +508,7 @@ class Memory(Faulty):
             folder = self.folder({"image.rom": before})
             faults = Faults("image.rom", f"memory {number} {number} ENOMEM")
             run = folder.run(command, faults=faults)
-            if not any(name == "memory" for name, _, _ in faults.calls):
+            if not any(call.name == "memory" for call in faults.calls):
                 return seen
             result = run.status, run.message.decode()
             self.assertIn(result, seen, f"request {number}")

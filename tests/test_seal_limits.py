@@ -244,9 +244,9 @@ def image_in(parts, anchor_bytes=outdated(SHA256), **fields):
 
 
 def whole_area(size, areas=(FMAP, BOOT_AREA)):
-    """Returns an image whose area COREBOOT has this size."""
+    """Returns an image whose area COREBOOT has this size, and entries for 4096 bytes."""
     made = Image(SIZE, [*areas, Area("COREBOOT", 0x1000, size)])
-    return made.put("COREBOOT", join(A, FreeEntry(0xF80))).put("BOOTBLOCK", outdated(SHA256))
+    return made.put_at(0x1000, join(A, FreeEntry(0xF80))).put("BOOTBLOCK", outdated(SHA256))
 
 
 def misplaced():

@@ -77,7 +77,7 @@ class Areas(ProgramTest):
         self.check("cbfstool image.rom remove -n a", folder, left=self.files)
 
     def test_report(self):
-        report = rows(*self.FINDINGS, "1_bad,_5_remarks,_0_changes")
+        report = rows(*self.FINDINGS, "not_sound:_1_bad,_5_remarks,_0_changes")
         self.check("cbfscheck image.rom", self.files, status=1, output=report)
 
     def test_report_of_changes(self):
@@ -86,7 +86,8 @@ class Areas(ProgramTest):
         report = rows(
             *self.FINDINGS, "change - - - erase_blocks_differ 2",
             "change FMAP - 0x0 erase_blocks_differ 1", "change OTHER - 0x3a0fc0 area_added",
-            "change A65532 - 0x3a0fc0 area_gone", "1_bad,_5_remarks,_4_changes",
+            "change A65532 - 0x3a0fc0 area_gone",
+            "not_sound:_1_bad,_5_remarks,_4_changes",
         )
         self.check("cbfscheck image.rom new.rom", {**self.files, "new.rom": new}, status=1,
                    output=report)
@@ -161,7 +162,7 @@ class Components(ProgramTest):
     def report(self):
         """Returns the report of the image, with a remark for each of the 50 digests."""
         found, more = self.findings(self.COUNT, self.REGION - self.used)
-        return rows(*found, more, "0_bad,_55_remarks,_0_changes")
+        return rows(*found, more, "sound:_0_bad,_55_remarks,_0_changes")
 
     def test_print_lists_all_components(self):
         self.check("cbfstool image.rom print", self.files, output=self.listing())
@@ -206,7 +207,7 @@ class Components(ProgramTest):
             f"change COREBOOT - 0x1000 erase_blocks_differ {blocks}",
             f"change COREBOOT c49999 {self.places[-2]:#x} content_changed",
             f"change COREBOOT c50000 {self.places[-1]:#x} component_removed",
-            more, "0_bad,_54_remarks,_4_changes",
+            more, "sound:_0_bad,_54_remarks,_4_changes",
         )
         self.check("cbfscheck image.rom new.rom", {**self.files, "new.rom": bytes(new)},
                    output=report)

@@ -58,11 +58,11 @@ def report(state, *changes):
     )
 
 
-FINDINGS = report("remark COREBOOT a 0x0 sha256_valid", "0_bad,_6_remarks,_0_changes")
+FINDINGS = report("remark COREBOOT a 0x0 sha256_valid", "sound:_0_bad,_6_remarks,_0_changes")
 CHANGES = report(
     "bad COREBOOT a 0x0 sha256_invalid", "change - - - erase_blocks_differ 1",
     "change COREBOOT - 0x400 erase_blocks_differ 1", "change COREBOOT a 0x0 content_changed",
-    "1_bad,_5_remarks,_3_changes",
+    "not_sound:_1_bad,_5_remarks,_3_changes",
 )
 DOCUMENT = (
     '{"format":1,"image":"image.rom","rows":['
@@ -74,7 +74,7 @@ DOCUMENT = (
     '{"verdict":"remark","code":"free-bytes","area":"COREBOOT","what":"free bytes","value":2688},'
     '{"verdict":"remark","code":"largest-content","area":"COREBOOT",'
     '"what":"largest content that add takes","value":2656}'
-    '],"bad":0,"remarks":6,"changes":0}\n'
+    '],"verdict":"sound","bad":0,"remarks":6,"changes":0}\n'
 )
 
 # The status of an output fault.

@@ -213,8 +213,8 @@ class Values(SynopsisTest):
         self.assertEqual(at[0], at[2])
 
     def test_gaps(self):
-        """The gap between metadata and content has each length up to that of the page."""
-        [most] = re.findall(r"Up to (\d+) bytes of 0xff may separate metadata", PAGE)
+        """The gap between fields and content has each length up to that of the page."""
+        [most] = re.findall(r"Up to (\d+) bytes of 0xff, the gap, may separate fields", PAGE)
         gaps = set()
         for offset in range(0x800, 0x841):
             [row, *_], _ = self.added("-t", "raw", "-b", str(offset))

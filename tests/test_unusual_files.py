@@ -36,7 +36,7 @@ class ShortCalls(ProgramTest):
     def check_short(self, title, command, file, change):
         """Checks that the command does the same, and returns the number of short calls."""
         output, left = RESULTS[command]
-        short = Faults(file, change)
+        short = Faults(file, change, may_change_nothing=True)
         self.check(command, FILES, output=output, left=left, faults=short)
         self.short += short.changed()
 
@@ -320,6 +320,17 @@ class CutFiles(ProgramTest):
                                  {"image": IMAGE[: 4096 + 64 * 600 + 28]
                                   + image[4096 + 64 * 600 + 28 : -4100] + IMAGE[-4100:]})
                 self.check("cbfstool image print", folder, output=NEW.listing())
+
+    def test_a_disk_that_is_full_after_half_of_a_content(self):
+        """Two writes of a header and one of 0xff precede it. The next addition overwrites it."""
+        start, half = 4096 + 64 * 600 + 28, FILES["source"][:350]
+        command, folder = "cbfstool image add -n new -t raw -f source", self.folder(FILES)
+        fault = Faults("image", "write 4 4 short", "write 5 5 ENOSPC")
+        self.refuses(1, "device fault", command, folder, faults=fault,
+                     left={"image": IMAGE[:start] + half + IMAGE[start + 350 :]})
+        self.assertEqual(fault.changed(), 2)
+        self.check("cbfstool image print", folder, output=NEW.listing())
+        self.check(command, folder, left=NEW.left("add"))
 
     def test_a_header(self):
         fault = Faults("image", "write 1 1 short")

@@ -10,7 +10,7 @@ import sys
 import unittest
 
 from tests.mutant_lists.wrappers import MUTANTS
-from tests.programs import NAMES, TOP, ProgramTest, program
+from tests.programs import HAS_COMPILER, NAMES, TOP, Faults, ProgramTest, program
 
 # The seconds in which a test ends.
 LIMIT = 200
@@ -87,6 +87,34 @@ class Helpers(ProgramTest):
         ]:
             with self.subTest(line, **expected):
                 self.assertTrue(self.check_line(line, **expected))
+
+    def test_all_differences_are_shown(self):
+        """One failure has the status, the message, the output and the files."""
+        folder = self.folder({"file": b"old"})
+        with self.assertRaises(self.failureException) as raised:
+            self.check(["sh", "-c", "echo a; echo b >&2; echo c > file; exit 3"], folder)
+        folder.kept = False
+        for what in ("status", "message", "output", "file"):
+            self.assertIn(f"{what} of the command differs", str(raised.exception))
+
+    def test_mistakes_in_faults(self):
+        """A call, a way or an order of numbers that does not exist is refused at once."""
+        for change in ["wirte 1 1 EIO", "write 1 1 ENOSPACE", "write 1 1 shrot", "stat 1 1 short",
+                       "write 2 1 EIO", "write 0 1 EIO"]:
+            with self.subTest(change), self.assertRaises(ValueError):
+                Faults("file", change)
+
+    @unittest.skipUnless(HAS_COMPILER, "cc")
+    def test_a_fault_without_a_changed_call(self):
+        """The failure lists the calls on the file, so that the right number can be seen."""
+        folder = self.folder({"file": b"old"})
+        with self.assertRaises(self.failureException) as raised:
+            self.check("cat file", folder, output="old", faults=Faults("file", "read 9 9 EIO"))
+        folder.kept = False
+        self.assertIn("no system call was changed", str(raised.exception))
+        self.assertIn("read 1 of ", str(raised.exception))
+        self.check("cat file", folder, output="old",
+                   faults=Faults("file", "read 9 9 EIO", may_change_nothing=True))
 
 
 if __name__ == "__main__":

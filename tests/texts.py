@@ -9,6 +9,7 @@ TYPES = {
     0x51: "vsa", 0x52: "mbi", 0x53: "microcode", 0x60: "fsp", 0x61: "mrc", 0xAA: "cmos_default",
     0xAB: "spd", 0xAC: "mrc_cache", 0x1AA: "cmos_layout", 0xFFFFFFFF: "null",
 }
+COMPRESSIONS = {0: "none", 1: "LZMA", 2: "LZ4"}
 
 
 def rows(*lines):
@@ -24,7 +25,7 @@ def layout(size, areas, name="BOARD", map_at=0):
     """Returns the output of `layout` for an image of this size with these areas."""
     lines = [f"fmap\t{map_at:#x}\t{name}\t{size}\t{len(areas)}\n"]
     for area in areas:
-        lines.append(f"{area.name.decode()}\t{area.offset:#x}\t{area.size}\t{area.flags:#x}\n")
+        lines.append(f"{shown(area.name)}\t{area.offset:#x}\t{area.size}\t{area.flags:#x}\n")
     return "".join(lines)
 
 

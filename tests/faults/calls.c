@@ -6,7 +6,9 @@
    requests for memory.
 
    FAULT_LIST is the path of a file, which receives a line for each counted call: its name, its
-   number among the calls of this name from 1 on, and the way in which it was changed.
+   number among the calls of this name from 1 on, an offset, a number of bytes, and the way in which
+   it was changed. The offset is that of a read or a write in the file, -1 in a pipe, and else 0. The
+   number of bytes is what a read, a write or a request for memory wants, and else 0.
 
    FAULTS is a list of changes, separated by commas. Each has a call, the number of the first and of
    the last call to be changed, and a way:
@@ -76,9 +78,9 @@ static const char *way_of(enum call call, long number) {
 }
 
 /* Writes a line to FAULT_LIST, by system calls that this library does not change. */
-static void write_line(enum call call, long number, const char *way) {
+static void write_line(enum call call, long number, long at, long bytes, const char *way) {
     const char *path = getenv("FAULT_LIST");
-    char line[64];
+    char line[128];
     if (!path)
         return;
     if (list < 0) {
@@ -87,15 +89,17 @@ static void write_line(enum call call, long number, const char *way) {
         list = syscall(SYS_fcntl, low, F_DUPFD_CLOEXEC, LIST);
         syscall(SYS_close, low);
     }
-    int length = snprintf(line, sizeof line, "%s %ld %s\n", names[call], number, way);
+    int length = snprintf(line, sizeof line, "%s %ld %ld %ld %s\n", names[call], number, at, bytes,
+                          way);
     syscall(SYS_write, list, line, length);
 }
 
-/* Counts a call, and returns in which way it is changed, after it has waited or killed. */
-static enum way count(enum call call) {
+/* Counts a call for bytes at an offset, and returns in which way it is changed, after it has waited
+   or killed. */
+static enum way count_at(enum call call, long at, long bytes) {
     long number = ++made[call];
     const char *way = way_of(call, number);
-    write_line(call, number, way);
+    write_line(call, number, at, bytes, way);
     if (strcmp(way, "kill") == 0)
         kill(getpid(), SIGKILL);
     if (strcmp(way, "pause") == 0)
@@ -115,11 +119,17 @@ static enum way count(enum call call) {
     return FAILS;
 }
 
+/* Counts a call without bytes. */
+static enum way count(enum call call) { return count_at(call, 0, 0); }
+
+/* Returns the offset at which the next read or write of a descriptor begins. */
+static long place(int descriptor) { return syscall(SYS_lseek, descriptor, 0, SEEK_CUR); }
+
 /* Counts a call that moves bytes, and reduces their number. Returns 0 if the call fails. */
-static int count_bytes(enum call call, int descriptor, size_t *bytes) {
+static int count_bytes(enum call call, int descriptor, size_t *bytes, long at) {
     if (!is_counted(descriptor))
         return 1;
-    switch (count(call)) {
+    switch (count_at(call, at, *bytes)) {
     case FAILS:
         return 0;
     case SHORT:
@@ -212,28 +222,29 @@ SEEKS(lseek64, off64_t)
 SYNCS(fsync)
 SYNCS(fdatasync)
 
-#define MOVES(call, name, parameters, arguments)                                                   \
+#define MOVES(call, name, parameters, arguments, place)                                            \
     ssize_t name parameters {                                                                      \
         ssize_t(*next) parameters = dlsym(RTLD_NEXT, #name);                                       \
-        if (!count_bytes(call, file, &bytes))                                                      \
+        if (!count_bytes(call, file, &bytes, place))                                               \
             return -1;                                                                             \
         return next arguments;                                                                     \
     }
 
-MOVES(READ, read, (int file, void *out, size_t bytes), (file, out, bytes))
-MOVES(READ, pread, (int file, void *out, size_t bytes, off_t at), (file, out, bytes, at))
-MOVES(READ, pread64, (int file, void *out, size_t bytes, off64_t at), (file, out, bytes, at))
-MOVES(WRITE, write, (int file, const void *from, size_t bytes), (file, from, bytes))
-MOVES(WRITE, pwrite, (int file, const void *from, size_t bytes, off_t at), (file, from, bytes, at))
+MOVES(READ, read, (int file, void *out, size_t bytes), (file, out, bytes), place(file))
+MOVES(READ, pread, (int file, void *out, size_t bytes, off_t at), (file, out, bytes, at), at)
+MOVES(READ, pread64, (int file, void *out, size_t bytes, off64_t at), (file, out, bytes, at), at)
+MOVES(WRITE, write, (int file, const void *from, size_t bytes), (file, from, bytes), place(file))
+MOVES(WRITE, pwrite, (int file, const void *from, size_t bytes, off_t at), (file, from, bytes, at),
+      at)
 MOVES(WRITE, pwrite64, (int file, const void *from, size_t bytes, off64_t at),
-      (file, from, bytes, at))
+      (file, from, bytes, at), at)
 
 void *__libc_malloc(size_t size);
 void *__libc_realloc(void *old, size_t size);
 void *__libc_calloc(size_t count, size_t size);
 
 /* Counts a request for memory, if there is a list of changes with the word `memory`. */
-static int is_refused(void) {
+static int is_refused(size_t size) {
     static int asked = -1;
     if (asked < 0) {
         const char *faults = getenv("FAULTS");
@@ -245,15 +256,17 @@ static int is_refused(void) {
     const char *way = way_of(MEMORY, number);
     if (!way[0])
         return 0;
-    write_line(MEMORY, number, way);
+    write_line(MEMORY, number, 0, size, way);
     errno = ENOMEM;
     return 1;
 }
 
-void *malloc(size_t size) { return is_refused() ? NULL : __libc_malloc(size); }
+void *malloc(size_t size) { return is_refused(size) ? NULL : __libc_malloc(size); }
 
-void *realloc(void *old, size_t size) { return is_refused() ? NULL : __libc_realloc(old, size); }
+void *realloc(void *old, size_t size) {
+    return is_refused(size) ? NULL : __libc_realloc(old, size);
+}
 
 void *calloc(size_t number, size_t size) {
-    return is_refused() ? NULL : __libc_calloc(number, size);
+    return is_refused(number * size) ? NULL : __libc_calloc(number, size);
 }

@@ -215,7 +215,7 @@ CHANGES = [
      '(CLAUSE.md)'),
     (VERIFICATION,
      "index: VERIFICATION.md: checks/pears isn't there",
-     '`checks/peers`',
+     '`tests/peers.py`',
      '`checks/pears`'),
     ('crates/cbfs_edit/src/removal.rt',
      'contracts: cbfs_edit/src/removal.rt remove ensures after: changed',

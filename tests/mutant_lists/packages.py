@@ -70,7 +70,7 @@ MUTANTS = [
        "The programs are installed into another folder.",
        "test_packages.Names.test_a_suffix_with_another_character"),
     of("Makefile", "a script of the examples is not installed",
-       "replace-component sign-region undo-nested-map", "replace-component sign-region",
+       "sbom sign-region undo-nested-map", "sbom sign-region",
        "The page names a script that is not there.",
        "test_packages.Contents.test_all_examples_are_installed"),
     of("Makefile", "a document is not installed",

@@ -4,7 +4,7 @@ have no contract.
 A function with a contract needs no mutant here, because the prover refuses the change.
 """
 
-from tests.mutants import Mutant
+from tests.mutants import VERSION, Mutant
 
 CBFSTOOL = "crates/cbfstool/src/main.rt"
 SESSION = "crates/cbfstool/src/session.rt"
@@ -87,10 +87,10 @@ MUTANTS = [
     ),
     Mutant(
         "the source is opened before the image", SESSION,
-        "        let image = FileFlash::open_with(",
+        "        match FileFlash::open_with(",
         "        if lock == Lock::Exclusive && !self.file.is_empty() {\n            "
         "self.open_input(Step::OpenInput)?;\n        }\n"
-        "        let image = FileFlash::open_with(",
+        "        match FileFlash::open_with(",
         "With a missing image and a missing source the message names the source.",
         "test_order.Commands.test_files",
     ),
@@ -274,7 +274,7 @@ MUTANTS = [
     ),
     Mutant(
         "cbfscheck prints the version of another release", CHECK_TEXTS,
-        "cbfscheck 2.2\\n", "cbfscheck 2.1\\n", "A report of an error names the wrong version.",
+        f"cbfscheck {VERSION}\\n", "cbfscheck 1.0\\n", "A report names the wrong version.",
         "test_statuses.Usages.test_the_versions",
     ),
     Mutant(

@@ -13,7 +13,7 @@ TESTS = ("test_create", "test_fmaptool", "test_sizes", "test_borders", "test_unu
          "test_check_map", "test_check_region", "test_check_needs", "test_check_list",
          "test_check_rows", "test_check_blocks", "test_check_areas", "test_check_components",
          "test_check_board", "test_check_anchor", "test_check_document", "test_check_schema",
-         "test_check_line", "test_check_files", "test_limits", "test_together")
+         "test_check_random", "test_check_line", "test_check_files", "test_limits", "test_together")
 
 
 def fault(name, test, said, title, harm, program="cbfstool"):
@@ -378,6 +378,16 @@ MUTANTS = [
             'python3 -S -c "bytearray([1]) * 10 ** 8"\nrun "$@"\n',
             "A check on a small machine is killed.",
             "test_limits.ManyAreas.test_nested_areas", "not less than or equal to"),
+
+    # ---- images at random
+    edited("a slot whose body is not signed is a signed one",
+           "s/\tbody isn.t checked: no length is signed$/\tsigned slot/",
+           "A user takes a slot for a signed one.", "test_check_random", OUTPUT),
+    edited("flags of a GBB are decimal", "s/\t0x39$/\t57/",
+           "A reader takes the number for another one.", "test_check_random", OUTPUT),
+    edited("a valid digest of the flash map is an invalid one",
+           "s/\tmap hash sha1 valid$/\tmap hash sha1 invalid: run cbfsseal IMAGE/",
+           "A user seals an image that is right.", "test_check_random", OUTPUT),
 
     # ---- many commands at once
     fault("unlocked", "test_together", "seed", "commands at once take no lock",

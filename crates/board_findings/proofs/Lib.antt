@@ -2,3 +2,4 @@ pub mod SoundParts
 pub mod CorebootParts
 pub mod BoardParts
 pub mod Differences
+pub mod LostStructures

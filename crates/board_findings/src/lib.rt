@@ -9,8 +9,12 @@ mod coreboot;
 mod finding;
 mod intel;
 mod laws;
+mod structure;
 mod vboot;
 
 pub use board::check_board;
 pub use finding::{BoardFinding, HeaderFinding, Slot, SlotFinding};
-pub use laws::sound_boards_have_sound_structures;
+pub use laws::{
+    erased_descriptors_are_lost, lost_structures_are_gone, sound_boards_have_sound_structures,
+};
+pub use structure::{Structure, lost_structures};

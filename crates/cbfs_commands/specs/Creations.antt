@@ -25,13 +25,14 @@ use Rattle.cbfs_requests.specs.Requests.{by_source, fault_or, store_refusal}
 pub record AnswersBySource {S T : Type 0} (facts : S → Device) (n : ℕ) (source source_now : S)
     (result : Result T Refusal) (tell : List ℕ → Result T Refusal) : Type 0 where
   pub calls : Reads n (fault_count by_source result) (facts source) (facts source_now)
-  pub no_other : IsErrOf result refusals.Device ⊎ IsErrOf result refusals.Output → ⊥
+  pub no_other : (IsErrOf result refusals.Device ⊎ IsErrOf result refusals.Output) → ⊥
   pub answer : OnHonest (facts source)
       (λ content. IsErrOf result refusals.Source ⊎ (result ≡ tell content))
 
 -- ---- the places
 
--- all areas with valid sizes for a CBFS in an image of n bytes, or the first error
+-- The ranges of all areas in an image of n bytes, or the first error. Each area in order has two
+-- checks: it exists inside the image, and its size is valid for a CBFS.
 abbrev pub region_places : ℕ → List (Option Area) → Result (List Range) Refusal
 region_places n [] = Ok []
 region_places n (area ∷ areas) =

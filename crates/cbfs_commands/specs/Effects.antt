@@ -174,6 +174,7 @@ pub record HasEffect (d : Effect) (old new source source_now : Device)
   -- the answer and the image of the outcome, or a fault
   pub left : OnAllHonest d old source (λ image content. let o = d.outcome image content in
       ((answer ≡ o.printout.answer) × (new.content ≡ o.image)) ⊎ IsFault answer)
+  -- what `Stopped` says of the image and the source before, the answer, and the image now
   pub stopped : OnAllHonest d old source (λ image content. d.Stopped (record {
     image = image;
     source = content;

@@ -33,7 +33,7 @@ pub record Printout : Type 0 where
   pub written : List ℕ
   pub answer : CommandResult
 
--- text and success
+-- the text, and success
 abbrev pub shows : List ℕ → Printout
 shows text = record { written = text; answer = Ok tt }
 
@@ -41,22 +41,28 @@ shows text = record { written = text; answer = Ok tt }
 abbrev pub refuses : Refusal → Printout
 refuses refusal = record { written = []; answer = Err refusal }
 
--- The output and answer, or an interruption: the writer failed after a proper prefix of the text,
--- or the device or the source after a prefix.
+-- The contents of a writer, `old` before and `new` after a call with this answer, show a printout.
+-- One of three holds: the answer is that of the printout, and the whole text was written; the
+-- writer failed after a proper prefix of the text; or the device or the source of a content failed,
+-- and for some n the first n bytes were written. `None` stands for contents that are not known, of
+-- which nothing is stated.
 abbrev pub PrintsOut : Option (List ℕ) → Option (List ℕ) → CommandResult → Printout → Type 0
 PrintsOut old new answer t = ((answer ≡ t.answer) × Appends old new t.written)
     ⊎ (IsErrOf answer refusals.Output × AppendsPart old new t.written)
     ⊎ ((IsErrOf answer refusals.Device ⊎ IsErrOf answer refusals.Source)
     × ((n : ℕ) × (n ≤ length t.written) × Appends old new (take n t.written)))
 
--- A cell of a region within bounds. An honest device has the cell at its offset.
+-- The region r lies on the device, and the cell c within bounds of such a region. An honest device
+-- has the bytes of this cell at the offset that the cell states.
 pub record IsCellOf (r : Range) (c : Cell) (device : Device) : Type 0 where
   pub region : LiesOn r device
   pub cell : IsCellIn r.size c
   pub stands : OnHonestIn device r (λ x. StandsIn x c)
 
--- A call that reads the device at most n times and writes to a sink. A fault implies a failure of
--- its device. `printout` requires an honest device.
+-- A call that reads the device at most n times, and writes to a sink. A device fault is a failed
+-- read, and an output fault a failure of the sink. There is no source, so no source fault. On an
+-- honest device, whose reads return its content or fail, the output and the answer are those of `t
+-- image`.
 pub record HasOutput {F W : Type 0} (sink : SinkOf W) (n : ℕ) (old new : Pages F)
     (out_old out_new : W) (answer : CommandResult) (t : List ℕ → Printout) : Type 0 where
   pub read : HasReadBy by_device n old new answer
@@ -66,16 +72,19 @@ pub record HasOutput {F W : Type 0} (sink : SinkOf W) (n : ℕ) (old new : Pages
   pub printout : OnHonest old.device (λ image.
       PrintsOut (sink.contents out_old) (sink.contents out_new) answer (t image))
 
--- the error of a walk that a command reports
+-- the refusal for a fault of a walk, which is the same as that of an edit
 abbrev pub walk_refusal : WalkFault → Refusal
 walk_refusal fault = edit_refusal (edit_fault_of fault)
 
 -- ---- outcomes
 
+-- what a command prints and answers, and the image after it
 pub record Outcome : Type 0 where
   pub printout : Printout
   pub image : List ℕ
 
+-- what `tell` makes of the bytes of the region with this name, or the refusal of the map or the
+-- name
 abbrev pub printed_in : List ℕ → List ℕ → (List ℕ → Printout) → Printout
 printed_in image name tell = fault_or (λ fault. refuses (store_refusal fault))
     (region_of image name) (λ region. tell (bytes_in region image))
@@ -88,12 +97,13 @@ layout image = option_map_or (λ m. shows (map_line m ++ flat_map area_line (are
 
 -- ---- print
 
--- success, or the damage at the end of the cells
+-- the answer for cells that end at this offset: the damage there, or success at each other end
 abbrev pub end_answer : ℕ → End → CommandResult
 end_answer at (damage kind) = Err (walk_refusal (faults.Damaged at kind))
 end_answer at end = Ok tt
 
--- a row per cell from an offset on, if verbose also the lines of the components; then the end
+-- A row for each cell from an offset on, if verbose also the lines on attributes and digests of the
+-- components. The end of the cells is the answer, and has no row.
 abbrev pub print_cut : Bool → ℕ → Cut → Printout
 print_cut verbose at c = record {
   written = rows_from verbose at c.cells;

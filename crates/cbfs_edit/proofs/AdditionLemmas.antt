@@ -246,7 +246,11 @@ addition_refused r with_content spot source faults.Source old now answer same = 
 addition_refused r with_content spot source fault old now (inl failed) same = absurd cc
 addition_refused r with_content spot source fault old now (inr is) same = (sym is, same)
 
--- the writes after a search, on an honest device
+-- The writes after a search, on an honest device. A lemma has the parameters of all modules around
+-- it, from the first module on, and then its own. They follow the calls in `add`. First, at the
+-- call: the region, the device, the function from a content to the component, the spot and the
+-- source. Then the request of the search, and the found place. Facts: the `requires` of `add`, the
+-- request is that of the component, the type and the digest fit, the result of the search.
 module _ (r : Range) (device : Device) (with_content : List ℕ → NewComponent) (spot : Spot) (source : Device) (wanted : Wanted) (place : Place) (lies : LiesOn r device) (wanted_is : wanted ≡ wanted_for (with_content source.content) spot) (kind : (with_content source.content).kind < 2 ^ 32)
     (digest : IsDigest (with_content source.content).digest) (found : (let a : Result Place EditFault = Ok place in IsErrOf a faults.Device ⊎ (a ≡ addition_in (bytes_in r device.content) (with_content source.content) spot))) where
   abbrev old : List ℕ
@@ -261,10 +265,14 @@ module _ (r : Range) (device : Device) (with_content : List ℕ → NewComponent
   added_there : IsAdded old new spot place
   added_there = record { region = omega (arith, length-bytes_in r device.content lies.inside, lies.inside, lies.below); kind = kind; digest = digest; placed = placed }
 
+  -- The content after the search, and after `write_empty_entry`. Facts: the search changed no byte,
+  -- the write kept the length.
   module _ (mid empty : List ℕ) (same : mid ≡ device.content) (empty_long : length empty ≡ length mid) where
     pub empty_left : IsOldOrEmptied place.run (space_end r.size place.run.end) (bytes_in r mid) (bytes_in r empty) → IsAddition r with_content spot source (Err faults.Device) device.content empty
     empty_left stop = λ honest. (empty_before old new spot place added_there (bytes_in r empty) (subst (λ n. IsOldOrEmptied place.run (space_end n place.run.end) old (bytes_in r empty)) (sym (length-bytes_in r device.content lies.inside)) (rw same at stop))).0
 
+    -- The content after `copy_content`. Facts: it kept the length, the run was emptied before it,
+    -- and it changed only the range of the new content.
     module _ (copied : List ℕ) (copied_long : length copied ≡ length empty) (emptied : bytes_in r empty ≡ removed (bytes_in r mid) place.run) (torn : SameOutside place.content (length new.content) (bytes_in r empty) (bytes_in r copied)) where
       emptied_old : bytes_in r empty ≡ removed old place.run
       emptied_old = emptied ∙ ap (λ (l : List ℕ). removed (bytes_in r l) place.run) same
@@ -276,6 +284,9 @@ module _ (r : Range) (device : Device) (with_content : List ℕ → NewComponent
       copied_left copies.Device = λ honest. (copied_before old new spot place added_there (bytes_in r empty) (bytes_in r copied) as_long emptied_old torn).0
       copied_left copies.Source = copied_before old new spot place added_there (bytes_in r empty) (bytes_in r copied) as_long emptied_old torn
 
+      -- The result of `describe`, the stored digest, and the content after `describe`. Facts: it
+      -- kept the length, the digest is that of the component, the content is copied completely, and
+      -- the region is as `Shows` states.
       module _ {T E : Type 0} (result : Result T E) (stored : Option Digest) (shown : List ℕ) (shown_long : length shown ≡ length copied) (stored_is : IsTrue source.honest → stored ≡ new.digest)
           (copied_is : IsTrue source.honest → bytes_in r copied ≡ overwritten (bytes_in r empty) place.content new.content)
           (shown_is : (x content : List ℕ) → length x ≡ r.size → length content ≡ wanted.len → bytes_in r copied ≡ overwritten (removed x place.run) place.content content → (let z = bytes_in r shown in let one : NewComponent = record { name = new.name; kind = new.kind; digest = stored; content = content } in OnOk result (z ≡ added x one place) × ((z ≡ added x one place) ⊎ IsEmptied place.run (max (place.content + wanted.len) (space_end r.size place.run.end)) x z))) where

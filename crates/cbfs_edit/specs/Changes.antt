@@ -84,13 +84,14 @@ pub record SameCells (x y : List ℕ) : Type 0 where
   pub components : components x ≡ components y
   pub end : (cut x).end ≡ (cut y).end
 
--- The components before or after the edit. Bytes outside the group, and from `kept` on, remain.
+-- The components before or after the edit, for bytes x before it and y after a stop; `done` are the
+-- bytes after the complete edit. No byte outside the group changes, and none from `kept` on.
 pub record IsStopped (group : CellRange) (kept : ℕ) (x done y : List ℕ) : Type 0 where
   pub components : (components y ≡ components x) ⊎ (components y ≡ components done)
   pub end : (cut y).end ≡ (cut x).end
   pub outside : SameOutside group.start (min group.end kept - group.start) x y
 
--- after a device fault of a removal
+-- After a device fault of a removal. The last four bytes of the region remain.
 abbrev pub LeavesWhole : List ℕ → List ℕ → List ℕ → Type 0
 LeavesWhole x name y = (y ≡ x) ⊎ ((group : CellRange) × (removal_in x name ≡ Ok group)
     × IsStopped group (length x - 4) x (removed x group) y)
@@ -112,7 +113,8 @@ AddLeavesWhole x new spot y = (y ≡ x) ⊎ ((place : Place) × (addition_in x n
     × IsStopped place.run (max (place.content + length new.content) (length x - 4)) x
     (added x new place) y)
 
--- after a source fault of an addition: the components of before
+-- After a source fault of an addition: the components of before. Of the new content, only the
+-- length matters here.
 abbrev pub AddLeavesBefore : List ℕ → NewComponent → Spot → List ℕ → Type 0
 AddLeavesBefore x new spot y = AddLeavesWhole x new spot y × (components y ≡ components x)
 

@@ -116,7 +116,8 @@ place_at wanted run c = record {
   content = c;
 }
 
--- the place with the least allowed start in a run, if the run has room
+-- The place with the least allowed start in a run, if the run has room. `IsFirstPlace` says the
+-- same as a relation.
 abbrev pub place_in : Wanted → ℕ → CellRange → Option Place
 place_in wanted size run =
     let from = run.start + wanted.metadata_len in

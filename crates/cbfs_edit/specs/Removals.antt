@@ -26,8 +26,9 @@ row_end at [] = at
 row_end at (cell ∷ cells) =
     if is_free (head_of cell) then row_end (at + length cell) cells else at
 
--- The first component with the name, and the adjacent free cells. The free cells directly before
--- `at` begin at `start`.
+-- The first component with the name, and the adjacent free cells, among cells that begin at the
+-- offset `at`. The free cells directly before `at` begin at `start`; without such cells `start` is
+-- `at`.
 unfoldable pub group_from : List ℕ → ℕ → ℕ → List (List ℕ) → Option CellRange
 group_from name start at [] = None
 group_from name start at (cell ∷ cells) = let next = at + length cell in

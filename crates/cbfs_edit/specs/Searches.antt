@@ -30,7 +30,8 @@ pub record HasSearched {F T : Type 0} (by : List ℕ → Result T EditFault) (re
   pub found : IfOk result Is
   pub answer : OnHonestIn old.device region (λ x. IsErrOf result Device ⊎ (result ≡ by x))
 
--- the result for the remaining cells
+-- The result of a search for a group that has passed some cells, by its state and the remaining
+-- cells, which begin at `at`.
 abbrev pub group_by : List ℕ → Search → ℕ → List (List ℕ) → Result CellRange EditFault
 group_by name (Looking start) at cells = ok_or (group_from name start at cells) NotFound
 group_by name (Growing group) at cells =
@@ -43,7 +44,8 @@ IsBefore at (Looking start) = (start ≤ at) × (start % 64 ≡ 0)
 IsBefore at (Growing group) = IsCellRange group at
 IsBefore at (Whole group) = IsCellRange group at
 
--- the result for the remaining cells
+-- The result of a search for a place that has passed some cells, by its state and the remaining
+-- cells.
 abbrev pub place_by : List ℕ → Wanted → ℕ → Survey → List (List ℕ) → Result Place EditFault
 place_by name wanted size s cells =
     let exists = s.exists || is_some (first_named name (components_from s.row.end cells)) in

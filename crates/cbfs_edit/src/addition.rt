@@ -160,9 +160,10 @@ fn attribute_len(hash: HashChoice) -> usize
 /// or the gap before it, covers the others.
 ///
 /// The errors, in this order, are: invalid name, type, alignment or region size, no entry at the
-/// region's start, first damaged entry, existing name, no space. Only a device or source fault can
-/// leave a change. After a source fault, the components are the same as before. After a device
-/// fault, they are the same, or include the complete new component, if the source is honest.
+/// region's start, first damaged entry, existing name, no space. On an honest device, only a device
+/// or source fault can leave a change. After a source fault, the components are the same as before.
+/// After a device fault, they are the same, or include the complete new component, if the source is
+/// honest too.
 ///
 /// For example, this adds a raw component (0x50) with a SHA-256 digest to the region COREBOOT of an
 /// image in `paged`:

@@ -8,9 +8,10 @@ use cbfs_walk::WalkFault;
 use flash_device::{CopyInFault, FlashFault};
 use flash_format::DamageKind;
 
-/// The errors of edits. The number in parentheses is the number that cbfstool prints for the error.
-/// After `Device`, the components are the same as before or as after the edit, if the source of an
-/// addition is honest. After `Source`, they are the same as before. Other errors change nothing.
+/// The errors of edits. The number in parentheses is the number that docs/FORMAT.md has for it.
+/// On an honest device: after `Device`, the components are the same as before or as after the edit,
+/// if the source of an addition is honest too. After `Source`, they are the same as before. Other
+/// errors change nothing.
 #[derive(Clone, Copy, Debug, PartialEq, Eq)]
 pub enum EditFault {
     /// Device I/O error (1).

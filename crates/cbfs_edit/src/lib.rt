@@ -1,7 +1,7 @@
 //! Edits CBFS regions on a device: additions, removals, lists of both, and formatting.
 //!
-//! No call allocates memory. The first commit of an edit is the header of a single empty entry. A
-//! device fault at any call leaves the components of before or after the edit.
+//! No call allocates memory. The first commit of an edit is the header of a single empty entry. On
+//! an honest device, a device fault at any call leaves the components of before or after the edit.
 #![tactic(auto)]
 
 mod addition;

@@ -45,7 +45,7 @@ abbrev pub IsKindFor : List (List ℕ) → Option ErrorKind → Type 0
 IsKindFor words None = fault_of command_line words ≡ []
 IsKindFor words (Some kind) = IsAmong kind (fault_of command_line words)
 
--- if `-v` is present
+-- whether `-v` is present: its text is then "true"
 abbrev pub verbose_by : Option (List ℕ) → Bool
 verbose_by text = option_map_or (λ told. bytes_eq told (codes "true")) text false
 

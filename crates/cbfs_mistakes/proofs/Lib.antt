@@ -1,3 +1,4 @@
+mod AreaNames
 mod Causes
 mod Named
 mod Refused

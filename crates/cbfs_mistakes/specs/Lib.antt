@@ -1,6 +1,11 @@
+pub mod Areas
+pub mod Faults
 pub mod Lines
 pub mod Messages
 pub mod Mistakes
+pub mod NameLines
+pub mod Near
 pub mod Subjects
+pub mod Suggestions
 pub mod Synopses
 pub mod WrongWords

@@ -7,6 +7,7 @@ use Rattle.std.specs.Option.{option_map_or}
 use lib.Chars.{codes}
 use Rattle.flash_format.specs.TypeNames.{type_table}
 use Rattle.quoted_text.specs.Shown.{shown}
+use Rattle.cbfs_mistakes.specs.Suggestions.{suggestion}
 use Rattle.cbfs_mistakes.specs.Synopses.{usage_of}
 use Rattle.cbfs_mistakes.specs.WrongWords.{Words}
 use Rattle.cbfs_mistakes.specs.declared.mistake.MissingOptions.{MissingOptions}
@@ -94,7 +95,7 @@ abbrev pub meant_command : Words → Mistake → List ℕ
 meant_command words (mistakes.Swapped image command) = command.now
 meant_command words m = option_map_or (λ (word : Bor (List ℕ)). word.now) (slice_get words 1) []
 
--- a line for the mistake, and the usage
+-- a line for the mistake, the known word near a wrong one, and the usage
 abbrev pub explanation : Words → Mistake → List ℕ
 explanation words m = codes "cbfstool: " ++ mistake_text m ++ codes "\n"
-    ++ usage_of (meant_command words m)
+    ++ suggestion (meant_command words m) m ++ usage_of (meant_command words m)

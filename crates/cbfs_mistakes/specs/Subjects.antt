@@ -1,6 +1,9 @@
--- The line that names the region, component or file of a refusal: this project's own texts.
-use Rattle.std.specs.Prelude.{ℕ, List, [], unwrap_or, if◌then◌else◌}
+-- The line that names the region, component or file of a refusal: this project's own texts. The
+-- reasons are those of the C library.
+use Rattle.std.specs.Prelude.{ℕ, List, [], Option, Some, unwrap_or, if◌then◌else◌}
 use Rattle.std.specs.Str.{bytes_eq}
+use Rattle.std.specs.declared.io.ErrorKind.{ErrorKind}
+use Rattle.std.specs.declared.io.ErrorKind.TheVariants as kinds
 use lib.Chars.{codes}
 use Rattle.cbfs_requests.specs.declared.refusal.Refusal.{Refusal}
 use Rattle.cbfs_requests.specs.declared.refusal.Refusal.TheVariants as refusals
@@ -17,14 +20,22 @@ region_text t = if bytes_eq t.subcommand (codes "create")
 abbrev pub name_given : Texts → List ℕ
 name_given t = unwrap_or (text t "name") []
 
--- the image, the file, the region, or the region and the component of `-n`
-abbrev pub subject : Texts → Refusal → List ℕ
-subject t refusals.Device = between (codes "cbfstool: fault of the image ") t.image (codes "\n")
-subject t refusals.Source =
-    between (codes "cbfstool: fault of the file ") (unwrap_or (text t "file") []) (codes "\n")
-subject t refusals.NoRegion = between (region_text t) (region_named t) (codes "\n")
-subject t refusals.NotFound =
+-- the reason for a file that is not opened
+abbrev pub reason_text : Option ErrorKind → List ℕ
+reason_text (Some kinds.NotFound) = codes ": No such file or directory\n"
+reason_text (Some kinds.PermissionDenied) = codes ": Permission denied\n"
+reason_text (Some kinds.IsADirectory) = codes ": Is a directory\n"
+reason_text reason = codes "\n"
+
+-- the image or the file with the reason, the region, or the region and the component of `-n`
+abbrev pub subject : Texts → Option ErrorKind → Refusal → List ℕ
+subject t reason refusals.Device =
+    between (codes "cbfstool: fault of the image ") t.image (reason_text reason)
+subject t reason refusals.Source = between (codes "cbfstool: fault of the file ")
+    (unwrap_or (text t "file") []) (reason_text reason)
+subject t reason refusals.NoRegion = between (region_text t) (region_named t) (codes "\n")
+subject t reason refusals.NotFound =
     named (region_named t) (codes " has no component ") (name_given t)
-subject t refusals.Exists =
+subject t reason refusals.Exists =
     named (region_named t) (codes " has a component ") (name_given t)
-subject t refusal = []
+subject t reason refusal = []

@@ -8,6 +8,7 @@ ghost use Rattle.cbfs_mistakes.specs.Messages.{when, word_texts};
 ghost use Rattle.cbfs_mistakes.specs.Synopses.{usage_of};
 
 use crate::mistake::{MissingOptions, Mistake, NumberOption, WordFault};
+use crate::suggestion::push_suggestion;
 use crate::synopsis::synopsis_of;
 use quoted_text::push_shown;
 use std::alloc::AllocError;
@@ -204,7 +205,8 @@ fn meant_command<'a>(words: &[&'a str], mistake: &Mistake<'a>) -> &'a str
     }
 }
 
-/// Appends the lines that explain the mistake of the arguments: the mistake, and the usage.
+/// Appends the lines that explain the mistake of the arguments: the mistake, the known word near a
+/// wrong one, and the usage.
 pub fn push_explanation(
     out: &mut Vec<u8>,
     words: &[&str],
@@ -215,5 +217,7 @@ pub fn push_explanation(
     push_str(out, "cbfstool: ")?;
     mistake.push_text(out)?;
     push_str(out, "\n")?;
-    push_usage(out, meant_command(words, mistake))
+    let command = meant_command(words, mistake);
+    push_suggestion(out, command, mistake)?;
+    push_usage(out, command)
 }

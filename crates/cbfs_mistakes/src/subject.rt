@@ -1,12 +1,13 @@
 //! The line that names the region, component or file of a refusal.
 
 ghost use Rattle.std.specs.Prelude.{◌≡◌, ◌++◌, OnOk};
-ghost use Rattle.cbfs_mistakes.specs.Subjects.{name_given, region_text, subject};
+ghost use Rattle.cbfs_mistakes.specs.Subjects.{name_given, reason_text, region_text, subject};
 
 use crate::message::{push_between, push_named};
 use cbfs_line::Line;
 use cbfs_requests::Refusal;
 use std::alloc::AllocError;
+use std::io::ErrorKind;
 
 fn region_text(line: &Line<'_>) -> &'static str
     ensures { result.now ≡ region_text line.now }
@@ -23,20 +24,45 @@ fn name_of<'a>(line: &Line<'a>) -> &'a str
     line.option("name").unwrap_or("")
 }
 
+/// Returns the end of a line on a file that is not opened.
+fn reason_text(reason: Option<ErrorKind>) -> &'static str
+    ensures { result.now ≡ reason_text reason }
+{
+    match reason {
+        Some(ErrorKind::NotFound) => ": No such file or directory\n",
+        Some(ErrorKind::PermissionDenied) => ": Permission denied\n",
+        Some(ErrorKind::IsADirectory) => ": Is a directory\n",
+        _ => "\n",
+    }
+}
+
 /// Appends the line that names what a refusal of the command is about: the image that cannot be
 /// opened, read or written, the file that cannot be read, the region that the flash map does not
 /// have, or the component that the region does not have, or has already. Other refusals have none.
-pub fn push_subject(out: &mut Vec<u8>, line: &Line<'_>, refusal: Refusal) -> Result<(), AllocError>
-    ensures { OnOk result (out.new.items ≡ out.old.items ++ subject line.now refusal) }
+/// `reason` is the system's reason for an image or a file that is not opened.
+pub fn push_subject(
+    out: &mut Vec<u8>,
+    line: &Line<'_>,
+    refusal: Refusal,
+    reason: Option<ErrorKind>,
+) -> Result<(), AllocError>
+    ensures { OnOk result
+        (out.new.items ≡ out.old.items ++ subject line.now reason refusal) }
 {
     let (region, name) = (line.regions(), name_of(line));
     match refusal {
         Refusal::Device => {
-            push_between(out, "cbfstool: fault of the image ", line.image(), "\n")
+            let before = "cbfstool: fault of the image ";
+            push_between(out, before, line.image(), reason_text(reason))
         }
         Refusal::Source => {
             let file = line.file().unwrap_or("");
-            push_between(out, "cbfstool: fault of the file ", file, "\n")
+            push_between(
+                out,
+                "cbfstool: fault of the file ",
+                file,
+                reason_text(reason),
+            )
         }
         Refusal::NoRegion => push_between(out, region_text(line), region, "\n"),
         Refusal::NotFound => push_named(out, region, " has no component ", name),

@@ -2,7 +2,10 @@
 
 ghost use Rattle.std.specs.Prelude.{◌≡◌, map};
 ghost use Rattle.std.specs.Option.{option_copied};
+ghost use Rattle.cbfs_mistakes.specs.Suggestions.{near_among, near_command};
 ghost use Rattle.cbfs_mistakes.specs.Synopses.{is_command, synopsis_among, synopsis_of};
+
+use crate::near::is_near;
 
 /// A command's name, and the arguments after IMAGE.
 type Synopsis = (&'static str, &'static str);
@@ -45,4 +48,24 @@ pub fn is_command(word: &str) -> bool
     ensures { result ≡ is_command word.now }
 {
     synopsis_of(word).is_some()
+}
+
+fn near_among(rows: &[Synopsis], word: &str) -> Option<&'static str>
+    ensures { option_copied result
+        ≡ near_among (map (λ row. (row.0.now, row.1.now)) rows.now) word.now }
+{
+    for (name, _) in rows {
+        if is_near(word.as_bytes(), name.as_bytes()) {
+            return Some(*name);
+        }
+    }
+    None
+}
+
+/// Returns the first command that is near a word.
+#[tactic(auto, unfolding(crate::specs::Suggestions::near_command))]
+pub fn near_command(word: &str) -> Option<&'static str>
+    ensures { option_copied result ≡ near_command word.now }
+{
+    near_among(&SYNOPSES, word)
 }

@@ -39,8 +39,8 @@ pub record StepsAreInOrder : Type 0 where
 pub record UsesAreThoseOfCommands : Type 0 where
   pub shared : (request : Request) → lock_of request ≡ Shared → (image source : List ℕ)
       → ((effect request).outcome image source).image ≡ image
-  pub prints : (request : Request) → (lock_of request ≡ Shared) × ((effect request).prints ≡ true)
-      ⊎ (lock_of request ≡ Exclusive) × ((effect request).prints ≡ false)
+  pub prints : (request : Request) → ((lock_of request ≡ Shared) × ((effect request).prints ≡ true))
+      ⊎ ((lock_of request ≡ Exclusive) × ((effect request).prints ≡ false))
   pub unread : (request : Request) → (file_use request ≡ Unused) ⊎ (file_use request ≡ Output)
       → (source : Device) → (effect request).source_calls source ≡ 0
 

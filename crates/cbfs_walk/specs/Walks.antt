@@ -23,15 +23,24 @@ abbrev pub IsLoad : {F : Type 0} → Pages F → ℕ → ℕ → ℕ → Type 0
 IsLoad pages from place len = (from ≤ place) × (len ≤ 256)
     × (place + len ≤ length pages.device.content) × (Covers pages.held place len → ⊥)
 
--- The calls between two states are paid up to an offset: each call takes 3840 bytes of the distance
--- from a load of the first state, not before `from`, to this offset.
+-- The distance to `reach` covers the calls between two states. The first state has a load at some
+-- `place`, at or after `from`, and each call takes 3840 bytes of the distance from it:
+-- 3840 * (calls of new - calls of old) ≤ reach - place.
 abbrev pub ArePaid : {F : Type 0} → Pages F → Pages F → ℕ → ℕ → Type 0
 ArePaid old new from reach = (place : ℕ) × (len : ℕ) × IsLoad old from place len
     × (3840 * new.device.calls + place ≤ 3840 * old.device.calls + reach)
 
--- Ordered reads between two positions of a region, with the number of faults. A call loads at least
--- 3840 bytes for later reads. So the distance to a load after these reads pays for all calls
--- (`paid`). The distance to their end pays for all calls except the last one (`spent`).
+-- Ordered reads between two positions of a region, with the number of faults. A load fills the
+-- buffer with 4096 bytes, and a read has at most 256 bytes. So the next read that needs a load
+-- begins at least 3840 bytes after the previous load. `paid` is about each load that can follow
+-- these reads: the distance to it covers all calls of these reads. `spent` is about their end: the
+-- distance to it covers all these calls except the last one, or there was no call.
+--
+-- For example, the buffer is empty, and the region begins at 0. A read of 100 bytes at 0 loads the
+-- bytes 0 to 4096. A read of 200 bytes at 4000 then loads 4000 to 8096. These are 2 calls, and the
+-- reads end at 4200. The first state has a load at 0, so `spent` holds:
+-- 3840 * 2 ≤ (4200 + 3840) - 0. A later load begins after 7840, for example that of a read of 200
+-- bytes at 7900. For it `paid` holds: 3840 * 2 ≤ 7900 - 0.
 pub record Passes {F : Type 0} (region : Range) (at end refused : ℕ) (old new : Pages F)
     : Type 0 where
   pub order : at ≤ end

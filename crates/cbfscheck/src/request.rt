@@ -1,6 +1,6 @@
 //! The requests of a command line.
 
-ghost use Rattle.std.specs.Prelude.{◌≡◌, if◌then◌else◌, option_map, unwrap_or};
+ghost use Rattle.std.specs.Prelude.{◌≡◌, ◌||◌, if◌then◌else◌, option_map, unwrap_or};
 ghost use Rattle.cbfscheck.specs.Requests.{images_of};
 
 use check_line::CheckLine;
@@ -28,7 +28,8 @@ pub fn request_of<'l>(line: &'l CheckLine<'_>) -> Request<'l>
     ensures areas { result.areas.now ≡ line.now.areas.items }
     ensures needs { result.needs.now ≡ line.now.needs.items }
     ensures kept { result.kept.now ≡ line.now.kept.items }
-    ensures preserved { result.keeps_preserved ≡ line.now.keeps_preserved }
+    ensures preserved { result.keeps_preserved ≡ (line.now.keeps_preserved || line.now.is_flash) }
+    ensures strict { result.is_strict ≡ line.now.is_flash }
     ensures verbose { result.asked.is_verbose ≡ line.now.is_verbose }
     ensures hashes { result.asked.needs_hashes ≡ line.now.needs_hashes }
     ensures lists { result.asked.lists ≡ line.now.lists }
@@ -40,7 +41,8 @@ pub fn request_of<'l>(line: &'l CheckLine<'_>) -> Request<'l>
         areas: &line.areas,
         needs: &line.needs,
         kept: &line.kept,
-        keeps_preserved: line.keeps_preserved,
+        keeps_preserved: line.keeps_preserved || line.is_flash,
+        is_strict: line.is_flash,
         asked: Asked {
             is_verbose: line.is_verbose,
             needs_hashes: line.needs_hashes,

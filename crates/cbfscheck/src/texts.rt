@@ -8,7 +8,7 @@ usage: cbfscheck [OPTIONS] IMAGE
 ";
 
 /// The output of `--version`.
-pub const VERSION: &str = "cbfscheck 2.3\n";
+pub const VERSION: &str = "cbfscheck 3.0\n";
 
 /// The text of `--help`.
 pub const HELP: &str = "\
@@ -32,9 +32,11 @@ what flashing NEW over OLD changes. Images are never written.
   --version             print the version
 
 With OLD and NEW:
+  --flash               check before flashing: --keep-preserved, and the images
+                        are of one board
   --keep AREA[,AREA..]  require that these areas do not change
   --keep-preserved      require that no area with the flag PRESERVE changes
 
 Exit status: 0 if nothing is bad, 1 if a finding is bad, 2 without a complete report.
-Example: cbfscheck -r COREBOOT --keep-preserved chip.rom image.rom
+Example: cbfscheck --flash -r COREBOOT chip.rom image.rom
 ";

@@ -7,7 +7,7 @@ usage: cbfsseal [-v] [--allow-unhashed] IMAGE
 ";
 
 /// The output of `--version`.
-pub const VERSION: &str = "cbfsseal 2.3\n";
+pub const VERSION: &str = "cbfsseal 3.0\n";
 
 /// The text of `--help`.
 pub const HELP: &str = "\

@@ -10,6 +10,7 @@ use cbfs_steps::{refusal_of_words, status_of};
 use explanation::{explain, explain_unread};
 use flash_store::program_words;
 use session::Session;
+use std::io::ErrorKind;
 use std::process::ExitCode;
 
 const USAGE: &str = "\
@@ -17,12 +18,14 @@ usage: cbfstool IMAGE COMMAND [OPTIONS]
 commands: print layout extract add remove read write create
 ";
 
-/// Takes the steps of a command. The note is printed after its lock is released.
-fn execute(rt: &HostRuntime, line: &Line) -> Result<(), Refusal> {
+/// Takes the steps of a command, and stores the system's reason for a file that is not opened in
+/// `reason`. The note is printed after its lock is released.
+fn execute(rt: &HostRuntime, line: &Line, reason: &mut Option<ErrorKind>) -> Result<(), Refusal> {
     let mut image = None;
     let mut session = Session::new(rt, line, &mut image)?;
     let answer = session.obey();
     let is_note_due = session.is_note_due(answer);
+    *reason = session.reason();
     drop(session);
     drop(image);
     if is_note_due {
@@ -35,20 +38,21 @@ fn execute(rt: &HostRuntime, line: &Line) -> Result<(), Refusal> {
 }
 
 /// Executes the arguments, or prints the usage without arguments.
-fn obey(rt: &HostRuntime, words: &[&str]) -> Result<(), Refusal> {
+fn obey(rt: &HostRuntime, words: &[&str], reason: &mut Option<ErrorKind>) -> Result<(), Refusal> {
     if words.is_empty() {
         return rt.print(USAGE).map_err(|_| Refusal::Output);
     }
     let line = read_line(rt.alloc(), words)?;
-    execute(rt, &line)
+    execute(rt, &line, reason)
 }
 
 /// Executes the arguments, and prints a refusal with the lines that explain it.
 fn answer_to(rt: &HostRuntime, words: &[&str]) -> Result<(), Refusal> {
-    let answer = obey(rt, words);
+    let mut reason = None;
+    let answer = obey(rt, words, &mut reason);
     if let Err(refusal) = answer {
         print_refusal(rt, refusal);
-        explain(rt, words, refusal);
+        explain(rt, words, refusal, reason);
     }
     answer
 }

@@ -7,7 +7,7 @@ use flash_store::{
     SinkFault, create_output,
 };
 use std::fs::File;
-use std::io::{self, Printer};
+use std::io::{self, ErrorKind, Printer};
 
 /// The receiver of a command's output.
 #[derive(Drop)]
@@ -33,6 +33,8 @@ pub struct Session<'r, 'w, 'i> {
     used_map: Option<FoundMap>,
     input: Option<FileSource>,
     output: Receiver<'r>,
+    /// The system's reason for a file that was not opened.
+    reason: Option<ErrorKind>,
 }
 
 impl<'r, 'w, 'i> Session<'r, 'w, 'i> {
@@ -55,6 +57,7 @@ impl<'r, 'w, 'i> Session<'r, 'w, 'i> {
                 rt.alloc(),
                 RepeatingSink::new(io::writer(rt)),
             )),
+            reason: None,
         })
     }
 
@@ -82,16 +85,37 @@ impl<'r, 'w, 'i> Session<'r, 'w, 'i> {
         }
     }
 
+    /// Returns the refusal of a file that is not opened, and stores the system's reason.
+    fn not_opened(&mut self, step: Step, fault: OpenFault) -> Refusal {
+        if let OpenFault::Failed(kind) = fault {
+            self.reason = Some(kind);
+        }
+        step.refusal(fault)
+    }
+
+    /// Returns the system's reason for a file that was not opened.
+    pub fn reason(&self) -> Option<ErrorKind> {
+        self.reason
+    }
+
     fn open_image(&mut self, step: Step, lock: Lock) -> Result<(), Refusal> {
-        let image = FileFlash::open_with(self.rt, self.path, lock);
-        *self.image = Some(Paged::new(image.map_err(|fault| step.refusal(fault))?));
-        Ok(())
+        match FileFlash::open_with(self.rt, self.path, lock) {
+            Ok(image) => {
+                *self.image = Some(Paged::new(image));
+                Ok(())
+            }
+            Err(fault) => Err(self.not_opened(step, fault)),
+        }
     }
 
     fn open_input(&mut self, step: Step) -> Result<(), Refusal> {
-        let input = FileSource::open(self.rt, self.file);
-        self.input = Some(input.map_err(|fault| step.refusal(fault))?);
-        Ok(())
+        match FileSource::open(self.rt, self.file) {
+            Ok(input) => {
+                self.input = Some(input);
+                Ok(())
+            }
+            Err(fault) => Err(self.not_opened(step, fault)),
+        }
     }
 
     fn make_output(&mut self, step: Step) -> Result<(), Refusal> {
@@ -108,9 +132,13 @@ impl<'r, 'w, 'i> Session<'r, 'w, 'i> {
         let Some(input) = &mut self.input else {
             return Err(Refusal::Source);
         };
-        let image = FileFlash::create(self.rt, self.path, create_size(input)?);
-        *self.image = Some(Paged::new(image.map_err(|fault| step.refusal(fault))?));
-        Ok(())
+        match FileFlash::create(self.rt, self.path, create_size(input)?) {
+            Ok(image) => {
+                *self.image = Some(Paged::new(image));
+                Ok(())
+            }
+            Err(fault) => Err(self.not_opened(step, fault)),
+        }
     }
 
     fn run(&mut self) -> Result<(), Refusal> {

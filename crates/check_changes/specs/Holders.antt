@@ -21,7 +21,8 @@ IsBlockIn outer number = (outer.old.start < 4294967296)
 abbrev pub shift_of : ℕ → ℕ → ℕ
 shift_of old new = (new + 4294967296 - old) % 4294967296
 
--- new offsets, by the shift and then by the offset
+-- An offset of the new image as one number, which a comparison orders by the shift first, and then
+-- by the offset.
 abbrev pub place_of : ℕ → ℕ → ℕ → ℕ
 place_of old new at = shift_of old new * 4294967296 + at
 
@@ -35,7 +36,10 @@ end_of h = place_of h.old h.new (min (h.new + h.size) 4294967295)
 abbrev pub holders_have : Both Range → ℕ → List Holder → Bool
 holders_have outer number all = list_any (λ h. has_block outer number (ranges_of h)) all
 
--- each number is an upper bound of the ends up to its index
+-- The k-th number is at least the end of each of the areas 0 to k, for a search among areas in the
+-- order of their starts: if the areas 0 to k are those that begin at or before a block, and the
+-- k-th number is below the end of the block, then no area contains the block. (`d` is the default
+-- of `slice_index_or`, which is never taken here.)
 abbrev pub AreReached : List Holder → List ℕ → Type 0
 AreReached all reaches = (i k : ℕ) (d : Holder) → i ≤ k → k < length all
     → end_of (slice_index_or all i d) ≤ slice_index_or reaches k 0

@@ -6,3 +6,6 @@ pub mod WalkSteps
 pub mod Shadows
 pub mod Parts
 pub mod Counts
+pub mod AttributeLists
+pub mod SoundAttributes
+pub mod AlikeAttributes

@@ -13,6 +13,7 @@ use Rattle.check_findings.specs.declared.areas.NumberedArea.{NumberedArea}
 use Rattle.check_findings.specs.declared.names.AreaNames.{AreaNames}
 use Rattle.flash_map.specs.Fmap.{areas_of, found_in}
 
+-- the area has this name, up to the first NUL of its field
 abbrev pub has_name : List ℕ → NumberedArea → Bool
 has_name name a = is_area name a.area
 
@@ -25,9 +26,11 @@ map_areas image found =
 unfoldable pub image_areas : List ℕ → List NumberedArea
 image_areas image = option_map_or (map_areas image) (found_in image) []
 
+-- the area that the table has for a name; `names.first` is a map from names to areas, whose keys
+-- are ordered byte by byte
 abbrev pub area_for : AreaNames → List ℕ → Option NumberedArea
 area_for names name = get_by (λ k. slice_cmp nat_cmp name k.now) names.first
 
--- the table has exactly the first area of each name
+-- for every name, the table has the first area with this name, or none
 abbrev pub HasFirstAreas : AreaNames → List NumberedArea → Type 0
 HasFirstAreas names areas = (name : List ℕ) → area_for names name ≡ find (has_name name) areas

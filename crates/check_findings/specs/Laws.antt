@@ -8,8 +8,10 @@ use Rattle.flash_format.specs.declared.digest.Digest.{Digest}
 use Rattle.flash_format.specs.declared.head.DamageKind.{DamageKind}
 use Rattle.flash_format.specs.Components.{Component, components}
 use Rattle.flash_format.specs.Cut.{cut, damage, tail}
+use Rattle.flash_format.specs.Head.{head_of}
 use Rattle.flash_format.specs.Flashmap.{text_of}
 use Rattle.check_findings.specs.Areas.{area_end, has_name}
+use Rattle.check_findings.specs.Attributes.{AreSoundAttributes, cell_walked}
 use Rattle.flash_map.specs.Fmap.{found_from, found_in}
 use Rattle.flash_map.specs.Regions.{region_of}
 use Rattle.check_findings.specs.declared.areas.NumberedArea.{NumberedArea}
@@ -19,7 +21,7 @@ use Rattle.cbfs_walk.specs.Hashes.{hash_state}
 use Rattle.cbfs_walk.specs.Shapes.{shape_fault}
 use Rattle.cbfs_walk.specs.declared.hashes.HashState.TheVariants.{Invalid}
 use Rattle.cbfs_walk.specs.CellReadings.{place_after}
-use Rattle.check_findings.specs.MapFindings.{holds_map, namesake}
+use Rattle.check_findings.specs.MapFindings.{begins_with_map, namesake}
 use Rattle.check_findings.specs.RegionFindings.{is_filled, region_findings}
 use Rattle.check_findings.specs.ImageFindings.{bytes_of, covering, image_findings, range_of}
 use Rattle.check_findings.specs.ImageFindings.{region_areas}
@@ -43,7 +45,7 @@ pub record IsSound (image : List ℕ) (map : FoundMap) (areas : List NumberedAre
   pub named : All (λ a. namesake a areas ≡ Some a) areas
   pub nested : (a b : NumberedArea) → Contains areas a → Contains areas b → a.area.offset
       < b.area.offset → (area_end a.area ≤ b.area.offset) ⊎ (area_end b.area ≤ area_end a.area)
-  pub held : IsSomeAnd (find (has_name (codes "FMAP")) areas) (λ a. holds_map map a ≡ true)
+  pub held : IsSomeAnd (find (has_name (codes "FMAP")) areas) (λ a. begins_with_map map a ≡ true)
 
 -- ---- regions
 
@@ -59,13 +61,15 @@ InFitRegions P = (needs : Bool) (anchor : Option Anchor) (x : List ℕ)
     → list_any (is_bad_region (rules_of needs anchor)) (region_findings x) ≡ false → P anchor x
 
 -- `intact`: each digest matches, but maybe not that of intel_fit under an anchor; `short`: the
--- firmware finds each component
+-- firmware finds each component; `attributes`: the attributes have no fault, as coreboot walks them
 pub record IsWhole (anchor : Option Anchor) (x : List ℕ) : Type 0 where
   pub shaped : shape_fault x ≡ None
   pub undamaged : (kind : DamageKind) → (cut x).end ≢ damage kind
   pub intact : (c : Component) (stored : Digest) → Contains (components x) c
       → changes_later anchor c.name ≡ false → hash_state c.attributes c.content ≢ Invalid stored
   pub short : (c : Component) → Contains (components x) c → metadata_len c ≤ longest_metadata
+  pub attributes : (c : Component) → Contains (components x) c
+      → AreSoundAttributes (head_of c.bytes).kind (cell_walked c.bytes)
   pub blank : (cut x).end ≡ tail → IsBlankTail (place_after 0 (cut x).cells) x
   pub found : (c : Component) → Contains (components x) c → component_in x c.name ≡ Ok (Some c)
 

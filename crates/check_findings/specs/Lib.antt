@@ -1,6 +1,7 @@
 pub mod Areas
 pub mod Faults
 pub mod Lists
+pub mod Attributes
 pub mod MapFindings
 pub mod RegionFindings
 pub mod Anchors

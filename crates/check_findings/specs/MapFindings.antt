@@ -51,13 +51,14 @@ abbrev pub overlap_findings : List NumberedArea → List MapFinding
 overlap_findings areas = if nat_lt 4096 (length areas) then TooManyAreas ∷ []
     else flat_map (λ a. option_to_list (option_map (Overlap a) (find (overlap a) areas))) areas
 
-abbrev pub holds_map : FoundMap → NumberedArea → Bool
-holds_map m a = nat_le a.area.offset m.at && nat_le (m.at + map_len m.head) (area_end a.area)
+-- the area begins with the map: coreboot's tools look for it there
+abbrev pub begins_with_map : FoundMap → NumberedArea → Bool
+begins_with_map m a = a.area.offset == m.at && nat_le (m.at + map_len m.head) (area_end a.area)
 
 -- of the first area `FMAP`, if any
 abbrev pub map_area_findings : FoundMap → List NumberedArea → List MapFinding
 map_area_findings map areas = let area = find (has_name (codes "FMAP")) areas in
-    only_if (not (option_map_or (holds_map map) area false)) (MapAreaMisses area)
+    only_if (not (option_map_or (begins_with_map map) area false)) (MapAreaMisses area)
 
 -- of a map, the next map and the areas, in an image of n bytes
 abbrev pub findings_of : ℕ → FoundMap → Option FoundMap → List NumberedArea → List MapFinding

@@ -20,6 +20,7 @@ use Rattle.cbfs_walk.specs.Shapes.{shape_fault}
 use Rattle.cbfs_walk.specs.CellReadings.{place_after}
 use Rattle.cbfs_walk.specs.declared.walk.WalkFault.{WalkFault}
 use Rattle.cbfs_walk.specs.declared.walk.WalkFault.TheVariants as walk
+use Rattle.check_findings.specs.Attributes.{cell_fault}
 use Rattle.check_findings.specs.Lists.{only_if}
 use Rattle.check_findings.specs.declared.region.finding.Content.{Content}
 use Rattle.check_findings.specs.declared.region.finding.HashFinding.{HashFinding}
@@ -44,6 +45,7 @@ component_content c = let head = head_of c.bytes in record {
   compression = compression_of c.attributes;
   hash = hash_finding (hash_state c.attributes c.content);
   stored = stored_hash c.attributes;
+  fault = cell_fault c.bytes;
 }
 
 -- of an entry; an empty entry of type 0 is a deleted component

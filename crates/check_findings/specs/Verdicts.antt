@@ -25,7 +25,7 @@ use Rattle.check_findings.specs.declared.image.finding.ImageFinding.TheVariants.
 
 -- A finding of the map is bad if the image has no map or another size than its map says, if an
 -- area is outside of the image, overlaps another or has the name of an earlier one, if the area
--- FMAP doesn't contain the map, or if overlaps were not searched. The map itself, a further map,
+-- FMAP doesn't begin with the map, or if overlaps were not searched. The map itself, a further map,
 -- empty areas and names that aren't text are remarks.
 abbrev pub is_bad_map : MapFinding → Bool
 is_bad_map of_map.NoMap = true
@@ -107,14 +107,14 @@ abbrev pub is_bad_hash : HashRules → List ℕ → Content → Bool
 is_bad_hash rules name c = is_bad_hash_state rules name c c.hash
 
 -- A finding of a region is bad if commands refuse the region, if an entry is damaged, if a
--- component can't be found or has a bad digest, or if the tail, which has to be unused, has filled
--- bytes or entries: no command lists these. That the entries end with the region or with a tail,
--- deleted components and the counts are remarks.
+-- component can't be found, has a bad digest or has attributes with a fault, or if the tail, which
+-- has to be unused, has filled bytes or entries: no command lists these. That the entries end with
+-- the region or with a tail, deleted components and the counts are remarks.
 abbrev pub is_bad_region : HashRules → RegionFinding → Bool
 is_bad_region rules of_region.BadSize = true
 is_bad_region rules of_region.NotCbfs = true
 is_bad_region rules (of_region.Component at name shadowed c) =
-    shadowed || (has_long_metadata at c || is_bad_hash rules name c)
+    shadowed || (has_long_metadata at c || (is_bad_hash rules name c || is_some c.fault))
 is_bad_region rules (of_region.TailFilled at) = true
 is_bad_region rules (of_region.TailEntry at) = true
 is_bad_region rules (of_region.Damaged at kind) = true

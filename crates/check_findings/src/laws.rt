@@ -2,12 +2,14 @@
 ghost use Rattle.std.specs.Prelude.{◌≡◌, ◌≢◌, ◌↔◌, ◌+◌, ◌*◌, ◌<◌, ◌≤◌, ℕ, Bool, List, [], ◌∷◌, Contains, IsOkAnd, IsSomeAnd, None, Ok, Some, length, true, false};
 ghost use Rattle.std.specs.List.{filter, find, list_any, sum_by};
 ghost use Rattle.flash_format.specs.Cut.{cut};
+ghost use Rattle.flash_format.specs.Entry.{Attribute, attributes};
 ghost use Rattle.flash_format.specs.Head.{head_of, is_free};
 ghost use Rattle.flash_format.specs.Components.{Component, components};
 ghost use Rattle.cbfs_walk.specs.Search.{component_in};
 ghost use Rattle.cbfs_walk.specs.Shapes.{shape_fault};
 ghost use Rattle.flash_map.specs.declared.search.FoundMap.{FoundMap};
 ghost use Rattle.check_findings.specs.Areas.{has_name, map_areas};
+ghost use Rattle.check_findings.specs.Attributes.{fault_after, is_used, walked};
 ghost use Rattle.check_findings.specs.declared.map.finding.MapFinding.TheVariants.{Map};
 ghost use Rattle.check_findings.specs.declared.region.finding.RegionFinding.TheVariants.{Tail};
 ghost use Rattle.check_findings.specs.declared.region.finding.RegionFinding.TheVariants as findings;
@@ -58,9 +60,18 @@ pub fn counts_are_of_the_entries()
         (filter (λ c. is_free (head_of c)) (cut x).cells)) }
 {}
 
+/// If the attributes of a component of this type have no fault, then the attributes with a used tag
+/// that coreboot walks are exactly those that commands list.
+pub fn faultless_attributes_are_read_alike()
+    ensures { (kind : ℕ) (list : List ℕ) (all : List Attribute) → attributes list ≡ Some all →
+        fault_after kind [] (walked list) ≡ None → filter is_used (walked list) ≡ all }
+{}
+
 /// A region without bad findings has a good size, a first entry, no damaged entry, matching digests
 /// and a blank tail, and a search finds each component by name. The digest of `intel_fit` may
-/// differ under an anchor. Each component has at most 256 bytes before its content.
+/// differ under an anchor. Each component has at most 256 bytes before its content. Its attributes,
+/// as coreboot walks them, have no fault: none stands behind the end of the list, compression and
+/// digest have the lengths that coreboot expects, and a stage has an entry point in its memory.
 pub fn fit_regions_are_whole()
     ensures { InFitRegions IsWhole }
 {}

@@ -17,6 +17,7 @@ use Rattle.check_findings.specs.Anchors.{anchor_findings, image_anchor}
 use Rattle.check_findings.specs.Areas.{image_areas}
 use Rattle.check_findings.specs.ImageFindings.{areas_to_check, bytes_of, image_findings, region_areas, sum_sizes}
 use Rattle.check_findings.specs.MapFindings.{map_findings}
+use Rattle.check_findings.specs.Attributes.{fault_after, walk_after}
 use Rattle.check_findings.specs.RegionFindings.{cells_findings, region_findings, tail_findings, walk_findings}
 use Rattle.check_findings.specs.Verdicts.{is_bad}
 use Rattle.check_findings.specs.Needs.{unmet}
@@ -32,15 +33,15 @@ unfolding map_findings map_from is_map has_signature is_valid_head fmap_head_of 
 only_the_map = refl
 
 pub no_bad_finding : list_any (is_bad false) (image_findings small_image [] []) ≡ false
-unfolding image_findings anchor_findings image_anchor place_in component_in components_from image_areas map_findings map_from is_map has_signature is_valid_head fmap_head_of areas_from area_of is_utf8 chars lib.Utf8.encode region_findings walk_findings cells_findings tail_findings cut_after entry head_of head_at extent_of scan_after attr_head_of small_image small_map small_region component_cell free_cell
+unfolding image_findings anchor_findings image_anchor place_in component_in components_from image_areas map_findings map_from is_map has_signature is_valid_head fmap_head_of areas_from area_of is_utf8 chars lib.Utf8.encode walk_after fault_after region_findings walk_findings cells_findings tail_findings cut_after entry head_of head_at extent_of scan_after attr_head_of small_image small_map small_region component_cell free_cell
 no_bad_finding = refl
 
 pub one_region : region_areas (image_findings small_image [] []) ≡ coreboot_area ∷ []
-unfolding image_findings anchor_findings image_anchor place_in component_in components_from image_areas map_findings map_from is_map has_signature is_valid_head fmap_head_of areas_from area_of is_utf8 chars lib.Utf8.encode region_findings walk_findings cells_findings tail_findings cut_after entry head_of head_at extent_of scan_after attr_head_of small_image small_map small_region component_cell free_cell
+unfolding image_findings anchor_findings image_anchor place_in component_in components_from image_areas map_findings map_from is_map has_signature is_valid_head fmap_head_of areas_from area_of is_utf8 chars lib.Utf8.encode walk_after fault_after region_findings walk_findings cells_findings tail_findings cut_after entry head_of head_at extent_of scan_after attr_head_of small_image small_map small_region component_cell free_cell
 one_region = refl
 
 pub one_to_check : areas_to_check small_image [] [] ≡ coreboot_area ∷ []
-unfolding image_findings anchor_findings image_anchor place_in component_in components_from image_areas map_findings map_from is_map has_signature is_valid_head fmap_head_of areas_from area_of is_utf8 chars lib.Utf8.encode region_findings walk_findings cells_findings tail_findings cut_after entry head_of head_at extent_of scan_after attr_head_of small_image small_map small_region component_cell free_cell
+unfolding image_findings anchor_findings image_anchor place_in component_in components_from image_areas map_findings map_from is_map has_signature is_valid_head fmap_head_of areas_from area_of is_utf8 chars lib.Utf8.encode walk_after fault_after region_findings walk_findings cells_findings tail_findings cut_after entry head_of head_at extent_of scan_after attr_head_of small_image small_map small_region component_cell free_cell
 one_to_check = refl
 
 pub few_bytes : sum_sizes (coreboot_area ∷ []) ≤ 2 * length small_image
@@ -56,7 +57,7 @@ by_parts : (all : List ImageFinding) (need : Need) (area name : List ℕ) (place
 by_parts all need area name place is_area is_name is_place = rw (is_area, is_name, is_place) refl
 
 literal_met : (need : Need) → unmet (image_findings small_image [] []) (record { area = record need.area { now = codes "COREBOOT" }; name = record need.name { now = codes "a" }; place = At 28 }) ≡ None
-unfolding image_findings anchor_findings image_anchor place_in component_in components_from image_areas map_findings map_from is_map has_signature is_valid_head fmap_head_of areas_from area_of is_utf8 chars lib.Utf8.encode region_findings walk_findings cells_findings tail_findings cut_after entry head_of head_at extent_of scan_after attr_head_of small_image small_map small_region component_cell free_cell
+unfolding image_findings anchor_findings image_anchor place_in component_in components_from image_areas map_findings map_from is_map has_signature is_valid_head fmap_head_of areas_from area_of is_utf8 chars lib.Utf8.encode walk_after fault_after region_findings walk_findings cells_findings tail_findings cut_after entry head_of head_at extent_of scan_after attr_head_of small_image small_map small_region component_cell free_cell
 literal_met need = refl
 
 pub need_met : (need : Need) → need.area.now ≡ codes "COREBOOT" → need.name.now ≡ codes "a" → need.place ≡ At 28 → unmet (image_findings small_image [] []) need ≡ None

@@ -8,6 +8,7 @@ use Rattle.flash_format.specs.Entry.{entry, attr_head_of, scan_after}
 use Rattle.flash_format.specs.Cut.{cut, cut_after, complete}
 use Rattle.flash_format.specs.Components.{Component, component_at, components, components_from}
 use Rattle.cbfs_walk.specs.Shapes.{shape_fault}
+use Rattle.check_findings.specs.Attributes.{fault_after, walk_after}
 use Rattle.check_findings.specs.RegionFindings.{cells_findings, component_content, region_findings, tail_findings, walk_findings}
 use Rattle.check_findings.specs.Verdicts.{is_bad_region, rules_of}
 use Rattle.check_laws.specs.Samples.{component_cell, free_cell, small_region}
@@ -17,7 +18,7 @@ unfolding cut_after entry head_of head_at extent_of scan_after attr_head_of smal
 cells_are = refl
 
 pub none_bad : list_any (is_bad_region (rules_of false None)) (region_findings small_region) ≡ false
-unfolding region_findings walk_findings cells_findings tail_findings cut_after entry head_of head_at extent_of scan_after attr_head_of small_region component_cell free_cell
+unfolding walk_after fault_after region_findings walk_findings cells_findings tail_findings cut_after entry head_of head_at extent_of scan_after attr_head_of small_region component_cell free_cell
 none_bad = refl
 
 pub shaped : shape_fault small_region ≡ None

@@ -72,8 +72,15 @@ found_in_area finding = Region (record {
 }) None (finding ∷ []) ∷ []
 
 abbrev pub content_from : ℕ → ℕ → Content
-content_from start len =
-    record { start = start; kind = 0x50; len = len; compression = 0; hash = Missing; stored = None }
+content_from start len = record {
+  start = start;
+  kind = 0x50;
+  len = len;
+  compression = 0;
+  hash = Missing;
+  stored = None;
+  fault = None;
+}
 
 -- the area A has the component `a`, whose content has these bytes
 abbrev pub found_content : ℕ → ℕ → List ImageFinding

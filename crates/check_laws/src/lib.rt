@@ -1,11 +1,13 @@
 //! Proves the meaning of findings for commands of `cbfstool`. No code runs.
 #![tactic(auto)]
 
+mod attributes;
 mod laws;
 mod needs;
 mod numbers;
 mod reports;
 
+pub use attributes::{attributes_with_a_fault_are_known, sound_attributes_have_no_fault};
 pub use laws::{
     fit_images_are_extracted, fit_images_are_listed, fit_regions_are_listed,
     largest_content_is_taken,

@@ -10,7 +10,7 @@ ghost use Rattle.std.specs.List.{find};
 ghost use Rattle.flash_map.specs.Regions.{region_of};
 ghost use Rattle.check_findings.specs.Areas.{has_name, map_areas};
 ghost use Rattle.check_findings.specs.ImageFindings.{bytes_of, image_findings, region_areas};
-ghost use Rattle.check_findings.specs.MapFindings.{holds_map};
+ghost use Rattle.check_findings.specs.MapFindings.{begins_with_map};
 ghost use Rattle.check_findings.specs.declared.image.needs.Need.{Need};
 ghost use Rattle.check_findings.specs.declared.image.needs.NeededPlace.TheVariants.{At};
 ghost use Rattle.check_laws.specs.Samples.{coreboot_area, small_found, small_image, small_region};
@@ -54,11 +54,11 @@ pub fn an_erased_tail_is_blank()
 }
 
 /// `clean_maps_are_sound` at an image of 320 bytes: the map states this size, and the area FMAP
-/// contains it.
+/// begins with it.
 pub fn a_clean_map_is_sound()
     ensures size { length small_image ≡ 320 }
     ensures held { IsSomeAnd (find (has_name (codes "FMAP")) (map_areas small_image small_found))
-        (λ a. holds_map small_found a ≡ true) }
+        (λ a. begins_with_map small_found a ≡ true) }
 {
     clean_maps_are_sound();
 }

@@ -51,7 +51,8 @@ check_words = record {
         ∷ flag (record (new_rule (codes "verbose")) { short = Some 118 })
         ∷ flag (long_option (codes "json")) ∷ flag (long_option (codes "list"))
         ∷ long_option (codes "keep") ∷ flag (long_option (codes "keep-preserved"))
-        ∷ flag (long_option (codes "all-hashed")) ∷ long_option (codes "need") ∷ [];
+        ∷ flag (long_option (codes "flash")) ∷ flag (long_option (codes "all-hashed"))
+        ∷ long_option (codes "need") ∷ [];
   };
   subs = [];
 }
@@ -106,10 +107,14 @@ value name rows = first_of (codes name) rows
 abbrev pub is_set : Option (List ℕ) → Bool
 is_set text = option_map_or (λ text. bytes_eq text (codes "true")) text false
 
+-- an option for two images
+abbrev pub compares : List Row → Bool
+compares rows = (is_some (value "keep" rows) || is_set (value "keep-preserved" rows))
+    || is_set (value "flash" rows)
+
 abbrev pub complaint_in : List Row → Option Complaint
 complaint_in rows = if is_none (value "image" rows) then Some no_image
-    else (if is_none (value "new" rows)
-    && (is_some (value "keep" rows) || is_set (value "keep-preserved" rows)) then Some no_new_image
+    else (if is_none (value "new" rows) && compares rows then Some no_new_image
     else option_or (bad_areas (value "areas" rows))
     (option_or (bad_areas (value "keep" rows)) (bad_need (value "need" rows))))
 
@@ -123,6 +128,7 @@ pub record IsLineOf (rows : List Row) (line : CheckLine) : Type 0 where
   pub lists : line.lists ≡ is_set (value "list" rows)
   pub kept : texts line.kept.items ≡ parts_of (value "keep" rows)
   pub keeps_preserved : line.keeps_preserved ≡ is_set (value "keep-preserved" rows)
+  pub is_flash : line.is_flash ≡ is_set (value "flash" rows)
   pub needs_hashes : line.needs_hashes ≡ is_set (value "all-hashed" rows)
   pub needs : map need_bytes line.needs.items ≡ filter_map need_in (parts_of (value "need" rows))
 

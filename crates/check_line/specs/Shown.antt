@@ -24,5 +24,5 @@ word_text fault word = mistake_text fault ++ codes " '" ++ shown word ++ codes "
 abbrev pub fault_text : LineFault → List ℕ
 fault_text (Word fault word) = word_text fault word.now
 fault_text NoImage = codes "no image"
-fault_text NoNewImage = codes "--keep and --keep-preserved need two images"
+fault_text NoNewImage = codes "--flash, --keep and --keep-preserved need two images"
 fault_text Memory = codes "out of memory"

@@ -82,7 +82,7 @@ impl LineFault<'_> {
             LineFault::Word { fault, word } => push_word(out, *fault, word),
             LineFault::NoImage => out.extend_from_slice(b"no image"),
             LineFault::NoNewImage => {
-                out.extend_from_slice(b"--keep and --keep-preserved need two images")
+                out.extend_from_slice(b"--flash, --keep and --keep-preserved need two images")
             }
             LineFault::Memory => out.extend_from_slice(b"out of memory"),
         }

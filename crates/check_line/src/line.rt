@@ -40,6 +40,8 @@ pub struct CheckLine<'a> {
     pub kept: Vec<&'a [u8]>,
     /// Adds the areas with the flag PRESERVE (`--keep-preserved`).
     pub keeps_preserved: bool,
+    /// Checks an image that is to be flashed over the old one (`--flash`).
+    pub is_flash: bool,
     /// Requires all digests (`--all-hashed`).
     pub needs_hashes: bool,
     /// The required components (`--need`).
@@ -125,10 +127,11 @@ pub fn line_of<'a>(alloc: Global, matches: &ArgMatches<'a>) -> Result<CheckLine<
 {
     let (new_image, keep) = (text(matches, "new"), text(matches, "keep"));
     let keeps_preserved = is_set(matches, "keep-preserved");
+    let is_flash = is_set(matches, "flash");
     let Some(image) = text(matches, "image") else {
         return Err(LineFault::NoImage);
     };
-    if (keep.is_some() || keeps_preserved) && new_image.is_none() {
+    if (keep.is_some() || keeps_preserved || is_flash) && new_image.is_none() {
         return Err(LineFault::NoNewImage);
     }
     Ok(CheckLine {
@@ -140,6 +143,7 @@ pub fn line_of<'a>(alloc: Global, matches: &ArgMatches<'a>) -> Result<CheckLine<
         lists: is_set(matches, "list"),
         kept: names_given(alloc, keep)?,
         keeps_preserved,
+        is_flash,
         needs_hashes: is_set(matches, "all-hashed"),
         needs: needs_given(alloc, text(matches, "need"))?,
     })

@@ -34,6 +34,7 @@ pub fn whole_command<'a>(alloc: Global) -> Result<Command<'a>, AllocError>
         flag(long(alloc, "list")),
         long(alloc, "keep"),
         flag(long(alloc, "keep-preserved")),
+        flag(long(alloc, "flash")),
         flag(long(alloc, "all-hashed")),
         long(alloc, "need"),
     ]?;

@@ -7,3 +7,4 @@ mod SoundRows
 mod BoardVerdicts
 mod PrinterEffects
 mod HeadingEffects
+mod StructureVerdicts

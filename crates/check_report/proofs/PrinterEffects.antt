@@ -10,7 +10,7 @@ use lib.Seq.{split_at}
 use Rattle.flash_device.specs.declared.sink.Sink.{Ghosts as SinkOf}
 use Rattle.check_report.specs.declared.fault.WriteFault.{WriteFault}
 use Rattle.check_report.specs.declared.fault.WriteFault.TheVariants as writes
-use Rattle.check_report.specs.declared.rows.kinds.Counts.{Counts}
+use Rattle.check_report.specs.declared.rows.conclusion.Conclusion.{Conclusion}
 use Rattle.flash_device.specs.Device.{AppendsPart}
 use Rattle.check_report.specs.declared.rows.form.Form.{Form}
 use Rattle.check_report.specs.declared.rows.printer.Printer.{Printer}
@@ -144,7 +144,7 @@ prints_nothing sink result old new b xs told same = prints_failed sink result ol
 })
 
 -- no byte of an ending
-pub ends_nothing : {W : Type 0} (sink : SinkOf W) (result : Result (Unit {0}) WriteFault) (old new : Printer W) (counts : Counts) → new.out ≡ old.out
-    → OnErr result (AppendsPart (sink.contents old.out) (sink.contents new.out) (ending old.form counts))
-ends_nothing sink (Ok u) old new counts same = tt
-ends_nothing sink (Err e) old new counts same = rw same (0, some_ending old.form counts, Appends-nil (sink.contents old.out))
+pub ends_nothing : {W : Type 0} (sink : SinkOf W) (result : Result (Unit {0}) WriteFault) (old new : Printer W) (end : Conclusion) → new.out ≡ old.out
+    → OnErr result (AppendsPart (sink.contents old.out) (sink.contents new.out) (ending old.form end))
+ends_nothing sink (Ok u) old new end same = tt
+ends_nothing sink (Err e) old new end same = rw same (0, some_ending old.form end, Appends-nil (sink.contents old.out))

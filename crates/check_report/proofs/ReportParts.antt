@@ -14,11 +14,11 @@ use Rattle.json.specs.Print.{ends, print, print_from}
 use Rattle.json.proofs.Printed.Tokens.{print_from-append}
 use Rattle.flash_format.specs.Texts.{line_feed}
 use Rattle.check_report.specs.declared.request.Files.{Files}
-use Rattle.check_report.specs.declared.rows.kinds.Counts.{Counts}
+use Rattle.check_report.specs.declared.rows.conclusion.Conclusion.{Conclusion}
 use Rattle.check_report.specs.declared.rows.form.Form.{Form}
 use Rattle.check_report.specs.declared.rows.form.Form.TheVariants as forms
 use Rattle.check_report.specs.Fields.{Line, SeenField, field, line_json, line_text, members}
-use Rattle.check_report.specs.Reports.{count_fields, document, ending, first_fields, follows_after, heading, in_form, json_report, lines_value, member_tokens, part, parts, start_tokens, text_report}
+use Rattle.check_report.specs.Reports.{conclusion_fields, document, ending, first_fields, follows_after, heading, in_form, json_report, lines_value, member_tokens, part, parts, start_tokens, text_report}
 use Rattle.check_report.specs.Rows.{summary}
 use Rattle.check_report.proofs.Tokens.{fields_tokens, object_tokens}
 
@@ -99,18 +99,18 @@ opening forms.Json files lines = let rest : List Token = key (codes "rows") ∷ 
 regroup : (a b c d : List ℕ) → a ++ (b ++ (c ++ d)) ≡ ((a ++ b) ++ c) ++ d
 regroup a b c d = simp append_assoc
 
-pub whole : (form : Form) (files : Files) (list : Option (List Line)) (rows : List Line) (counts : Counts)
-    → heading form files list ++ (parts form false rows ++ ending form counts)
-    ≡ in_form form (text_report list rows counts) (json_report files list rows counts) ++ line_feed
-whole forms.Text files list rows counts = regroup (option_map_or (flat_map line_text) list []) (flat_map line_text rows) (summary counts) line_feed
-whole forms.Json files list rows counts =
+pub whole : (form : Form) (files : Files) (list : Option (List Line)) (rows : List Line) (end : Conclusion)
+    → heading form files list ++ (parts form false rows ++ ending form end)
+    ≡ in_form form (text_report list rows end) (json_report files list rows end) ++ line_feed
+whole forms.Text files list rows end = regroup (option_map_or (flat_map line_text) list []) (flat_map line_text rows) (summary end) line_feed
+whole forms.Json files list rows end =
     let first : List SeenField = first_fields files list in
-    let rest : List Token = flat_map member_tokens (count_fields counts) ++ end_object ∷ [] in
-    let tokens : json_tokens (document files list rows counts) ≡ (start_tokens first (codes "rows") ++ lines_tokens rows) ++ (end_array ∷ rest) =
-    object_tokens (first ++ field "rows" (lines_value rows) ∷ count_fields counts) ∙ fields_tokens first (count_fields counts) (codes "rows") rows (end_object ∷ []) in
+    let rest : List Token = flat_map member_tokens (conclusion_fields end) ++ end_object ∷ [] in
+    let tokens : json_tokens (document files list rows end) ≡ (start_tokens first (codes "rows") ++ lines_tokens rows) ++ (end_array ∷ rest) =
+    object_tokens (first ++ field "rows" (lines_value rows) ∷ conclusion_fields end) ∙ fields_tokens first (conclusion_fields end) (codes "rows") rows (end_object ∷ []) in
     regroup (print (start_tokens first (codes "rows"))) (parts forms.Json false rows) (print (end_array ∷ rest)) line_feed
     ∙ ap (λ l. l ++ line_feed) (sym (array_text first (codes "rows") rows rest) ∙ sym (ap print tokens))
 
 -- an ending has bytes
-pub some_ending : (form : Form) (counts : Counts) → 0 < length (ending form counts)
-some_ending form counts = omega (arith, length-append (part form false (summary counts) (end_array ∷ flat_map member_tokens (count_fields counts) ++ end_object ∷ [])) line_feed)
+pub some_ending : (form : Form) (end : Conclusion) → 0 < length (ending form end)
+some_ending form end = omega (arith, length-append (part form false (summary end) (end_array ∷ flat_map member_tokens (conclusion_fields end) ++ end_object ∷ [])) line_feed)

@@ -12,13 +12,14 @@ use Rattle.flash_device.specs.declared.sink.Sink.{Ghosts as SinkOf}
 use Rattle.check_report.specs.declared.fault.WriteFault.{WriteFault}
 use Rattle.check_report.specs.declared.fault.WriteFault.TheVariants as writes
 use Rattle.check_report.specs.declared.rows.kinds.Kind.{Kind}
+use Rattle.check_report.specs.declared.rows.conclusion.Subject.{Subject}
 use Rattle.check_report.specs.declared.rows.kinds.Counts.{Counts}
 use Rattle.check_report.specs.declared.rows.printer.Printer.{Printer}
 use Rattle.check_report.specs.declared.rows.writer.RowWriter.{RowWriter}
 use Rattle.check_report.specs.declared.rows.row.Verdict.TheVariants.{Bad}
-use Rattle.check_report.specs.Rows.{SeenRow, counts_of, has_bad, has_verdict, is_like, kinds_of, more_of, report_lines, row_line, rows_by, seen_kind, shown_rows}
+use Rattle.check_report.specs.Rows.{SeenRow, conclusion_of, counts_of, has_bad, has_verdict, is_like, kinds_of, more_of, report_lines, row_line, rows_by, seen_kind, shown_rows}
 use Rattle.check_findings.specs.Lists.{only_if}
-use Rattle.check_report.specs.Reports.{ending, follows_after, heading, parts}
+use Rattle.check_report.specs.Reports.{ending, follows_after, heading, parts, subject_of}
 use Rattle.check_report.specs.Reports.{inspection_rows, listed, report}
 use Rattle.check_report.specs.declared.request.Request.{Request}
 use Rattle.check_report.specs.declared.inspection.Inspection.{Inspection}
@@ -103,69 +104,69 @@ limited false rows ks is =
     ap (λ l. map row_line (shown_rows false rows) ++ l) (more_lines ks ∙ ap (λ l. map row_line (flat_map more_of l)) is) ∙ sym (map-append row_line (shown_rows false rows) (flat_map more_of (kinds_of rows)))
 
 -- the end of a report
-pub sound_end : {W : Type 0} (sink : SinkOf W) (w : RowWriter W) (mid out : Printer W)
+pub sound_end : {W : Type 0} (sink : SinkOf W) (subject : Subject) (w : RowWriter W) (mid out : Printer W)
     → let more = flat_map (λ k. map row_line (more_of (seen_kind k))) (if w.is_verbose then [] else w.kinds.items) in
     HasPrinted sink w.printer mid (parts w.printer.form w.printer.follows more) (follows_after w.printer.follows more)
-    → Appends (sink.contents mid.out) (sink.contents out.out) (ending mid.form w.counts) → (start : Printer W) (v : Bool) (rows : List SeenRow) → HasWritten sink start v rows w
+    → Appends (sink.contents mid.out) (sink.contents out.out) (ending mid.form (record { subject = subject; counts = w.counts })) → (start : Printer W) (v : Bool) (rows : List SeenRow) → HasWritten sink start v rows w
     → (nat_lt 0 w.counts.bad ≡ list_any (has_verdict Bad) rows)
-    × Appends (sink.contents start.out) (sink.contents out.out) (parts start.form false (report_lines v rows) ++ ending start.form (counts_of rows))
-sound_end sink w mid out more end start v rows s =
+    × Appends (sink.contents start.out) (sink.contents out.out) (parts start.form false (report_lines v rows) ++ ending start.form (conclusion_of subject rows))
+sound_end sink subject w mid out more end start v rows s =
     let all = printed_both sink start w.printer mid false (map row_line (shown_rows v rows)) _ s.printed (rw s.is_verbose at more) in
     (ap (λ (c : Counts). nat_lt 0 c.bad) s.counts ∙ some_bad (has_verdict Bad) rows, rw (← limited v rows w.kinds.items s.kinds) (Appends-trans _ _ _ _ _ all.text (rw (all.form, s.counts) at end)))
 
 -- a part of the rows is a part of the report from the rows on
-part_of_report : {W : Type 0} (sink : SinkOf W) (start : Printer W) (v : Bool) (rows : List SeenRow) (w : RowWriter W)
-    → HasPartOf sink start v rows w → AppendsPart (sink.contents start.out) (sink.contents w.printer.out) (parts start.form false (report_lines v rows) ++ ending start.form (counts_of rows))
-part_of_report sink start v rows w part =
+part_of_report : {W : Type 0} (sink : SinkOf W) (subject : Subject) (start : Printer W) (v : Bool) (rows : List SeenRow) (w : RowWriter W)
+    → HasPartOf sink start v rows w → AppendsPart (sink.contents start.out) (sink.contents w.printer.out) (parts start.form false (report_lines v rows) ++ ending start.form (conclusion_of subject rows))
+part_of_report sink subject start v rows w part =
     let more : List SeenRow = flat_map more_of (if v then [] else kinds_of rows) in
-    part_of_more (sink.contents start.out) (sink.contents w.printer.out) (parts start.form false (report_lines v rows)) _ (some_ending start.form (counts_of rows))
+    part_of_more (sink.contents start.out) (sink.contents w.printer.out) (parts start.form false (report_lines v rows)) _ (some_ending start.form (conclusion_of subject rows))
     (rw (map-append row_line (shown_rows v rows) more) (prefix_of_lines (sink.contents start.out) (sink.contents w.printer.out) start.form false (map row_line (shown_rows v rows)) (map row_line more) part))
 
 -- no ending after a fault in the rows for hidden rows
-pub stopped_more : {W : Type 0} (sink : SinkOf W) (w : RowWriter W) (mid : Printer W)
+pub stopped_more : {W : Type 0} (sink : SinkOf W) (subject : Subject) (w : RowWriter W) (mid : Printer W)
     → let more = flat_map (λ k. map row_line (more_of (seen_kind k))) (if w.is_verbose then [] else w.kinds.items) in
     AppendsPrefix (sink.contents w.printer.out) (sink.contents mid.out) (parts w.printer.form w.printer.follows more)
     → (start : Printer W) (v : Bool) (rows : List SeenRow) → HasWritten sink start v rows w
-    → AppendsPart (sink.contents start.out) (sink.contents mid.out) (parts start.form false (report_lines v rows) ++ ending start.form (counts_of rows))
-stopped_more sink w mid more start v rows s =
+    → AppendsPart (sink.contents start.out) (sink.contents mid.out) (parts start.form false (report_lines v rows) ++ ending start.form (conclusion_of subject rows))
+stopped_more sink subject w mid more start v rows s =
     let lines = flat_map (λ k. map row_line (more_of (seen_kind k))) (if v then [] else w.kinds.items) in
     let printed : AppendsPrefix (sink.contents start.out) (sink.contents mid.out) (parts start.form false (map row_line (shown_rows v rows) ++ lines)) =
     printed_prefix sink start w.printer (sink.contents mid.out) false (map row_line (shown_rows v rows)) lines s.printed (rw s.is_verbose at more) in
-    part_of_more (sink.contents start.out) (sink.contents mid.out) (parts start.form false (report_lines v rows)) (ending start.form (counts_of rows)) (some_ending start.form (counts_of rows))
+    part_of_more (sink.contents start.out) (sink.contents mid.out) (parts start.form false (report_lines v rows)) (ending start.form (conclusion_of subject rows)) (some_ending start.form (conclusion_of subject rows))
     (rw (limited v rows w.kinds.items s.kinds) at printed)
 
 -- a part of the ending
-pub stopped_end : {W : Type 0} (sink : SinkOf W) (w : RowWriter W) (mid out : Printer W)
+pub stopped_end : {W : Type 0} (sink : SinkOf W) (subject : Subject) (w : RowWriter W) (mid out : Printer W)
     → let more = flat_map (λ k. map row_line (more_of (seen_kind k))) (if w.is_verbose then [] else w.kinds.items) in
     HasPrinted sink w.printer mid (parts w.printer.form w.printer.follows more) (follows_after w.printer.follows more)
-    → AppendsPart (sink.contents mid.out) (sink.contents out.out) (ending mid.form w.counts) → (start : Printer W) (v : Bool) (rows : List SeenRow) → HasWritten sink start v rows w
-    → AppendsPart (sink.contents start.out) (sink.contents out.out) (parts start.form false (report_lines v rows) ++ ending start.form (counts_of rows))
-stopped_end sink w mid out more end start v rows s =
+    → AppendsPart (sink.contents mid.out) (sink.contents out.out) (ending mid.form (record { subject = subject; counts = w.counts })) → (start : Printer W) (v : Bool) (rows : List SeenRow) → HasWritten sink start v rows w
+    → AppendsPart (sink.contents start.out) (sink.contents out.out) (parts start.form false (report_lines v rows) ++ ending start.form (conclusion_of subject rows))
+stopped_end sink subject w mid out more end start v rows s =
     let all = printed_both sink start w.printer mid false (map row_line (shown_rows v rows)) _ s.printed (rw s.is_verbose at more) in
     rw (← limited v rows w.kinds.items s.kinds) (part_after (sink.contents start.out) (sink.contents mid.out) (sink.contents out.out) _ _ all.text (rw (all.form, s.counts) at end))
 
-pub ends_failed : {W : Type 0} {sink : SinkOf W} {result : Result Bool WriteFault} {old new : RowWriter W} {e : WriteFault} → IsErrAnd result (λ fault. fault ≡ e)
-    → Ends sink (Err e) old new → Ends sink result old new
+pub ends_failed : {W : Type 0} {sink : SinkOf W} {subject : Subject} {result : Result Bool WriteFault} {old new : RowWriter W} {e : WriteFault} → IsErrAnd result (λ fault. fault ≡ e)
+    → Ends sink subject (Err e) old new → Ends sink subject result old new
 ends_failed {result = Ok b} told a = absurd told
 ends_failed {result = Err fault} told a = rw told a
 
 -- the heading, the rows and the ending
 report_parts : (r : Request) (i : Inspection) → let rows = inspection_rows r i in
-    heading r.form r.files (listed r i) ++ (parts r.form false (report_lines r.asked.is_verbose rows) ++ ending r.form (counts_of rows)) ≡ report r i
+    heading r.form r.files (listed r i) ++ (parts r.form false (report_lines r.asked.is_verbose rows) ++ ending r.form (conclusion_of (subject_of r) rows)) ≡ report r i
 unfolding report
-report_parts r i = let rows = inspection_rows r i in whole r.form r.files (listed r i) (report_lines r.asked.is_verbose rows) (counts_of rows)
+report_parts r i = let rows = inspection_rows r i in whole r.form r.files (listed r i) (report_lines r.asked.is_verbose rows) (conclusion_of (subject_of r) rows)
 
 -- a proper part of the report after its heading
 rest_of_report : {W : Type 0} (sink : SinkOf W) (first begun : Printer W) (after : Option (List ℕ)) (r : Request) (i : Inspection)
     → first.form ≡ r.form → HasPrinted sink first begun (heading first.form r.files (listed r i)) false
     → let rows = inspection_rows r i in
-    AppendsPart (sink.contents begun.out) after (parts begun.form false (report_lines r.asked.is_verbose rows) ++ ending begun.form (counts_of rows))
+    AppendsPart (sink.contents begun.out) after (parts begun.form false (report_lines r.asked.is_verbose rows) ++ ending begun.form (conclusion_of (subject_of r) rows))
     → AppendsPart (sink.contents first.out) after (report r i)
 rest_of_report sink first begun after r i form before rest =
     rw (← report_parts r i) (part_after (sink.contents first.out) (sink.contents begun.out) after _ _ (rw form at before.text) (rw (before.form, form) at rest))
 
 pub report_text : {W : Type 0} (sink : SinkOf W) (result : Result Bool WriteFault) (first begun : Printer W) (made last : RowWriter W) (r : Request) (i : Inspection)
-    → first.form ≡ r.form → HasPrinted sink first begun (heading first.form r.files (listed r i)) false → HasWritten sink begun r.asked.is_verbose (inspection_rows r i) made → Ends sink result made last
+    → first.form ≡ r.form → HasPrinted sink first begun (heading first.form r.files (listed r i)) false → HasWritten sink begun r.asked.is_verbose (inspection_rows r i) made → Ends sink (subject_of r) result made last
     → Returns result (has_bad (inspection_rows r i)) × OnOk result (Appends (sink.contents first.out) (sink.contents last.printer.out) (report r i))
     × OnErr result (AppendsPart (sink.contents first.out) (sink.contents last.printer.out) (report r i))
 report_text sink (Err e) first begun made last r i form before sound ends =
@@ -183,14 +184,14 @@ pub stopped_heading : (before after : Option (List ℕ)) (r : Request) (i : Insp
 stopped_heading before after r i part =
     let rows = inspection_rows r i in
     let lines : List ℕ = parts r.form false (report_lines r.asked.is_verbose rows) in
-    rw (← report_parts r i) (part_of_more before after _ _ (omega (arith, length-append lines (ending r.form (counts_of rows)), some_ending r.form (counts_of rows))) part)
+    rw (← report_parts r i) (part_of_more before after _ _ (omega (arith, length-append lines (ending r.form (conclusion_of (subject_of r) rows)), some_ending r.form (conclusion_of (subject_of r) rows))) part)
 
 -- a fault in the rows
 pub stopped_rows : {W : Type 0} (sink : SinkOf W) (first begun : Printer W) (last : RowWriter W) (r : Request) (i : Inspection)
     → first.form ≡ r.form → HasPrinted sink first begun (heading first.form r.files (listed r i)) false → HasPartOf sink begun r.asked.is_verbose (inspection_rows r i) last
     → AppendsPart (sink.contents first.out) (sink.contents last.printer.out) (report r i)
 stopped_rows sink first begun last r i form before part =
-    rest_of_report sink first begun (sink.contents last.printer.out) r i form before (part_of_report sink begun r.asked.is_verbose (inspection_rows r i) last part)
+    rest_of_report sink first begun (sink.contents last.printer.out) r i form before (part_of_report sink (subject_of r) begun r.asked.is_verbose (inspection_rows r i) last part)
 
 -- ---- rows after rows
 

@@ -27,7 +27,7 @@ use Rattle.cbfs_anchor.specs.AlgorithmNames.{name_of}
 use Rattle.check_report.specs.Rows.{SeenRow, area_name, at_component, of_area, row, row_of}
 use Rattle.check_report.specs.Rows.{with_count, with_number}
 
--- a row of a change, which is bad in a kept area
+-- a row of a change, which is bad in a kept area, or on request
 abbrev pub change_row : Bool → String → String → SeenRow
 change_row kept code what = row (if kept then Bad else Change) code what
 
@@ -75,19 +75,24 @@ region_change_rows kept (regions.NotCompared a) = of_area a
 
 -- ---- whole images
 
--- rows of the lengths, and of the number of different blocks
+-- rows of the lengths, since flashrom writes no image of another length, and of the number of
+-- different blocks
 abbrev pub image_rows : ℕ → ℕ → ℕ → List SeenRow
 image_rows old new blocks = only_if (not (old == new))
-    (with_number old (row Change "image-size" "image size changed from"))
+    (with_number old (row Bad "image-size" "image size changed from"))
     ++ only_if (nat_lt 0 blocks) (with_count blocks (row Change "blocks" "erase blocks differ"))
 
 -- ---- the flash map
 
-abbrev pub map_change_row : MapChange → SeenRow
-map_change_row maps.NoOldMap = row Change "no-old-map" "the old image has no flashmap"
-map_change_row (maps.MovedFrom at) = with_number at (row Change "map-moved" "flashmap moved from")
-map_change_row (maps.BaseFrom n) = with_number n (row Change "map-base" "base address changed from")
-map_change_row maps.NameChanged = row Change "map-name" "name of the flashmap changed"
+-- on request, another board's map is bad: one with another name or base address
+abbrev pub map_change_row : Bool → MapChange → SeenRow
+map_change_row strict maps.NoOldMap = row Change "no-old-map" "the old image has no flashmap"
+map_change_row strict (maps.MovedFrom at) =
+    with_number at (row Change "map-moved" "flashmap moved from")
+map_change_row strict (maps.BaseFrom n) =
+    with_number n (change_row strict "map-base" "base address changed from")
+map_change_row strict maps.NameChanged =
+    change_row strict "map-name" "name of the flashmap changed"
 
 -- ---- the anchor; without it, the firmware doesn't check COREBOOT
 

@@ -10,9 +10,10 @@ use Rattle.flash_device.specs.declared.sink.Sink.{Ghosts as SinkOf}
 use Rattle.check_report.specs.declared.fault.WriteFault.{WriteFault}
 use Rattle.check_report.specs.declared.fault.WriteFault.TheVariants as writes
 use Rattle.check_report.specs.declared.rows.writer.RowWriter.{RowWriter}
+use Rattle.check_report.specs.declared.rows.conclusion.Subject.{Subject}
 use Rattle.check_report.specs.declared.rows.printer.Printer.{Printer}
 use Rattle.check_report.specs.Fields.{Line}
-use Rattle.check_report.specs.Rows.{SeenRow, counts_of, kinds_of, report_lines}
+use Rattle.check_report.specs.Rows.{SeenRow, conclusion_of, counts_of, kinds_of, report_lines}
 use Rattle.check_report.specs.Rows.{has_bad}
 use Rattle.check_report.specs.Rows.{row_line, seen_kind, shown_rows}
 use Rattle.check_report.specs.Reports.{ending, follows_after, parts}
@@ -55,15 +56,18 @@ module _ {W : Type 0} (sink : SinkOf W) where
 
   -- A successful call prints the ending, and tells whether a row is bad. After a fault, the rows
   -- and the ending are incomplete.
-  pub record Ends (result : Result Bool WriteFault) (old new : RowWriter W) : Type 0 where
+  pub record Ends (subject : Subject) (result : Result Bool WriteFault) (old new : RowWriter W)
+      : Type 0 where
     pub ended : IfOk result (λ bad. (start : Printer W) (verbose : Bool) (rows : List SeenRow)
         → HasWritten start verbose rows old → (bad ≡ has_bad rows)
         × Appends (sink.contents start.out) (sink.contents new.printer.out)
-        (parts start.form false (report_lines verbose rows) ++ ending start.form (counts_of rows)))
+        (parts start.form false (report_lines verbose rows)
+        ++ ending start.form (conclusion_of subject rows)))
     pub stopped : OnErr result ((start : Printer W) (verbose : Bool) (rows : List SeenRow)
         → HasWritten start verbose rows old
         → AppendsPart (sink.contents start.out) (sink.contents new.printer.out)
-        (parts start.form false (report_lines verbose rows) ++ ending start.form (counts_of rows)))
+        (parts start.form false (report_lines verbose rows)
+        ++ ending start.form (conclusion_of subject rows)))
     pub cause : sink.faults old.printer.out + fault_count by_sink result
         ≤ sink.faults new.printer.out
 

@@ -41,6 +41,7 @@ use Rattle.check_findings.specs.Verdicts.{rules_of}
 use Rattle.check_findings.specs.declared.image.verdict.HashRules.{HashRules}
 use Rattle.check_findings.specs.declared.region.finding.Content.{Content}
 use Rattle.check_report.specs.AnchorRows.{anchor_row}
+use Rattle.check_report.specs.AttributeRows.{attribute_rows}
 use Rattle.check_report.specs.declared.request.Asked.{Asked}
 use Rattle.check_report.specs.declared.rows.field.Value.TheVariants.{Dash}
 use Rattle.check_report.specs.Fields.{SeenValue, name_value, seen_value}
@@ -64,7 +65,8 @@ map_row (of_map.SameName a first) =
 map_row (of_map.Overlap a other) = with_other other (of_area a (row Bad "area-overlaps" "overlaps"))
 map_row of_map.TooManyAreas = row Bad "too-many-areas" "too many areas to look for overlaps"
 map_row (of_map.MapAreaMisses None) = row Bad "no-map-area" "no area FMAP"
-map_row (of_map.MapAreaMisses (Some a)) = of_area a (row Bad "map-area" "doesn't hold the flashmap")
+map_row (of_map.MapAreaMisses (Some a)) =
+    of_area a (row Bad "map-area" "doesn't begin with the flashmap")
 
 -- ---- a region; positions count from its start
 
@@ -95,7 +97,7 @@ hash_rows asked rules region at name content = let here = at_component region at
     (here (row Remark "hash-other-algorithm" "hash isn't of the anchor's algorithm"))
 
 -- rows of a component: an earlier namesake, too long metadata, a name that isn't UTF-8, a type
--- without a name, and the digest
+-- without a name, the digest, and a fault of the attributes
 abbrev pub component_rows : Asked → HashRules → List ℕ → RegionFinding → List SeenRow
 component_rows asked rules region (Component at name shadowed content) =
     let here = at_component region at name in
@@ -105,7 +107,8 @@ component_rows asked rules region (Component at name shadowed content) =
     ++ (only_if (not (is_utf8 name)) (here (row Remark "component-name" "name isn't UTF-8"))
     ++ (only_if (is_none (name_of_type content.kind))
     (here (with_number content.kind (row Remark "component-type" "type without a name")))
-    ++ hash_rows asked rules region at name content)))
+    ++ (hash_rows asked rules region at name content
+    ++ attribute_rows region at name content.fault))))
 component_rows asked rules region _ = []
 
 -- the failed check

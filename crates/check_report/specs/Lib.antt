@@ -1,8 +1,10 @@
 pub mod Fields
 pub mod Rows
 pub mod AnchorRows
+pub mod AttributeRows
 pub mod FindingRows
 pub mod BoardRows
+pub mod StructureRows
 pub mod ChangeRows
 pub mod Reports
 pub mod Effects

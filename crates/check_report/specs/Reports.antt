@@ -1,7 +1,8 @@
--- A report: a list of components on request, rows, and counts. JSON is one document (RFC 8259).
+-- A report: a list of components on request, rows, and a conclusion. JSON is one document
+-- (RFC 8259).
 -- This project defines the choice and order of components and rows.
 use Rattle.std.specs.Prelude.{ℕ, List, [], ◌∷◌, ◌++◌, map, is_none, if◌then◌else◌, Option, false}
-use Rattle.std.specs.Prelude.{◌&&◌, ◌%◌, filter, nat_le, not, Bool, true, ◌≡◌, None}
+use Rattle.std.specs.Prelude.{◌&&◌, ◌%◌, ◌==◌, filter, nat_le, not, Bool, true, ◌≡◌, None}
 use Rattle.std.specs.Prelude.{IsSomeAnd}
 use Rattle.std.specs.Prelude.{MatchOption, length}
 use Rattle.std.specs.List.{flat_map, list_any}
@@ -18,11 +19,16 @@ use Rattle.check_report.specs.declared.rows.field.Value.TheVariants.{Count, Offs
 use Rattle.check_report.specs.Fields.{Line, SeenField, SeenValue, field, name_value, seen_value}
 use Rattle.check_report.specs.Fields.{text_value}
 use Rattle.check_report.specs.Fields.{line_text, items, json_value, line_json, members}
-use Rattle.check_report.specs.Rows.{SeenRow, area_name, counts_of, report_lines, summary}
-use Rattle.check_report.specs.Rows.{names_in}
+use Rattle.check_report.specs.Rows.{SeenRow, area_name, conclusion_of, report_lines, summary}
+use Rattle.check_report.specs.Rows.{verdict_text}
+use Rattle.check_report.specs.Rows.{names_in, row}
+use Rattle.check_report.specs.declared.rows.row.Verdict.TheVariants.{Bad, Remark}
 use Rattle.check_report.specs.FindingRows.{finding_rows, hash_words, missing_row, need_rows}
 use Rattle.check_report.specs.BoardRows.{board_rows}
+use Rattle.check_report.specs.StructureRows.{structure_row}
 use Rattle.board_findings.specs.BoardFindings.{board_findings}
+use Rattle.board_findings.specs.Structures.{lost_structures}
+use Rattle.board_findings.specs.declared.finding.BoardFinding.{BoardFinding}
 use Rattle.check_findings.specs.Areas.{has_name}
 use Rattle.check_findings.specs.Lists.{only_if}
 use Rattle.check_report.specs.ChangeRows.{anchor_change_row, area_change_rows, image_rows, map_change_row}
@@ -37,7 +43,9 @@ use Rattle.json.specs.Json.{Json, array, object}
 use Rattle.json.specs.Token.{Token, begin_array, begin_object, end_array, end_object, key}
 use Rattle.json.specs.Print.{print, print_from}
 use Rattle.check_report.specs.declared.request.Files.{Files}
-use Rattle.check_report.specs.declared.rows.kinds.Counts.{Counts}
+use Rattle.check_report.specs.declared.rows.conclusion.Conclusion.{Conclusion}
+use Rattle.check_report.specs.declared.rows.conclusion.Subject.{Subject}
+use Rattle.check_report.specs.declared.rows.conclusion.Subject.TheVariants as subjects
 use Rattle.check_report.specs.declared.rows.form.Form.{Form}
 use Rattle.check_report.specs.declared.rows.form.Form.TheVariants as forms
 use Rattle.flash_map.specs.Fmap.{found_in}
@@ -49,12 +57,17 @@ use Rattle.check_changes.specs.Areas.{area_changes, map_changes}
 use Rattle.check_changes.specs.Areas.{different_blocks}
 use Rattle.check_changes.specs.Regions.{region_changes}
 
-abbrev pub count_fields : Counts → List SeenField
-count_fields counts =
-    field "bad" (seen_value (Count counts.bad))
-    ∷ field "remarks" (seen_value (Count counts.remarks))
-    ∷ field "changes" (seen_value (Count counts.changes))
+abbrev pub conclusion_fields : Conclusion → List SeenField
+conclusion_fields c =
+    field "verdict" (text_value (verdict_text c))
+    ∷ field "bad" (seen_value (Count c.counts.bad))
+    ∷ field "remarks" (seen_value (Count c.counts.remarks))
+    ∷ field "changes" (seen_value (Count c.counts.changes))
     ∷ []
+
+-- what the conclusion is about: the image, or flashing it, which only --flash asks for
+abbrev pub subject_of : Request → Subject
+subject_of request = if request.is_strict then subjects.Flashing else subjects.Image
 
 -- in JSON, an array with an object for each line
 abbrev pub lines_value : List Line → SeenValue
@@ -68,18 +81,18 @@ first_fields files list =
     ∷ field "old" (option_map_or text_value (option_copied files.old) (seen_value Absent))
     ∷ option_map_or (λ lines. field "components" (lines_value lines) ∷ []) list []
 
-abbrev pub document : Files → Option (List Line) → List Line → Counts → Json
-document files list rows counts = object (members
-    (first_fields files list ++ field "rows" (lines_value rows) ∷ count_fields counts))
+abbrev pub document : Files → Option (List Line) → List Line → Conclusion → Json
+document files list rows end = object (members
+    (first_fields files list ++ field "rows" (lines_value rows) ∷ conclusion_fields end))
 
--- the report as text: the list on request, the rows and the counts
-abbrev pub text_report : Option (List Line) → List Line → Counts → List ℕ
-text_report list rows counts =
-    option_map_or (flat_map line_text) list [] ++ flat_map line_text rows ++ summary counts
+-- the report as text: the list on request, the rows and the conclusion
+abbrev pub text_report : Option (List Line) → List Line → Conclusion → List ℕ
+text_report list rows end =
+    option_map_or (flat_map line_text) list [] ++ flat_map line_text rows ++ summary end
 
 -- the report as JSON: one document
-abbrev pub json_report : Files → Option (List Line) → List Line → Counts → List ℕ
-json_report files list rows counts = print (json_tokens (document files list rows counts))
+abbrev pub json_report : Files → Option (List Line) → List Line → Conclusion → List ℕ
+json_report files list rows end = print (json_tokens (document files list rows end))
 
 -- the bytes of a form
 abbrev pub in_form : Form → List ℕ → List ℕ → List ℕ
@@ -116,9 +129,9 @@ abbrev pub follows_after : Bool → List Line → Bool
 follows_after follows [] = follows
 follows_after follows (line ∷ lines) = true
 
-abbrev pub ending : Form → Counts → List ℕ
-ending form counts = part form false (summary counts)
-    (end_array ∷ flat_map member_tokens (count_fields counts) ++ end_object ∷ []) ++ line_feed
+abbrev pub ending : Form → Conclusion → List ℕ
+ending form c = part form false (summary c)
+    (end_array ∷ flat_map member_tokens (conclusion_fields c) ++ end_object ∷ []) ++ line_feed
 
 -- ---- the choice of components and rows
 
@@ -152,28 +165,45 @@ listed request i = then_some request.asked.lists (flat_map components_in i.findi
 abbrev pub areas_or : OldImage → List NumberedArea → List NumberedArea
 areas_or old news = if is_none old.map.found then news else old.map.areas.items
 
+-- the area has the flag PRESERVE, bit 3
+abbrev pub is_preserved : NumberedArea → Bool
+is_preserved a = nat_le 8 (a.area.flags % 16)
+
 module _ (request : Request) (c : Changes) where
   abbrev pub both_areas : List NumberedArea
   both_areas = areas_or c.old c.new_areas.items ++ c.new_areas.items
 
-  -- the given names and, on request, names of areas with the flag PRESERVE, bit 3
+  -- the given names and, on request, names of areas with the flag PRESERVE
   abbrev pub kept_names : List (List ℕ)
   kept_names = names_in request.kept.now ++ map area_name
-      (filter (λ a. request.keeps_preserved && nat_le 8 (a.area.flags % 16)) both_areas)
+      (filter (λ a. request.keeps_preserved && is_preserved a) both_areas)
 
   -- rows of the given names without an area
   abbrev pub missing_rows : List SeenRow
   missing_rows = flat_map (λ name. only_if (not (list_any (has_name name) both_areas))
       (missing_row (name_value name))) (names_in request.kept.now)
 
-  -- rows of the images, their maps, anchors, areas and components, and of missing areas
+  -- a row if no area has the flag; bad on request, unless areas are kept by their names
+  abbrev pub unpreserved_rows : List SeenRow
+  unpreserved_rows =
+      only_if (request.keeps_preserved && not (list_any is_preserved both_areas))
+      (row (if request.is_strict && length request.kept.now == 0 then Bad else Remark)
+      "none-preserved" "no area has the flag PRESERVE")
+
+  -- rows of what is to be kept, and neither image has
+  abbrev pub absent_rows : List SeenRow
+  absent_rows = missing_rows ++ unpreserved_rows
+
+  -- rows of the images, their maps, anchors, structures, areas and components, and of absent areas
   abbrev pub change_rows : List SeenRow
   change_rows = let new = c.comparison in
       let vital = kept_names ++ map area_name c.old.regions.items in
-      ((((image_rows new.old_len new.new_len new.blocks ++ map map_change_row new.map.items)
+      (((((image_rows new.old_len new.new_len new.blocks
+      ++ map (map_change_row request.is_strict) new.map.items)
       ++ option_to_list (option_map anchor_change_row new.anchor))
+      ++ map structure_row new.structures.items)
       ++ flat_map (area_change_rows kept_names vital) new.areas.items)
-      ++ flat_map (region_change_rows kept_names) new.regions.items) ++ missing_rows
+      ++ flat_map (region_change_rows kept_names) new.regions.items) ++ absent_rows
 
 -- rows of findings, unmet needs, structures of the board, and changes
 abbrev pub inspection_rows : Request → Inspection → List SeenRow
@@ -184,11 +214,24 @@ inspection_rows request i = ((finding_rows request.asked request.areas.now i.fin
 -- the report in the form of the request, and a line feed
 unfoldable pub report : Request → Inspection → List ℕ
 report request i = let list = listed request i in let rows = inspection_rows request i in
-    let lines = report_lines request.asked.is_verbose rows in let counts = counts_of rows in
-    in_form request.form (text_report list lines counts)
-    (json_report request.files list lines counts) ++ line_feed
+    let lines = report_lines request.asked.is_verbose rows in
+    let end = conclusion_of (subject_of request) rows in
+    in_form request.form (text_report list lines end) (json_report request.files list lines end)
+    ++ line_feed
 
 -- ---- the result of a check, on honest devices
+
+-- the structures of an image's board, by the findings of the image
+abbrev pub board_of : List ℕ → List ImageFinding → List BoardFinding
+board_of image findings = board_findings (record {
+  image = image;
+  areas = image_areas image;
+  findings = findings;
+})
+
+-- of an old image, whose check is asked for no area and expects none
+abbrev pub old_board : List ℕ → List BoardFinding
+old_board x = board_of x (image_findings x [] [])
 
 -- the changes from x to y, by the findings of y
 pub record AreChanges (x y : List ℕ) (findings : List ImageFinding) (c : Changes) : Type 0 where
@@ -201,6 +244,8 @@ pub record AreChanges (x y : List ℕ) (findings : List ImageFinding) (c : Chang
   pub blocks : c.comparison.blocks ≡ different_blocks x y
   pub map : c.comparison.map.items ≡ map_changes (found_in x) (found_in y)
   pub anchor : c.comparison.anchor ≡ anchor_change (image_anchor x) (image_anchor y)
+  pub structures : c.comparison.structures.items
+      ≡ lost_structures (old_board x) (board_of y findings)
   pub areas : c.comparison.areas.items
       ≡ area_changes x (areas_or c.old (image_areas y)) y (image_areas y)
   pub regions : c.comparison.regions.items
@@ -211,10 +256,6 @@ pub record Checks (r : Request) (old : Option (List ℕ)) (y : List ℕ) (i : In
   pub findings : i.findings.items ≡ image_findings y (names_in r.areas.now)
       (map (λ need. need.area.now) r.needs.now
       ++ option_map_or (λ x. map area_name (cbfs_areas x (image_areas x))) old [])
-  pub board : i.board.items ≡ board_findings (record {
-    image = y;
-    areas = image_areas y;
-    findings = i.findings.items;
-  })
+  pub board : i.board.items ≡ board_of y i.findings.items
   pub changes : MatchOption old (i.changes ≡ None)
       (λ x. IsSomeAnd i.changes (AreChanges x y i.findings.items))

@@ -1,5 +1,5 @@
 -- Rows, their lines and their limits.
-use Rattle.std.specs.Prelude.{ℕ, ◌-◌, ◌==◌, nat_lt, List, [], ◌∷◌, ◌++◌, Bool, ◌&&◌, ◌||◌}
+use Rattle.std.specs.Prelude.{ℕ, ◌-◌, ◌==◌, nat_lt, List, [], ◌∷◌, ◌++◌, Bool, true, false, ◌&&◌, ◌||◌}
 use Rattle.std.specs.Prelude.{count_by, map, if◌then◌else◌}
 use Rattle.flash_format.specs.Flashmap.{text_of}
 use Rattle.check_findings.specs.declared.areas.NumberedArea.{NumberedArea}
@@ -17,6 +17,9 @@ use Rattle.check_report.specs.declared.rows.row.Verdict.{Verdict}
 use Rattle.check_report.specs.declared.rows.row.Verdict.TheVariants as verdicts
 use Rattle.check_report.specs.declared.rows.row.Row.{Row}
 use Rattle.check_report.specs.declared.rows.kinds.Counts.{Counts}
+use Rattle.check_report.specs.declared.rows.conclusion.Conclusion.{Conclusion}
+use Rattle.check_report.specs.declared.rows.conclusion.Subject.{Subject}
+use Rattle.check_report.specs.declared.rows.conclusion.Subject.TheVariants as subjects
 use Rattle.check_report.specs.Fields.{Line, SeenField, SeenValue, field, json_value, name_value}
 use Rattle.check_report.specs.Fields.{seen_value, text_value}
 
@@ -126,10 +129,24 @@ abbrev pub counts_of : List SeenRow → Counts
 counts_of rows = let n = λ (verdict : Verdict). count_by (has_verdict verdict) rows in
     record { bad = n verdicts.Bad; remarks = n verdicts.Remark; changes = n verdicts.Change }
 
+abbrev pub conclusion_of : Subject → List SeenRow → Conclusion
+conclusion_of subject rows = record { subject = subject; counts = counts_of rows }
+
+-- of the image, and of flashing it over the old one, without bad rows or with some
+abbrev pub in_words : Subject → Bool → List ℕ
+in_words subjects.Image true = codes "sound"
+in_words subjects.Image false = codes "not sound"
+in_words subjects.Flashing true = codes "may be flashed"
+in_words subjects.Flashing false = codes "must not be flashed"
+
+abbrev pub verdict_text : Conclusion → List ℕ
+verdict_text c = in_words c.subject (c.counts.bad == 0)
+
 -- the line after all rows
-unfoldable pub summary : Counts → List ℕ
-summary counts = decimal counts.bad ++ codes " bad, " ++ decimal counts.remarks
-    ++ codes " remarks, " ++ decimal counts.changes ++ codes " changes"
+unfoldable pub summary : Conclusion → List ℕ
+summary c = verdict_text c ++ codes ": " ++ decimal c.counts.bad ++ codes " bad, "
+    ++ decimal c.counts.remarks ++ codes " remarks, " ++ decimal c.counts.changes
+    ++ codes " changes"
 
 -- ---- at most 16 rows of a kind, which is a verdict and a code
 

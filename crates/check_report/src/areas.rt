@@ -10,18 +10,21 @@ use crate::rows::{Row, Verdict};
 use check_changes::{AreaChange, AreaDifference, MapChange};
 use check_findings::NumberedArea;
 
-/// Returns the row of a change of the flash map itself.
-pub fn map_change_row<'a>(change: &MapChange) -> Row<'a>
-    ensures { seen_row result ≡ map_change_row change.now }
+/// Returns the row of a change of the flash map itself. Another name or base address is bad on
+/// request.
+pub fn map_change_row<'a>(is_strict: bool, change: &MapChange) -> Row<'a>
+    ensures { seen_row result ≡ map_change_row is_strict change.now }
 {
-    let v = Verdict::Change;
+    let (v, strict) = (Verdict::Change, change_verdict(is_strict));
     match change {
         MapChange::NoOldMap => v.row("no-old-map", "the old image has no flashmap"),
         MapChange::MovedFrom(at) => v.row("map-moved", "flashmap moved from").number(*at),
         MapChange::BaseFrom(base) => {
-            v.row("map-base", "base address changed from").number(*base)
+            strict
+                .row("map-base", "base address changed from")
+                .number(*base)
         }
-        MapChange::NameChanged => v.row("map-name", "name of the flashmap changed"),
+        MapChange::NameChanged => strict.row("map-name", "name of the flashmap changed"),
     }
 }
 

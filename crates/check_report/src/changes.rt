@@ -21,7 +21,8 @@ use check_changes::{
 };
 use flash_device::Sink;
 
-/// Adds rows for the image lengths, and for the number of different blocks of 4096 bytes.
+/// Adds rows for the image lengths, since flashrom writes no image of another length, and for the
+/// number of different blocks of 4096 bytes.
 pub fn add_image_changes<W: Sink + Drop>(
     rows: &mut RowWriter<W>,
     old_len: u64,
@@ -30,21 +31,23 @@ pub fn add_image_changes<W: Sink + Drop>(
 ) -> Result<(), WriteFault>
     ensures { Adds W.Sink result rows.old rows.new (image_rows old_len new_len blocks) }
 {
-    let resized = Verdict::Change.row("image-size", "image size changed from");
+    let resized = Verdict::Bad.row("image-size", "image size changed from");
     rows.add_if(old_len != new_len, resized.number(old_len))?;
     let differ = Verdict::Change.row("blocks", "erase blocks differ");
     rows.add_if(blocks > 0, differ.count(u64::from(blocks)))
 }
 
-/// Adds a row for each change of the flash map itself.
+/// Adds a row for each change of the flash map itself. Another name or base address is bad on
+/// request.
 pub fn add_map_changes<W: Sink + Drop>(
     rows: &mut RowWriter<W>,
+    is_strict: bool,
     changes: &[MapChange],
 ) -> Result<(), WriteFault>
-    ensures { Adds W.Sink result rows.old rows.new (map map_change_row changes.now) }
+    ensures { Adds W.Sink result rows.old rows.new (map (map_change_row is_strict) changes.now) }
 {
     for change in changes {
-        rows.add(map_change_row(change))?;
+        rows.add(map_change_row(is_strict, change))?;
     }
     Ok(())
 }

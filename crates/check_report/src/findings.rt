@@ -70,7 +70,7 @@ fn map_area_row(area: &Option<NumberedArea>) -> Row<'_>
     match area {
         None => Verdict::Bad.row("no-map-area", "no area FMAP"),
         Some(area) => {
-            let row = Verdict::Bad.row("map-area", "doesn't hold the flashmap");
+            let row = Verdict::Bad.row("map-area", "doesn't begin with the flashmap");
             row.of(area)
         }
     }

@@ -16,11 +16,12 @@ use crate::changes::{
 use crate::component_list::list_components;
 use crate::fault::WriteFault;
 use crate::findings::{add_findings, add_needs};
-use crate::kept::add_missing;
+use crate::kept::add_absent;
 use crate::names::{KnownNames, kept_names, with_areas};
 use crate::request::Request;
 use crate::rows::{Printer, RowWriter};
-use board_findings::BoardFinding;
+use crate::structures::add_lost_structures;
+use board_findings::{BoardFinding, Structure};
 use check_changes::{AnchorChange, AreaChange, MapChange, RegionChange};
 use check_findings::{ImageFinding, ImageMap, NumberedArea};
 use flash_device::Sink;
@@ -35,6 +36,8 @@ pub struct Comparison {
     pub blocks: u32,
     pub map: Vec<MapChange>,
     pub anchor: Option<AnchorChange>,
+    /// The structures of the board that the old image has, and the new one has not.
+    pub structures: Vec<Structure>,
     pub areas: Vec<AreaChange>,
     pub regions: Vec<RegionChange>,
 }
@@ -88,11 +91,12 @@ fn add_changes<W: Sink + Drop>(
     let vital = KnownNames::of(alloc, vital)?;
     let found = &changes.comparison;
     add_image_changes(rows, found.old_len, found.new_len, found.blocks)?;
-    add_map_changes(rows, &found.map)?;
+    add_map_changes(rows, request.is_strict, &found.map)?;
     add_anchor_change(rows, found.anchor)?;
+    add_lost_structures(rows, &found.structures)?;
     add_area_changes(rows, &kept, &vital, &found.areas)?;
     add_region_changes(rows, &kept, &found.regions)?;
-    add_missing(rows, request, changes)
+    add_absent(rows, request, changes)
 }
 
 /// A sink after a report, and the result.
@@ -163,7 +167,7 @@ impl Inspection {
         }
         let mut rows = RowWriter::new(alloc, printer, request.asked.is_verbose);
         let is_bad = match self.add_rows(alloc, request, &mut rows) {
-            Ok(()) => rows.finish(),
+            Ok(()) => rows.finish(request.subject()),
             Err(fault) => Err(fault),
         };
         WrittenReport {

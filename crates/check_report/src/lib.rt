@@ -6,6 +6,7 @@
 
 mod anchor;
 mod areas;
+mod attributes;
 mod board;
 mod change_inspection;
 mod changes;
@@ -20,6 +21,7 @@ mod names;
 mod region;
 mod request;
 mod rows;
+mod structures;
 
 pub use change_inspection::inspect_change;
 pub use check_changes::Images;

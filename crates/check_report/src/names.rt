@@ -1,9 +1,9 @@
 //! Lists of area names.
-ghost use Rattle.std.specs.Prelude.{◌≡◌, ◌++◌, ◌&&◌, ◌%◌, map, nat_le, IfOk};
+ghost use Rattle.std.specs.Prelude.{◌≡◌, ◌++◌, ◌&&◌, map, IfOk};
 ghost use Rattle.std.proofs.Props.{props};
 ghost use Rattle.check_findings.specs.ImageFindings.{has_one_of, is_named_in};
 ghost use Rattle.check_findings.specs.declared.areas.NumberedArea.{NumberedArea};
-ghost use Rattle.check_report.specs.Reports.{kept_names};
+ghost use Rattle.check_report.specs.Reports.{is_preserved, kept_names};
 ghost use Rattle.check_report.specs.Rows.{area_name, names_in};
 
 use crate::inspection::Changes;
@@ -60,10 +60,17 @@ pub fn with_areas<'a>(
 
 const PRESERVE: u16 = 8;
 
-fn is_preserved_if(keeps_preserved: bool, area: &NumberedArea) -> bool
-    ensures { result ≡ (keeps_preserved && nat_le 8 (area.now.area.flags % 16)) }
+/// Returns whether the area has the flag PRESERVE.
+pub fn is_preserved(area: &NumberedArea) -> bool
+    ensures { result ≡ is_preserved area.now }
 {
-    keeps_preserved && area.area.flags % (2 * PRESERVE) >= PRESERVE
+    area.area.flags % (2 * PRESERVE) >= PRESERVE
+}
+
+fn is_preserved_if(keeps_preserved: bool, area: &NumberedArea) -> bool
+    ensures { result ≡ (keeps_preserved && is_preserved area.now) }
+{
+    keeps_preserved && is_preserved(area)
 }
 
 /// Returns the names of areas that must not change: the given names and, on request, of areas with

@@ -5,6 +5,7 @@ ghost use Rattle.check_report.specs.Effects.{Adds};
 ghost use Rattle.check_report.specs.FindingRows.{component_rows, damage_text, has_hash_row};
 ghost use Rattle.check_report.specs.FindingRows.{hash_rows, hash_words, plain_row, region_rows};
 
+use crate::attributes::add_attributes;
 use crate::fault::WriteFault;
 use crate::request::Asked;
 use crate::rows::{Row, RowWriter, Verdict};
@@ -61,8 +62,8 @@ fn add_hash<W: Sink + Drop>(
     rows.add_if(rules.differ(content), row.at_component(region, at, name))
 }
 
-/// Adds the rows of a component: up to four of its name, metadata and type, and those of its
-/// digest.
+/// Adds the rows of a component: up to four of its name, metadata and type, those of its digest,
+/// and the fault of its attributes.
 fn add_component<W: Sink + Drop>(
     rows: &mut RowWriter<W>,
     asked: Asked,
@@ -97,7 +98,8 @@ fn add_component<W: Sink + Drop>(
     let row = row.number(u64::from(content.kind));
     let is_nameless = type_name(content.kind).is_none();
     rows.add_if(is_nameless, row.at_component(region, at, name))?;
-    add_hash(rows, asked, rules, region, at, name, *content)
+    add_hash(rows, asked, rules, region, at, name, *content)?;
+    add_attributes(rows, region, at, name, content.fault)
 }
 
 fn damage_text(kind: DamageKind) -> &'static str

@@ -1,5 +1,8 @@
 //! The arguments of a check.
-use crate::rows::Form;
+ghost use Rattle.std.specs.Prelude.{◌≡◌};
+ghost use Rattle.check_report.specs.Reports.{subject_of};
+
+use crate::rows::{Form, Subject};
 use check_findings::Need;
 
 /// The optional parts of a report.
@@ -32,7 +35,23 @@ pub struct Request<'a> {
     pub kept: &'a [&'a [u8]],
     /// Areas with the flag PRESERVE in either map must not change.
     pub keeps_preserved: bool,
+    /// The image is to be flashed over the old one. Another name or base address of the flash map
+    /// is bad, and so is that no area is kept. The conclusion tells whether it may be flashed.
+    pub is_strict: bool,
     pub asked: Asked,
     pub form: Form,
     pub files: Files<'a>,
+}
+
+impl Request<'_> {
+    /// Returns what the conclusion of the report is about.
+    pub fn subject(self) -> Subject
+        ensures { result ≡ subject_of self.entry }
+    {
+        if self.is_strict {
+            Subject::Flashing
+        } else {
+            Subject::Image
+        }
+    }
 }

@@ -29,7 +29,9 @@ by_entry absent x later = ends tail
 by_entry (damaged kind) x later = ends (damage kind)
 by_entry (cell span) x later = after (take span x ∷ []) (later span)
 
--- after the first `skip` bytes, part of the previous cell
+-- The cut of the bytes after the first `skip` bytes, which belong to the previous cell. The next
+-- byte `b` is the start of an entry. If it is that of a cell, `pred span` bytes of the cell follow
+-- `b`.
 unfoldable pub cut_after : ℕ → List ℕ → Cut
 cut_after skip [] = ends complete
 cut_after (suc skip) (b ∷ bs) = cut_after skip bs

@@ -14,7 +14,8 @@ pub record Stored : Type 0 where
   pub written_at : ℕ
   pub written_len : ℕ
 
--- Reserved space: the last write was complete, so no limit, full disk or hole refuses the next.
+-- The file has space for n bytes at `at`, because its last complete write wrote this range. So no
+-- limit, full disk or hole refuses the next write of this range.
 pub record IsReserved (at n : ℕ) (file : Stored) : Type 0 where
   pub place : file.written_at ≡ at
   pub count : file.written_len ≡ n

@@ -58,7 +58,9 @@ token_fault Name depth w = then_some (nat_lt 31 (length w.bytes)) (faults.NameTo
 token_fault OpenBrace depth w = then_some (nat_le 32 depth) faults.TooDeep
 token_fault k depth w = None
 
--- the first fault of the tokens
+-- The first fault of the tokens, from a state and a number of open braces on. It is the fault of
+-- the first token alone. Without one, it is that of the later tokens in the next state, or an
+-- unexpected token if there is no next state.
 abbrev pub fault_from : Stage × ℕ → List Word → Option FmdFault
 fault_from there [] = None
 fault_from (s, depth) (w ∷ ws) = let k = kind_of w.bytes in

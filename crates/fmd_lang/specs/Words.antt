@@ -18,7 +18,8 @@ use Rattle.fmd_lang.specs.declared.word.Kind.TheVariants.{OpenBrace, CloseBrace,
 abbrev pub is_blank : ℕ → Bool
 is_blank b = list_any (nat_eq b) (32 ∷ 9 ∷ 10 ∷ 13 ∷ [])
 
--- the bytes of names and numbers: printable ASCII except punctuation and `#`
+-- The bytes of names and numbers: printable ASCII except the blank and `#@{}()`. So `-`, `.` and
+-- `_` are plain.
 abbrev pub is_plain : ℕ → Bool
 is_plain b = (nat_le 0x21 b && nat_le b 0x7e) && not (list_any (nat_eq b) (codes "#@{}()"))
 
@@ -29,7 +30,7 @@ without_comments inside [] = []
 without_comments inside (b ∷ bs) = let comment = (inside || nat_eq b 35) && not (nat_eq b 10) in
     (if comment then 32 else b) ∷ without_comments comment bs
 
--- a token, and the offset
+-- a token: the offset of its first byte in the text, and its bytes
 pub record Word : Type 0 where
   pub place : ℕ
   pub bytes : List ℕ
@@ -37,22 +38,23 @@ pub record Word : Type 0 where
 abbrev pub word : ℕ → List ℕ → Word
 word place bytes = record { place = place; bytes = bytes }
 
--- The tokens: a punctuation mark, a maximal sequence of plain bytes, or a single invalid byte. The
--- flag is set inside a sequence.
+-- The tokens of the bytes from the offset `place` on: a punctuation mark, a longest sequence of
+-- plain bytes, or a single invalid byte. A sequence is listed at its first byte: `inside` says that
+-- the byte before was plain, so that the sequence is listed already.
 abbrev pub words_from : ℕ → Bool → List ℕ → List Word
 words_from place inside [] = []
 words_from place inside (b ∷ bs) = let others = words_from (suc place) (is_plain b) bs in
     if is_blank b then others else (if not (is_plain b) then word place (b ∷ []) ∷ others
     else (if inside then others else word place (take_while is_plain (b ∷ bs)) ∷ others))
 
--- the kind of a token, by the first byte; the end is empty
+-- the kind of a token by its first byte; the token at the end of the text has no bytes
 abbrev pub kind_of : List ℕ → Kind
 kind_of [] = End
 kind_of (b ∷ bs) = unwrap_or (lookup (nat_eq b)
     ((40, OpenParen) ∷ (41, CloseParen) ∷ (64, At) ∷ (123, OpenBrace) ∷ (125, CloseBrace) ∷ []))
     (if nat_le 48 b && nat_le b 57 then Number else (if is_plain b then Name else Bad))
 
--- the tokens from an offset on, outside any token or comment
+-- the tokens from an offset on that lies in no token and in no comment
 unfoldable pub words_after : List ℕ → ℕ → List Word
 words_after text at = words_from at false (without_comments false (drop at text))
 
@@ -61,13 +63,15 @@ words text = words_after text 0
 
 -- ---- numbers
 
--- decimal digits without a leading zero, a single `0`, or `0x` and hexadecimal digits
+-- The value of decimal digits without a leading zero, of a single `0`, or of `0x` and hexadecimal
+-- digits, else none. Without a digit there is no value.
 abbrev pub plain_value : List ℕ → Option ℕ
 plain_value (b ∷ x ∷ ds) = if nat_eq b 48 then (if nat_eq x 120 then digits_value 16 ds else None)
     else digits_value 10 (b ∷ x ∷ ds)
 plain_value bytes = digits_value 10 bytes
 
--- the value of a number with at most a single unit, the last byte
+-- The value of a number with an optional suffix K, M or G. A number without it, or without bytes,
+-- has its plain value.
 unfoldable pub literal_value : List ℕ → Option ℕ
 literal_value text = let last = length text - 1 in
     option_map_or (λ unit. option_map (λ n. n * unit) (plain_value (take last text)))

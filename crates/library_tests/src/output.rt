@@ -401,7 +401,7 @@ fn a_table(rt: HostRuntime) {
 }
 
 /// The report of an image without findings.
-const REPORT: &[u8] = b"0 bad, 0 remarks, 0 changes\n";
+const REPORT: &[u8] = b"sound: 0 bad, 0 remarks, 0 changes\n";
 
 fn reports_once(rt: &(impl Abort + AllocGlobal), manner: Manner) -> bool {
     let inspection = Inspection {
@@ -419,7 +419,7 @@ fn reports_once(rt: &(impl Abort + AllocGlobal), manner: Manner) -> bool {
 fn a_report(rt: HostRuntime) {
     for left in 0..100 {
         if !reports_once(&rt, Manner { left, ..THREE }) {
-            equal(&rt, &left, &10);
+            equal(&rt, &left, &12);
             return;
         }
     }
@@ -429,7 +429,8 @@ fn a_report(rt: HostRuntime) {
 /// A JSON report without rows: the bytes before and after the image's path.
 const BEFORE_PATH: &[u8] = b"{\"format\":1,\"image\":\"";
 
-const AFTER_PATH: &[u8] = b"\",\"rows\":[],\"bad\":0,\"remarks\":0,\"changes\":0}\n";
+const AFTER_PATH: &[u8] =
+    b"\",\"rows\":[],\"verdict\":\"sound\",\"bad\":0,\"remarks\":0,\"changes\":0}\n";
 
 /// Returns the report of `len` bytes on an image with a long path.
 fn report_of(rt: &(impl Abort + AllocGlobal), len: usize) -> Vec<u8> {

@@ -19,7 +19,7 @@ use Rattle.check_findings.specs.declared.areas.NumberedArea.{NumberedArea}
 use Rattle.check_findings.specs.Lists.{only_if}
 use Rattle.check_findings.specs.declared.map.finding.MapFinding.{MapFinding}
 use Rattle.check_findings.specs.declared.map.finding.MapFinding.TheVariants as findings
-use Rattle.check_findings.specs.MapFindings.{area_findings, ends_inside, findings_of, holds_map, map_area_findings, map_findings, name_findings, namesake, overlap, overlap_findings}
+use Rattle.check_findings.specs.MapFindings.{area_findings, ends_inside, findings_of, begins_with_map, map_area_findings, map_findings, name_findings, namesake, overlap, overlap_findings}
 use Rattle.check_findings.specs.Areas.{area_end, has_name, map_areas}
 use Rattle.check_findings.proofs.MapAreas.{numbered_from}
 use Rattle.check_findings.specs.Laws.{IsSound}
@@ -95,7 +95,7 @@ nested areas none a b there here =
 
 -- ---- the whole map
 
-held : (map : FoundMap) (o : Option NumberedArea) → list_any every (only_if (not (option_map_or (holds_map map) o false)) (findings.MapAreaMisses o)) ≡ false → IsSomeAnd o (λ a. holds_map map a ≡ true)
+held : (map : FoundMap) (o : Option NumberedArea) → list_any every (only_if (not (option_map_or (begins_with_map map) o false)) (findings.MapAreaMisses o)) ≡ false → IsSomeAnd o (λ a. begins_with_map map a ≡ true)
 unfolding every
 held map None e = absurd cc
 held map (Some a) e = grind (arith, common_steps, e)

@@ -84,14 +84,14 @@ tail_place x place at is = grind (arith, common_steps, is)
 
 -- the check has reached the walk's offset
 pub record Checking {F : Type 0} (r : Range) (w : Walking) (found : List RegionFinding) (count : EntryCounts) (old now : Pages F) : Type 0 where
-  pub reached : Reached r w (w.at / 12) old now
+  pub reached : Reached r w (w.at / 10) old now
   pub place : count.at ≡ w.at
   pub before : (count.components ≤ count.at) × (count.free ≤ count.at)
   pub so_far : OnHonestIn old.device r (λ x. walk_findings x ≡ found ++ findings_from x count w.at)
 
 pub checking_start : {F : Type 0} (r : Range) (old : Pages F) → LiesOn r old.device → Checking r (record { region = r; at = 0; steps = 0; ended = None }) [] (entry_counts r.size []) old old
 checking_start r old lies = record {
-  reached = reached_start r (0 / 12) old;
+  reached = reached_start r (0 / 10) old;
   place = refl;
   before = (omega arith, omega arith);
   so_far = λ h.
@@ -116,7 +116,7 @@ module _ {F : Type 0} (r : Range) (w : Walking) (found : List RegionFinding) (co
 
   -- another cell
   pub checking_more : (c : Cell) (v : Walking) (next : List RegionFinding) (more : EntryCounts) (mid new : Pages F) (n m : ℕ) → IsCellIn w.region.size c × (c.at ≡ w.at)
-      → HasRead n 0 now mid → n ≡ reads_over c.span → HasRead m 0 mid new → m ≡ 4 + c.span / 1280
+      → HasRead n 0 now mid → n ≡ reads_over c.span → HasRead m 0 mid new → m ≡ 5 + c.span / 960
       → Answers w now (Ok (steps.Cell c))
       → v ≡ record w { at = w.at + c.span; steps = w.steps + 1 }
       → more ≡ counts_after count (is_free c.head) c.span
@@ -124,7 +124,7 @@ module _ {F : Type 0} (r : Range) (w : Walking) (found : List RegionFinding) (co
       → Checking r v next more old new
   unfolding findings_by cell_step findings_from
   checking_more c v next more mid new n m given reads few over fewer answer moved is_more gains = rw moved (record {
-    reached = reached_more i.reached c (n + m) ((w.at + c.span) / 12) new given (HasRead-then n m 0 now mid new reads over) (omega (arith, few, fewer, given.0.positive, given.0.whole, i.reached.aligned));
+    reached = reached_more i.reached c (n + m) ((w.at + c.span) / 10) new given (HasRead-then n m 0 now mid new reads over) (omega (arith, few, fewer, given.0.positive, given.0.whole, i.reached.aligned));
     place = rw is_more (counted (is_free c.head) count w.at c.span i.place i.before given.0.positive).0;
     before = rw is_more (counted (is_free c.head) count w.at c.span i.place i.before given.0.positive).1;
     so_far = λ h.

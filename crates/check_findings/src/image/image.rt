@@ -56,7 +56,7 @@ fn area_finding<F: Flash>(
     requires { area_end area.area ≤ length paged.old.device.content }
 
     ensures calls { HasReadBy by_device
-        ((left.old - left.new) / 12 + 2) paged.old paged.new result }
+        ((left.old - left.new) / 10 + 2) paged.old paged.new result }
     ensures left { left.new ≡ left_after left.old area }
     ensures area { IfOk result (λ finding. region_area finding
         ≡ (if nat_le area.area.size left.old then area ∷ [] else [])) }

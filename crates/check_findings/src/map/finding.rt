@@ -36,6 +36,6 @@ pub enum MapFinding {
     },
     /// The map has more than 4096 areas, so overlaps aren't checked.
     TooManyAreas,
-    /// The first area `FMAP`, if any, doesn't contain the whole map.
+    /// The first area `FMAP`, if any, doesn't begin with the whole map. coreboot's tools refuse it.
     MapAreaMisses(Option<NumberedArea>),
 }

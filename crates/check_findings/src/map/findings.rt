@@ -72,13 +72,13 @@ fn push_map_area_findings(
 {
     let map_end = map.at + map.head.map_len();
     let area = map_area(areas);
-    let is_held = match area {
+    let begins_with_it = match area {
         Some(NumberedArea { area, .. }) => {
-            u64::from(area.offset) <= map.at && map_end <= area.end()
+            u64::from(area.offset) == map.at && map_end <= area.end()
         }
         None => false,
     };
-    push_if(findings, !is_held, MapFinding::MapAreaMisses(area))
+    push_if(findings, !begins_with_it, MapFinding::MapAreaMisses(area))
 }
 
 fn map_area(areas: &[NumberedArea]) -> Option<NumberedArea>

@@ -11,6 +11,7 @@ ghost use Rattle.check_findings.specs.RegionFindings.{walk_findings};
 
 use crate::fault::CheckFault;
 use crate::lists::push_if;
+use crate::region::attributes::attribute_fault;
 use crate::region::entry_counts::EntryCounts;
 use crate::region::finding::{Content, HashFinding, Name, RegionFinding};
 use crate::region::shadows::mark_shadowed;
@@ -32,7 +33,7 @@ fn push_cell<F: Flash>(
 ) -> Result<(), CheckFault>
     requires { IsCellOn IsCellIn region cell.now paged.old.device }
 
-    ensures calls { HasReadBy by_device (4 + cell.now.span / 1280) paged.old paged.new result }
+    ensures calls { HasReadBy by_device (5 + cell.now.span / 960) paged.old paged.new result }
     ensures found { OnHonestIn paged.old.device region (λ x. StandsIn x cell.now → Gains
         findings.old findings.new result (cell_findings cell.now.at (cell_in x cell.now))) }
 {
@@ -45,6 +46,7 @@ fn push_cell<F: Flash>(
     let len = name(paged, region, cell, &mut field)?;
     let compression = packing(paged, region, cell)?;
     let stored = first_hash(paged, region, cell)?;
+    let fault = attribute_fault(paged, region, cell)?;
     let state = check_hash(paged, region, cell)?;
     let content = Content {
         start: cell.at + u64::from(cell.head.offset),
@@ -53,6 +55,7 @@ fn push_cell<F: Flash>(
         compression,
         hash: HashFinding::of(state),
         stored,
+        fault,
     };
     Ok(findings.push(RegionFinding::Component {
         at: cell.at,
@@ -70,7 +73,7 @@ fn walk_region<F: Flash>(
 ) -> Result<Vec<RegionFinding>, CheckFault>
     requires { LiesOn region paged.old.device }
 
-    ensures calls { HasReadBy by_device (region.size / 12 + 2) paged.old paged.new result }
+    ensures calls { HasReadBy by_device (region.size / 10 + 2) paged.old paged.new result }
     ensures findings { OnHonestIn paged.old.device region (λ x. Lists result (walk_findings x)) }
 {
     let mut findings = Vec::new(alloc);
@@ -118,7 +121,7 @@ pub fn check_region<F: Flash>(
     requires { LiesOn region paged.old.device }
 
     // On any device.
-    ensures calls { HasReadBy by_device (region.size / 12 + 2) paged.old paged.new result }
+    ensures calls { HasReadBy by_device (region.size / 10 + 2) paged.old paged.new result }
 
     // On an honest device.
     ensures findings { OnHonestIn paged.old.device region (λ x. Lists result (region_findings x)) }

@@ -102,7 +102,27 @@ impl HashFinding {
     }
 }
 
-/// The range, type, compression and digest of a component's content.
+/// A fault of a component's attributes: coreboot's programs or firmware read them in another way
+/// than this project's commands, or refuse them.
+#[derive(Clone, Copy)]
+pub enum AttributeFault {
+    /// An attribute behind one with the tag 0 or 0xffffffff, where the list ends.
+    BehindEnd,
+    /// A compression attribute of another length than 16 bytes.
+    CompressionLength,
+    /// A digest of another length than its algorithm's.
+    DigestLength,
+    /// A digest with a number that no algorithm has.
+    UnknownAlgorithm,
+    /// A second digest. Commands compare the first only.
+    SecondDigest,
+    /// A stage without a stage attribute, or its first one has another length than 24 bytes.
+    NoStage,
+    /// A stage whose entry point lies outside its memory.
+    EntryOutside,
+}
+
+/// The range, type, compression, digest and attributes of a component's content.
 #[derive(Clone, Copy)]
 pub struct Content {
     /// The content's offset in the region.
@@ -114,6 +134,8 @@ pub struct Content {
     pub hash: HashFinding,
     /// The first hash attribute.
     pub stored: Option<StoredHash>,
+    /// The first fault of the attributes.
+    pub fault: Option<AttributeFault>,
 }
 
 /// A finding of a region. Each `at` is an offset in the region, in bytes. `BadSize` and `NotCbfs`

@@ -1,5 +1,6 @@
 //! The check of a CBFS region, entry by entry.
 
+mod attributes;
 mod entries;
 mod entry_counts;
 mod finding;
@@ -8,5 +9,5 @@ mod start;
 mod tail;
 
 pub use entries::check_region;
-pub use finding::{Content, HashFinding, Name, RegionFinding};
+pub use finding::{AttributeFault, Content, HashFinding, Name, RegionFinding};
 pub use start::has_entry_at;

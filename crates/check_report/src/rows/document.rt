@@ -14,8 +14,8 @@ ghost use Rattle.check_report.specs.Effects.{AddsTokens};
 ghost use Rattle.flash_device.specs.Pages.{Lists};
 
 use crate::request::Files;
+use crate::rows::conclusion::Conclusion;
 use crate::rows::field::{Field, Value};
-use crate::rows::kinds::Counts;
 use crate::rows::text::push;
 use flash_format::hexadecimal;
 use json::{Token, Writer};
@@ -117,12 +117,12 @@ pub fn json_start(alloc: Global, files: Files<'_>, array: &str) -> Result<Vec<u8
 }
 
 /// Returns the document from the end of the array of rows.
-pub fn json_end(alloc: Global, counts: Counts) -> Result<Vec<u8>, AllocError>
-    ensures { Lists result (ending forms.Json counts) }
+pub fn json_end(alloc: Global, conclusion: Conclusion) -> Result<Vec<u8>, AllocError>
+    ensures { Lists result (ending forms.Json conclusion) }
 {
     let mut writer = Writer::new(Vec::new(alloc));
     put(&mut writer, Token::EndArray)?;
-    put_members(&mut writer, &counts.fields())?;
+    put_members(&mut writer, &conclusion.fields())?;
     put(&mut writer, Token::EndObject)?;
     let mut text = writer.into_inner();
     push(&mut text, b"\n")?;

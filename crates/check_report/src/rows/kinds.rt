@@ -2,11 +2,8 @@
 ghost use Rattle.std.specs.Prelude.{◌≡◌, ◌+◌, ◌++◌, ◌∷◌, [], List, count_by, map, IfOk};
 ghost use Rattle.check_report.specs.Rows.{SeenRow, counts_of, is_like, is_of, kinds_of};
 ghost use Rattle.check_report.specs.Rows.{seen_kind, seen_row};
-ghost use Rattle.check_report.specs.Fields.{seen_field};
-ghost use Rattle.check_report.specs.Reports.{count_fields};
 ghost use Rattle.flash_device.specs.Pages.{Returns};
 
-use crate::rows::field::{Field, Value};
 use crate::rows::row::{Row, Verdict};
 use std::alloc::AllocError;
 
@@ -62,17 +59,6 @@ pub fn count_by_kind(kinds: &mut Vec<Kind>, row: &Row) -> Result<u64, AllocError
 }
 
 impl Counts {
-    /// Returns the numbers as the last fields of the JSON document.
-    pub fn fields(self) -> [Field<'static>; 3]
-        ensures { map seen_field result ≡ count_fields self }
-    {
-        [
-            ("bad", Value::Count(self.bad)),
-            ("remarks", Value::Count(self.remarks)),
-            ("changes", Value::Count(self.changes)),
-        ]
-    }
-
     /// Returns the numbers after another row, or an error above 2^64 - 1 rows.
     pub fn with(mut self, row: &Row) -> Result<Counts, AllocError>
         ensures { IfOk result (λ counts. (rows : List SeenRow) → self ≡ counts_of rows

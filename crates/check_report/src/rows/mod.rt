@@ -1,5 +1,6 @@
 //! The lines of a report, as tab-separated text or one JSON document.
 
+mod conclusion;
 mod document;
 mod field;
 mod form;
@@ -9,6 +10,7 @@ mod row;
 mod text;
 mod writer;
 
+pub use conclusion::{Conclusion, Subject};
 pub use field::{Field, Value};
 pub use form::Form;
 pub use printer::Printer;

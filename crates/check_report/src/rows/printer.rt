@@ -9,10 +9,10 @@ ghost use Rattle.check_report.specs.Effects.{Prints, PrintsLines};
 
 use crate::fault::WriteFault;
 use crate::request::Files;
+use crate::rows::conclusion::Conclusion;
 use crate::rows::document::{json_end, json_start, line_object};
 use crate::rows::field::Field;
 use crate::rows::form::Form;
-use crate::rows::kinds::Counts;
 use crate::rows::text::{line, summary};
 use flash_device::{Sink, put_all};
 use std::alloc::Global;
@@ -78,17 +78,16 @@ impl<W: Sink + Drop> Printer<W> {
         }
     }
 
-    /// Prints the end of the report: the numbers of rows by verdict. After an error, a part of the
-    /// end is missing.
-    pub fn end(&mut self, counts: Counts) -> Result<(), WriteFault>
+    /// Prints the end of the report: its conclusion. After an error, a part of the end is missing.
+    pub fn end(&mut self, conclusion: Conclusion) -> Result<(), WriteFault>
         ensures prints { Prints W.Sink result self.old self.new
-            (ending self.old.form counts) self.old.follows }
+            (ending self.old.form conclusion) self.old.follows }
         ensures part { OnErr result (AppendsPart (W.contents self.old.out)
-            (W.contents self.new.out) (ending self.old.form counts)) }
+            (W.contents self.new.out) (ending self.old.form conclusion)) }
     {
         let end = match self.form {
-            Form::Text => summary(self.alloc, counts)?,
-            Form::Json => json_end(self.alloc, counts)?,
+            Form::Text => summary(self.alloc, conclusion)?,
+            Form::Json => json_end(self.alloc, conclusion)?,
         };
         self.put(&end)
     }

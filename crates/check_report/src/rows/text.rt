@@ -6,8 +6,8 @@ ghost use Rattle.check_report.specs.Fields.{field_text, line_text, seen_field, s
 ghost use Rattle.check_report.specs.Rows.{summary};
 ghost use Rattle.flash_device.specs.Pages.{Lists};
 
+use crate::rows::conclusion::Conclusion;
 use crate::rows::field::{Field, Value};
-use crate::rows::kinds::Counts;
 use flash_format::{hexadecimal, printed_byte};
 use itoa::Buffer;
 use std::alloc::{AllocError, Global};
@@ -66,12 +66,15 @@ pub fn line(alloc: Global, head: &str, fields: &[Field<'_>]) -> Result<Vec<u8>, 
     Ok(text)
 }
 
-/// Returns the line after all rows.
+/// Returns the last line of a report: the verdict in words, and the numbers of rows.
 #[tactic(auto, unfolding(crate::specs::Rows::summary))]
-pub fn summary(alloc: Global, counts: Counts) -> Result<Vec<u8>, AllocError>
-    ensures { Lists result (summary counts ++ line_feed) }
+pub fn summary(alloc: Global, conclusion: Conclusion) -> Result<Vec<u8>, AllocError>
+    ensures { Lists result (summary conclusion ++ line_feed) }
 {
+    let counts = conclusion.counts;
     let mut text = Vec::new(alloc);
+    push(&mut text, conclusion.verdict().as_bytes())?;
+    push(&mut text, b": ")?;
     push_decimal(&mut text, counts.bad)?;
     push(&mut text, b" bad, ")?;
     push_decimal(&mut text, counts.remarks)?;

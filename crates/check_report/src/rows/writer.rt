@@ -6,6 +6,7 @@ ghost use Rattle.check_report.specs.Rows.{more_of, row_line, seen_kind, seen_row
 ghost use Rattle.check_report.specs.Effects.{Adds, Ends, HasWritten, PrintsLines};
 
 use crate::fault::WriteFault;
+use crate::rows::conclusion::{Conclusion, Subject};
 use crate::rows::kinds::{Counts, Kind, count_by_kind};
 use crate::rows::printer::Printer;
 use crate::rows::row::Row;
@@ -92,11 +93,14 @@ impl<W: Sink + Drop> RowWriter<W> {
     }
 
     /// Prints the end. Returns whether a row is bad.
-    pub fn finish(&mut self) -> Result<bool, WriteFault>
-        ensures { Ends W.Sink result self.old self.new }
+    pub fn finish(&mut self, subject: Subject) -> Result<bool, WriteFault>
+        ensures { Ends W.Sink subject result self.old self.new }
     {
         self.printer.more(limited(self.is_verbose, &self.kinds))?;
-        self.printer.end(self.counts)?;
+        self.printer.end(Conclusion {
+            subject,
+            counts: self.counts,
+        })?;
         Ok(self.counts.bad > 0)
     }
 }

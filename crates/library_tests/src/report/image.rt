@@ -11,6 +11,7 @@ fn findings_that_are_bad(rt: HostRuntime) {
         compression: 0,
         hash: HashFinding::Missing,
         stored: None,
+        fault: None,
     };
     let rules = HashRules {
         needs_all: true,

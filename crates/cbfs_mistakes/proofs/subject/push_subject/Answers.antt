@@ -1,4 +1,3 @@
-use Rattle.std.proofs.Common.{rules}
 use Rattle.cbfs_mistakes.proofs.subject.push_subject.Goals as goal
 
 pub returns-in-NotFound : goal.returns-in-NotFound

@@ -4,6 +4,7 @@ use Rattle.flash_format.specs.Cut.{cut_after}
 use Rattle.flash_format.specs.Entry.{entry, attr_head_of, scan_after}
 use Rattle.flash_format.specs.Head.{head_of, head_at, extent_of}
 use Rattle.flash_format.specs.Components.{Component}
+use Rattle.check_findings.specs.Attributes.{fault_after, walk_after}
 use Rattle.check_findings.specs.RegionFindings.{cells_findings, component_content, region_findings, tail_findings, walk_findings}
 use Rattle.check_findings.specs.declared.region.finding.RegionFinding.{RegionFinding}
 use Rattle.check_findings.specs.declared.region.finding.RegionFinding.TheVariants as findings
@@ -16,7 +17,7 @@ shadowed = findings.Component 0 its_component.name true (component_content its_c
 
 -- none of the five findings is that of a shadowed component
 unshadowed : Contains (region_findings small_region) shadowed → ⊥
-unfolding region_findings walk_findings cells_findings tail_findings cut_after entry head_of head_at extent_of scan_after attr_head_of small_region component_cell free_cell
+unfolding walk_after fault_after region_findings walk_findings cells_findings tail_findings cut_after entry head_of head_at extent_of scan_after attr_head_of small_region component_cell free_cell
 unshadowed (zero, below, is) = cc
 unshadowed (suc zero, below, is) = cc
 unshadowed (suc (suc zero), below, is) = cc

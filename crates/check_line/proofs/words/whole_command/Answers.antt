@@ -34,14 +34,17 @@ returns c =
     let local : map (λ (arg : Arg). arg.global) args ≡ map (λ _. false) args = rw are
     (rw (c.new.ensures.optional.1, c.new-2.ensures.optional.1, c.flag.ensures.local)
     (rw (c.flag-2.ensures.local, c.flag-3.ensures.local, c.flag-4.ensures.local)
-    (rw (c.flag-5.ensures.local, c.short.ensures, c.short-2.ensures)
+    (rw (c.flag-5.ensures.local, c.flag-6.ensures.local)
+    (rw (c.short.ensures, c.short-2.ensures)
     (rw (c.new-3.ensures.optional.1, c.new-4.ensures.optional.1)
     (rw (c.long.ensures.local, c.long-2.ensures.local, c.long-3.ensures.local)
-    (rw (c.long-4.ensures.local, c.long-5.ensures.local, c.long-6.ensures.local) refl)))))) in
+    (rw (c.long-4.ensures.local, c.long-5.ensures.local, c.long-6.ensures.local)
+    (rw c.long-7.ensures.local refl)))))))) in
     let rules : map rule_of args ≡ check_words.top.rules = ap (map rule_of) are
     ∙ also c.new.ensures.rule (also c.new-2.ensures.rule (also (ap rule_of c.short.ensures ∙ ap (lettered 114) c.new-3.ensures.rule)
     (also (c.flag.ensures.rule ∙ ap flag (ap rule_of c.short-2.ensures ∙ ap (lettered 118) c.new-4.ensures.rule)) (also (c.flag-2.ensures.rule ∙ ap flag c.long.ensures.rule) (also (c.flag-3.ensures.rule ∙ ap flag c.long-2.ensures.rule) (also c.long-3.ensures.rule
     (also (c.flag-4.ensures.rule ∙ ap flag c.long-4.ensures.rule)
     (also (c.flag-5.ensures.rule ∙ ap flag c.long-5.ensures.rule)
-    (also c.long-6.ensures.rule refl))))))))) in
+    (also (c.flag-6.ensures.rule ∙ ap flag c.long-6.ensures.rule)
+    (also c.long-7.ensures.rule refl)))))))))) in
     IfOk-weaker c.args-2.result _ _ (λ command added. all_added _ _ command local added ∙ ap₂ (fold with_rule) begun rules) c.args-2.ensures

@@ -1,7 +1,7 @@
 -- A row is bad if its finding is bad.
 use Rattle.std.proofs.Common.{◌≡◌, ◌∙◌, ℕ, zero, ◌==◌, List, [], ◌∷◌, ◌++◌, refl, ap, eqb-true}
 use Rattle.std.proofs.lemmas.Bool.{and_parts, false≢true}
-use Rattle.std.specs.Prelude.{Bool, true, false, None, is_none, is_some, not, ◌&&◌, ◌||◌, if◌then◌else◌}
+use Rattle.std.specs.Prelude.{Bool, true, false, Option, Some, None, is_none, is_some, not, ◌&&◌, ◌||◌, if◌then◌else◌}
 use Rattle.std.specs.Borrow.{Bor}
 use Rattle.std.specs.List.{flat_map, list_any}
 use Rattle.std.specs.Option.{option_map_or}
@@ -27,13 +27,19 @@ use Rattle.check_findings.specs.declared.image.verdict.HashRules.{HashRules}
 use Rattle.check_report.specs.AnchorRows.{anchor_row, at_spot, in_bootblock, metadata_row, map_row as digest_map_row}
 use Rattle.check_findings.specs.declared.anchor.finding.AnchorSpot.{AnchorSpot}
 use Rattle.check_findings.specs.declared.anchor.finding.Bootblock.{Bootblock}
+use Rattle.check_findings.specs.declared.region.finding.AttributeFault.{AttributeFault}
+use Rattle.check_report.specs.AttributeRows.{attribute_rows}
 use Rattle.check_findings.specs.Lists.{only_if}
 use Rattle.check_report.specs.Rows.{SeenRow, at_component, in_area, row, row_of, with_number}
 use Rattle.check_report.specs.FindingRows.{component_rows, has_hash_row, has_state_row, hash_row, hash_rows, map_row, plain_row, rows_of}
 use Rattle.check_report.specs.declared.rows.row.Verdict.TheVariants.{Bad, Remark}
 use Rattle.check_report.specs.Rows.{area_name, has_verdict}
 use Rattle.check_report.proofs.HiddenRows.{bad_after}
+use Rattle.check_report.specs.BoardRows.{board_rows}
+use Rattle.check_report.specs.FindingRows.{finding_rows, need_rows}
+use Rattle.check_report.specs.Reports.{change_rows}
 use Rattle.check_report.proofs.BoardVerdicts.{bad_board}
+use Rattle.check_report.proofs.StructureVerdicts.{both_fine, none_lost_by}
 use Rattle.check_report.proofs.laws.rows_tell_what_is_bad.Goals as goal
 
 -- the same for all findings
@@ -112,6 +118,11 @@ bad_hash asked rules region at name content =
     go false true = refl
     go false false = refl
 
+-- a fault of the attributes has a row
+bad_attributes : (region : List ℕ) (at : ℕ) (name : List ℕ) (fault : Option AttributeFault) → list_any (has_verdict Bad) (attribute_rows region at name fault) ≡ is_some fault
+bad_attributes region at name None = refl
+bad_attributes region at name (Some fault) = refl
+
 -- a remark or none before other rows
 no_bad : (b : Bool) (row : SeenRow) (rest : List SeenRow) → has_verdict Bad row ≡ false → list_any (has_verdict Bad) (only_if b row ++ rest) ≡ list_any (has_verdict Bad) rest
 no_bad true row rest is = rw is refl
@@ -125,14 +136,16 @@ bad_component asked rules region at name false content = go (has_long_metadata a
     rest : List SeenRow
     rest = only_if (not (is_utf8 name)) (at_component region at name (row Remark "component-name" "name isn't UTF-8"))
         ++ (only_if (is_none (name_of_type content.kind)) (at_component region at name (with_number content.kind (row Remark "component-type" "type without a name")))
-        ++ hash_rows asked rules region at name content)
+        ++ (hash_rows asked rules region at name content ++ attribute_rows region at name content.fault))
 
-    go : (long : Bool) → list_any (has_verdict Bad) (only_if long (at_component region at name (row Bad "metadata-too-long" "metadata longer than 256 bytes: firmware can't find it")) ++ rest) ≡ (long || is_bad_hash rules name content)
+    go : (long : Bool) → list_any (has_verdict Bad) (only_if long (at_component region at name (row Bad "metadata-too-long" "metadata longer than 256 bytes: firmware can't find it")) ++ rest) ≡ (long || (is_bad_hash rules name content || is_some content.fault))
     go true = refl
     go false =
         no_bad (not (is_utf8 name)) _ _ refl
         ∙ no_bad (is_none (name_of_type content.kind)) _ _ refl
-        ∙ bad_hash asked rules region at name content
+        ∙ list_any-append (has_verdict Bad) (hash_rows asked rules region at name content) _
+        ∙ ap (λ b. b || list_any (has_verdict Bad) (attribute_rows region at name content.fault)) (bad_hash asked rules region at name content)
+        ∙ ap (λ b. is_bad_hash rules name content || b) (bad_attributes region at name content.fault)
 
 abbrev rows_in : Asked → HashRules → List ℕ → RegionFinding → List SeenRow
 rows_in asked rules area f = option_map_or (λ row. in_area area row ∷ []) (plain_row f) (component_rows asked rules area f)
@@ -156,5 +169,7 @@ pub returns : goal.returns
 returns c = record {
   findings = λ asked names. bad_rows (rows_of asked names) (is_bad asked.needs_hashes) (bad_finding asked names);
   board = bad_board;
+  structures = λ request i fine. none_lost_by request i.changes
+      (both_fine ((finding_rows request.asked request.areas.now i.findings.items ++ need_rows i.findings.items request.needs.now) ++ board_rows i.board.items) (option_map_or (change_rows request) i.changes []) fine).1;
   limits = bad_after [];
 }

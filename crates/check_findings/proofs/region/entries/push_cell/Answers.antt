@@ -8,6 +8,7 @@ use Rattle.cbfs_walk.specs.Hashes.{hash_state}
 use Rattle.cbfs_walk.specs.Walks.{StandsIn}
 use Rattle.std.proofs.Common.{ap}
 use Rattle.flash_format.specs.Head.{is_free}
+use Rattle.check_findings.specs.Attributes.{cell_fault}
 use Rattle.check_findings.proofs.region.entries.push_cell.Goals as goal
 
 pub returns-then-is_free-clause-found : goal.returns-then-is_free-clause-found
@@ -39,6 +40,11 @@ returns-clause-found g c = λ h stands.
     (c.in_ok-stored.ensures.hash once stays) in
     let searched = c.in_ok-stored.ensures.calls.read.device in
     let later = searched.unchanged once ∙ after in
-    let state = subst (λ (l : List ℕ). c.in_ok-state.state ≡ hash_state (cell_attributes (cell_in (bytes_in r l) cell)) (cell_content (cell_in (bytes_in r l) cell))) later
-    (c.in_ok-state.ensures.state (honest_still searched.calls.same_honesty once) (subst (λ (l : List ℕ). StandsIn (bytes_in r l) cell) (sym later) stands)) in
-    rw (ap is_free known.head ∙ sym c.if-is_free.ensures) (rw (c.in_ok-copied.ensures, c.from.ensures, c.of.ensures, named.name h stands, sym known.head, compressed, state, stored) at c.in_ok-push.ensures.items)
+    let twice = honest_still searched.calls.same_honesty once in
+    let fault = subst (λ (l : List ℕ). c.in_ok-fault.fault ≡ cell_fault (cell_in (bytes_in r l) cell)) later
+    (c.in_ok-fault.ensures.fault twice (subst (λ (l : List ℕ). StandsIn (bytes_in r l) cell) (sym later) stands)) in
+    let faulted = c.in_ok-fault.ensures.calls.read.device in
+    let last = faulted.unchanged twice ∙ later in
+    let state = subst (λ (l : List ℕ). c.in_ok-state.state ≡ hash_state (cell_attributes (cell_in (bytes_in r l) cell)) (cell_content (cell_in (bytes_in r l) cell))) last
+    (c.in_ok-state.ensures.state (honest_still faulted.calls.same_honesty twice) (subst (λ (l : List ℕ). StandsIn (bytes_in r l) cell) (sym last) stands)) in
+    rw (ap is_free known.head ∙ sym c.if-is_free.ensures) (rw (c.in_ok-copied.ensures, c.from.ensures, c.of.ensures, named.name h stands, sym known.head, compressed, state, stored, fault) at c.in_ok-push.ensures.items)

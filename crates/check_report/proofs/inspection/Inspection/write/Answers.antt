@@ -10,7 +10,7 @@ returns-clause-part g c =
     rw (← c.new-printer.ensures.out) (elim c.match-add_rows.branch [
       | in-Ok w ↦
           let written = report_text g.W.Sink w.finish-is_bad.result c.new-printer.result c.print_heading.new.printer c.add_rows.new.rows w.finish-is_bad.new.self
-          c.args.request c.args.self.now c.new-printer.ensures.form begun.printed (w.in-Ok.ensures.added _ _ _ (made.sound begun.printed.follows)) w.finish-is_bad.ensures in
+          c.args.request c.args.self.now c.new-printer.ensures.form begun.printed (w.in-Ok.ensures.added _ _ _ (made.sound begun.printed.follows)) (rw w.subject.ensures at w.finish-is_bad.ensures) in
           rw (w.rows-is, w.is_bad-is) written.2
       | in-Err-add_rows w ↦ rw (w.rows-is, w.is_bad-is)
           (stopped_rows g.W.Sink c.new-printer.result c.print_heading.new.printer c.add_rows.new.rows c.args.request c.args.self.now c.new-printer.ensures.form begun.printed
@@ -24,7 +24,7 @@ returns-clause-bad g c =
     elim c.match-add_rows.branch [
       | in-Ok w ↦
           let written = report_text g.W.Sink w.finish-is_bad.result c.new-printer.result c.print_heading.new.printer c.add_rows.new.rows w.finish-is_bad.new.self
-          c.args.request c.args.self.now c.new-printer.ensures.form begun.printed (w.in-Ok.ensures.added _ _ _ (made.sound begun.printed.follows)) w.finish-is_bad.ensures in
+          c.args.request c.args.self.now c.new-printer.ensures.form begun.printed (w.in-Ok.ensures.added _ _ _ (made.sound begun.printed.follows)) (rw w.subject.ensures at w.finish-is_bad.ensures) in
           rw w.is_bad-is written.0
       | in-Err-add_rows w ↦ rw w.is_bad-is tt
     ]
@@ -36,7 +36,7 @@ returns-clause-text g c =
     rw (← c.new-printer.ensures.out) (elim c.match-add_rows.branch [
       | in-Ok w ↦
           let written = report_text g.W.Sink w.finish-is_bad.result c.new-printer.result c.print_heading.new.printer c.add_rows.new.rows w.finish-is_bad.new.self
-          c.args.request c.args.self.now c.new-printer.ensures.form begun.printed (w.in-Ok.ensures.added _ _ _ (made.sound begun.printed.follows)) w.finish-is_bad.ensures in
+          c.args.request c.args.self.now c.new-printer.ensures.form begun.printed (w.in-Ok.ensures.added _ _ _ (made.sound begun.printed.follows)) (rw w.subject.ensures at w.finish-is_bad.ensures) in
           rw (w.rows-is, w.is_bad-is) written.1
       | in-Err-add_rows w ↦ rw w.is_bad-is tt
     ])

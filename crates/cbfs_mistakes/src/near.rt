@@ -1,0 +1,52 @@
+//! Words that differ by one letter.
+
+ghost use Rattle.std.specs.Prelude.{◌≡◌, drop};
+ghost use Rattle.cbfs_mistakes.specs.Near.{are_exchanged, differ_in_front, is_near};
+
+/// Returns the letters of a word behind the first n.
+fn behind<'a>(word: &'a [u8], n: usize) -> &'a [u8]
+    ensures { result.now ≡ drop n word.entry.now }
+{
+    if n < word.len() {
+        return &word[n..];
+    }
+    &[]
+}
+
+/// Returns true if the words begin with the same two letters in another order, and the others are
+/// equal.
+fn are_exchanged(word: &[u8], known: &[u8]) -> bool
+    ensures { result ≡ are_exchanged word.now known.now }
+{
+    if word.len() < 2 || known.len() < 2 {
+        return false;
+    }
+    word[0] == known[1] && word[1] == known[0] && word[2..] == known[2..]
+}
+
+/// Returns true if the words are equal without a first letter of one or both, or with the first two
+/// letters exchanged.
+fn differ_in_front(word: &[u8], known: &[u8]) -> bool
+    ensures { result ≡ differ_in_front word.now known.now }
+{
+    behind(word, 1) == known
+        || word == behind(known, 1)
+        || behind(word, 1) == behind(known, 1)
+        || are_exchanged(word, known)
+}
+
+/// Returns true if two words differ by at most one letter behind their common front.
+#[tactic(auto, unfolding(crate::specs::Near::is_near))]
+pub fn is_near(word: &[u8], known: &[u8]) -> bool
+    ensures { result ≡ is_near word.now known.now }
+{
+    let (mut rest, mut other) = (word, known);
+    while let (Some((x, later)), Some((y, others))) = (rest.split_first(), other.split_first()) {
+        if x != y {
+            return differ_in_front(rest, other);
+        }
+        rest = later;
+        other = others;
+    }
+    differ_in_front(rest, other)
+}
