@@ -5,6 +5,7 @@ images in which a region begins at no round place, and free space lies between c
 """
 
 import json
+import os
 import re
 import shutil
 import struct
@@ -562,6 +563,18 @@ class FlashChecked(ExampleTest):
         backup = str(folder.path / HOSTILE / "chip.rom")
         self.assertEqual(done.after["calls"].decode(), written.replace("COPY", backup) + "\n")
         return run.message.decode(), after, done.after["chip"]
+
+    def test_an_image_with_the_name_of_the_report(self):
+        """The report would replace the image, also by a link to it."""
+        good = board([("config", b"new")])
+        for name in ("report.txt", "image.rom"):
+            for words in (["flash-checked", name, "-r", "COREBOOT"], ["check-build", name]):
+                folder = self.folder({name: good, "chip": good})
+                if name != "report.txt":
+                    os.link(folder.path / name, folder.path / "report.txt")
+                run = self.example(folder, *words, status=2)
+                self.assertEqual(run.message, f"{name} is report.txt: rename the image\n".encode())
+                self.leaves(run, run.before)
 
     def test_a_failed_write(self):
         """The script prints a command that writes the previous content of the chip back."""
