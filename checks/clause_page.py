@@ -19,7 +19,8 @@ section under the same titles, and [VERIFICATION.md](VERIFICATION.md) the tests.
 only clause. The prover checks that the body satisfies it for all inputs that its `requires` \
 allow.
 - A *law* is the clause of a function with an empty body: a call gives its caller the law.
-- A *must-fail edit* is an incorrect body in `must-fail/`. The prover has to refuse it.
+- A *must-fail edit* is an incorrect body. The prover has to refuse it. The gate tries the edits \
+in `must-fail/`; those in `must-fail-by-hand/` are tried by hand (`tests/edits.py`).
 - A *test* is in `src/` of the crate `library_tests`; a file of `tests/` runs the built programs.
 
 A table names its crate. Other crates precede their names. A dash means none: without a must-fail \

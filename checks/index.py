@@ -24,11 +24,15 @@ A name is NAME or CRATE/NAME, and NAME@FILE if several files of the crate have i
 import functools
 import pathlib
 import re
+import sys
 from typing import NamedTuple, Optional, Tuple
 
 import sources
 
 TOP = pathlib.Path(__file__).resolve().parent.parent
+sys.path.insert(0, str(TOP))
+from tests import edits  # noqa: E402 (found in the folder above)
+
 CRATES = TOP / "crates"
 RULES, PROMISES, INSIDE = "The rules of the formats", "The promises", "inside"
 ITEMS = {"defined", "clause", "method", "proved", "law", "edit", "test", "none"}
@@ -344,10 +348,16 @@ class Index:
                           f"{one.crate}/{one.file}.antt")
 
     def check_edit(self, crate, name):
-        """Checks that a must-fail edit exists."""
+        """Checks that a must-fail edit exists, and can be applied."""
         self.cited["edits"].add(f"{crate}/{name}")
-        if not (CRATES / crate / "must-fail" / f"{name}.edit").is_file():
-            self.tell(f"crates/{crate}/must-fail has no {name}.edit")
+        file = edits.find_edit(crate, name)
+        if file is None:
+            self.tell(f"crates/{crate} has no must-fail edit {name}.edit")
+            return
+        try:
+            edits.edited(read(file), CRATES / crate)
+        except edits.Wrong as wrong:
+            self.tell(f"{file.relative_to(TOP)}: {wrong}")
 
     def check_test(self, name):
         """Checks that a test or a file of tests exists."""

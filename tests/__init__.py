@@ -11,7 +11,7 @@
     programs.py      runs a command in a folder, and compares all that it did; faults/ are libraries
                      in C that change system calls
     mutants.py       shows that the tests can fail; mutant_lists/ are the mistakes
-    fuzz.py peers.py peers_seal.py moving.py boards.py board_table.py twins.py
+    fuzz.py peers.py peers_seal.py moving.py boards.py board_table.py edits.py twins.py
                      are run by hand, as each of them says
 
 From the top folder, `python3 -m unittest tests.test_order -k NAME` runs a part of a file, and

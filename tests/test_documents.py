@@ -937,7 +937,7 @@ def sources(*patterns):
 def names_of_sources():
     """Returns all names that sources, definitions, edits and crates have."""
     names = {path.name for path in (TOP / "crates").iterdir()}
-    names |= {path.stem for path in TOP.glob("crates/*/must-fail/*.edit")}
+    names |= {path.stem for path in TOP.glob("crates/*/must-fail*/*.edit")}
     for text in sources("src/**/*.rt").values():
         names |= set(re.findall(r"\b(?:fn|struct|enum|trait|type|mod|const) (\w+)", text))
         names |= set(re.findall(r"^\s+(?:pub )?(\w+): ", text, re.MULTILINE))
@@ -1059,7 +1059,7 @@ class Walks(unittest.TestCase):
         lines = [line for block in blocks for line in block.splitlines() if line.strip()]
         self.assertGreater(len(lines), 10)
         whole = "\n".join(sources("src/**/*.rt", "specs/**/*.antt", "proofs/**/*.antt",
-                                  "must-fail/*.edit").values())
+                                  "must-fail*/*.edit").values())
         whole += "\n".join(path.read_text("utf-8") for path in (TOP / "tests").glob("*.py"))
         for line in lines:
             with self.subTest(line):

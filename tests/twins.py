@@ -4,66 +4,32 @@
     python3 -m tests.twins [--planted] [CRATE..]
 
 Run by hand, and `rt` is needed. A twin is crates/CRATE/twins/NAME.edit. It has the shape of
-crates/CRATE/must-fail/NAME.edit and the meaning of the code as it stands, so the crate must be
-proved with it. This shows that the edit is refused for its meaning and not for its shape. A twin
-is applied as rt applies an edit, to a copy of the repository in a temporary folder: each old text
-stands once in its file.
+crates/CRATE/must-fail/NAME.edit (or must-fail-by-hand/) and the meaning of the code as it stands,
+so the crate must be proved with it. This shows that the edit is refused for its meaning and not
+for its shape. A twin is applied to a copy of the repository in a temporary folder.
 
 With --planted each of some twins is wrong in one way, and this program must refuse it.
 """
 
 import pathlib
-import shutil
 import subprocess
 import sys
 import tempfile
 
+from tests.edits import Wrong, copy_crates, edited, find_edit
 from tests.programs import TOP
-
-PARTS = ("src/", "specs/", "proofs/")
-
-
-class Wrong(Exception):
-    """Why a twin is refused."""
-
-
-def edited(edit, folder):
-    """Returns the texts of the files that an edit changes, by their paths in the crate."""
-    texts, path, old = {}, None, None
-    for line in edit.splitlines():
-        if line.startswith("file: "):
-            path = line[6:].strip()
-            if not path.startswith(PARTS) or not (folder / path).is_file():
-                raise Wrong(f"there is no file {path}")
-            texts.setdefault(path, (folder / path).read_text(encoding="utf-8"))
-        elif line.startswith("old: "):
-            old = line[5:]
-        elif line.startswith("new:"):
-            if path is None or old is None:
-                raise Wrong("a new text has no file or no old text")
-            if texts[path].count(old) != 1:
-                raise Wrong(f"an old text stands in {path} {texts[path].count(old)} times: {old}")
-            texts[path], old = texts[path].replace(old, line[4:].removeprefix(" ")), None
-        elif line:
-            raise Wrong(f"a line begins with no file, old or new: {line}")
-    if all((folder / path).read_text(encoding="utf-8") == text for path, text in texts.items()):
-        raise Wrong("it changes nothing")
-    return texts
-
 
 class Copy:
     """A copy of the repository, without what checks have made."""
 
     def __init__(self, room):
         self.top = pathlib.Path(room)
-        shutil.copytree(TOP / "crates", self.top / "crates", ignore=shutil.ignore_patterns("out"))
-        for name in ("crates.txt", "HANDLES"):
-            shutil.copy(TOP / name, self.top / name)
+        copy_crates(self.top)
 
     def prove(self, crate, name, edit):
         """Proves the crate with the twin of this name and text, or raises why it isn't proved."""
         folder = self.top / "crates" / crate
-        if not (folder / "must-fail" / f"{name}.edit").is_file():
+        if find_edit(crate, name) is None:
             raise Wrong("no must-fail edit has its name")
         texts = edited(edit, folder)
         was = {path: (folder / path).read_text(encoding="utf-8") for path in texts}
@@ -117,8 +83,7 @@ def refuse_planted(copy):
     """Shows that each planted twin is refused for its reason."""
     for (crate, name), text, reason in PLANTED:
         if text is None:
-            edit = TOP / "crates" / crate / "must-fail" / f"{name}.edit"
-            text = edit.read_text(encoding="utf-8")
+            text = find_edit(crate, name).read_text(encoding="utf-8")
         try:
             copy.prove(crate, name, text)
         except Wrong as wrong:

@@ -68,7 +68,7 @@ CHANGES = [
      '\tmade_cells_are_read_as_made(made,',
      '\tmade_cells_are_read_as_made(rows,'),
     (ROWS,
-     'index: Heads: crates/flash_format/must-fail has no '
+     'index: Heads: crates/flash_format has no must-fail edit '
      'takes_none_of_the_magic.edit',
      '\ttakes_half_of_the_magic\n',
      '\ttakes_none_of_the_magic\n'),
