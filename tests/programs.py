@@ -76,10 +76,12 @@ HAS_COMPILER = shutil.which("cc") is not None
 # The variable UNPROVED says that the programs were built by `rt try`. They are slower, and take
 # memory in another way, in which no request can be refused.
 IS_PROVED = not os.environ.get("UNPROVED")
-# The seconds after which a command is stopped.
-TIME_LIMIT = 60
+# The seconds after which a command is stopped, and in which a command waits for a lock. The tests of
+# programs with mistakes, of which some never end, set a lower limit.
+TIME_LIMIT = int(os.environ.get("TIME_LIMIT", 60))
 if not IS_PROVED:
     TIME_LIMIT *= 10
+LOCK_LIMIT = min(20, TIME_LIMIT)
 if_memory_can_be_refused = unittest.skipUnless(
     HAS_COMPILER and IS_PROVED, "a proved build" if HAS_COMPILER else "cc"
 )
@@ -339,7 +341,7 @@ class Started:
             os.killpg(self.process.pid, signal.SIGKILL)
             self.process.wait()
 
-    def waits_for_lock(self, path, limit=20):
+    def waits_for_lock(self, path, limit=LOCK_LIMIT):
         """Waits until the command waits for the lock of a file, and returns False if it ends."""
         last = time.monotonic() + limit
         while self.process.poll() is None and time.monotonic() < last:

@@ -367,7 +367,8 @@ class Numbers(ProgramTest):
 # Limits that tests compare a program with: a file, the text of the limit, and the number. Whoever
 # raises a limit has to change it here too.
 LIMITS = [
-    ("tests/programs.py", r"^TIME_LIMIT = (\d+)$", 60),
+    ("tests/programs.py", r'^TIME_LIMIT = int\(os.environ.get\("TIME_LIMIT", (\d+)\)\)$', 60),
+    ("tests/programs.py", r"^LOCK_LIMIT = min\((\d+), TIME_LIMIT\)$", 20),
     ("tests/completions.py", r"^ENDLESS, SOON = 60, (\d+)$", 20),
     ("tests/test_pipes.py", r"^COMPONENTS = (\d+)$", 4000),
     ("tests/test_limits.py", r"^MEMORY_FOR_ANY = (\d+)_000_000$", 4),

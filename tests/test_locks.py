@@ -15,7 +15,7 @@ import time
 import unittest
 
 from tests.commands import COMMANDS, READERS, WRITERS, Example
-from tests.programs import HAS_COMPILER, Faults, ProgramTest, is_locked, locked
+from tests.programs import HAS_COMPILER, LOCK_LIMIT, Faults, ProgramTest, is_locked, locked
 from tests.strace import traces, tracing
 
 SHARED, EXCLUSIVE = fcntl.LOCK_SH, fcntl.LOCK_EX
@@ -27,7 +27,7 @@ LONGER = Example(3000)
 REPLACEMENTS = 30
 OPENINGS = 1000
 # The seconds in which a command ends, and for which one that waits is observed.
-LIMIT, SOON = 20, 0.1
+LIMIT, SOON = LOCK_LIMIT, 0.1
 
 
 def excludes(how, name):

@@ -12,7 +12,7 @@ import unittest
 
 from tests import image
 from tests.commands import COMMANDS, KEEPS, REGION, SOURCE, Example
-from tests.programs import IS_PROVED, ProgramTest, if_memory_can_be_refused, program
+from tests.programs import IS_PROVED, LOCK_LIMIT, ProgramTest, if_memory_can_be_refused, program
 from tests.texts import rows as lines
 
 # The listing of so many components is longer than the 65,536 bytes that a pipe holds.
@@ -94,7 +94,7 @@ LISTINGS = {
     "cbfscheck": (MANY, "cbfscheck -v image", REPORT),
 }
 # The seconds in which a command ends.
-LIMIT = 20 if IS_PROVED else 100
+LIMIT = LOCK_LIMIT if IS_PROVED else 100
 
 # Reads a listing, and runs a command after each of the first lines.
 LOOP = """

@@ -24,13 +24,13 @@ import time
 import unittest
 
 from tests.image import Area, flash_map
-from tests.programs import ProgramTest, program
+from tests.programs import TIME_LIMIT, ProgramTest, program
 
 SEED = int(os.environ.get("TOGETHER_SEED", random.SystemRandom().randrange(1 << 30)))
 WORKERS, STEPS, SIDE = 8, 12, 60
 MIB = 1 << 20
-# The seconds of a command, and of one beside a listing whose pipe is full.
-LIMIT, SOON = 60, float(os.environ.get("TOGETHER_LIMIT", 20))
+# The seconds of a command beside a listing whose pipe is full.
+SOON = float(os.environ.get("TOGETHER_LIMIT", 20))
 PIPE_SIZE = 4096
 F_SETPIPE_SZ = 1031
 # Holds a lock of the image for 50 milliseconds.
@@ -77,11 +77,11 @@ class Room:
         return subprocess.Popen([program(name), *words], cwd=self.path, stderr=subprocess.PIPE,
                                 **{"stdout": subprocess.PIPE, **options})
 
-    def run(self, command, limit=LIMIT):
+    def run(self, command, limit=TIME_LIMIT):
         """Runs a command, which must succeed without a message, and returns its output."""
         return self.end(command, self.start(command), limit)
 
-    def end(self, command, started, limit=LIMIT):
+    def end(self, command, started, limit=TIME_LIMIT):
         """Waits for a command, which must succeed without a message, and returns its output."""
         try:
             output, message = started.communicate(timeout=limit)
@@ -247,7 +247,7 @@ class Worker:
 
 def wait_until_full(pipe):
     """Waits until a pipe is full."""
-    last = time.monotonic() + LIMIT
+    last = time.monotonic() + TIME_LIMIT
     while struct.unpack("i", fcntl.ioctl(pipe, termios.FIONREAD, bytes(4)))[0] < PIPE_SIZE:
         if time.monotonic() > last:
             raise Refused("the listing does not fill its pipe")

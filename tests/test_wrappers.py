@@ -12,8 +12,8 @@ import unittest
 from tests.mutant_lists.wrappers import MUTANTS
 from tests.programs import HAS_COMPILER, NAMES, TOP, Faults, ProgramTest, program
 
-# The seconds in which a test ends.
-LIMIT = 200
+# The seconds in which a test ends, and those of each command in it.
+LIMIT, COMMAND_LIMIT = 200, "10"
 
 
 class Wrappers(ProgramTest):
@@ -37,7 +37,8 @@ class Wrappers(ProgramTest):
         (programs / mutant.program).symlink_to(script)
         done = subprocess.run(
             [sys.executable, "-m", "unittest", "-f", f"tests.{mutant.test}"], cwd=TOP,
-            env={**os.environ, "PROGRAMS": str(programs), "TMPDIR": str(scratch)},
+            env={**os.environ, "PROGRAMS": str(programs), "TMPDIR": str(scratch),
+                 "TIME_LIMIT": COMMAND_LIMIT},
             stdin=subprocess.DEVNULL, stdout=subprocess.PIPE, stderr=subprocess.STDOUT,
             timeout=LIMIT)
         seen = done.stdout.decode(errors="replace")
