@@ -32,7 +32,7 @@ BOARDS = {
 	COREBOOT(CBFS)@704K
 }
 """,
-    2: """# FULL_2(CBFS) and COREBOOT(CBFS) begin at no multiple of 128, and the map stands between them
+    2: """# FULL_2(CBFS) and COREBOOT(CBFS) begin at no multiple of 128. The map is between them.
 FLASH@0xffe00000 2M {
 	SI_DESC 8K SI_ME 60K RO_FRID 128 RW_FWID_A 192 FULL_2(CBFS
 		PRESERVE) 4K

@@ -76,8 +76,8 @@ HAS_COMPILER = shutil.which("cc") is not None
 # The variable UNPROVED says that the programs were built by `rt try`. They are slower, and take
 # memory in another way, in which no request can be refused.
 IS_PROVED = not os.environ.get("UNPROVED")
-# The seconds after which a command is stopped, and in which a command waits for a lock. The tests of
-# programs with mistakes, of which some never end, set a lower limit.
+# The seconds after which a command is stopped, and in which a command waits for a lock. The tests
+# of programs with mistakes, of which some never end, set a lower limit.
 TIME_LIMIT = int(os.environ.get("TIME_LIMIT", 60))
 if not IS_PROVED:
     TIME_LIMIT *= 10

@@ -78,7 +78,8 @@ class CheckAnchor(ProgramTest):
     def finds(self, image, expected, status=0, options=""):
         """Checks the rows of an image, without those that each image here has."""
         rows = self.rows(f"{options} image.rom", {"image.rom": image.data()}, status)
-        usual = ("flashmap", "complete", "components", "free bytes", "largest content that add takes")
+        usual = ("flashmap", "complete", "components", "free bytes",
+                 "largest content that add takes")
         self.assertEqual([row for row in rows if row[4] not in usual], expected)
 
     def digests(self, place, algorithm, metadata="valid", flash_map="valid"):

@@ -176,7 +176,8 @@ class RowsOfAKind(CheckTest):
 # ---- The texts of the page
 
 # Verdict, area, component, position and text of an expected row in a test.
-EXPECTED_ROW = re.compile(r"\b(bad|remark|change)\|[^|\n]*\|[^|\n]*\|[^|\n]*\|([A-Za-z][^|\"\\\n]*)")
+EXPECTED_ROW = re.compile(
+    r"\b(bad|remark|change)\|[^|\n]*\|[^|\n]*\|[^|\n]*\|([A-Za-z][^|\"\\\n]*)")
 PAGE = (TOP / "man" / "cbfscheck.1").read_text(encoding="utf-8")
 
 

@@ -250,7 +250,8 @@ class Regions(ExampleTest):
     """cbfs-regions prints the names that `create` takes, for any text that fmd(5) allows."""
 
     ODD = (b"# A(CBFS)\n#\xff(CBFS)\n ROOT # x\n(CBFS)@4K 1M{FMAP 4K A(CBFS)64K B # (\xff {\n"
-           b"\t(\r\n# )\nPRESERVE CBFS ) 64K{C(CBFS PRESERVE)4K D(PRESERVE)E\"1\",x.(\tCBFS\t)@0x8000}"
+           b"\t(\r\n# )\nPRESERVE CBFS ) 64K{C(CBFS PRESERVE)4K D(PRESERVE)E\"1\",x.(\tCBFS\t)"
+           b"@0x8000}"
            b"CBFS(PRESERVE)4K PRESERVE (CBFS) 64K F(PRESERVE CBFS PRESERVE)}# end")
 
     def test_any_text(self):

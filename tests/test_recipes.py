@@ -321,7 +321,8 @@ class Checks(RecipeTest):
                                           self.JOB, status=status, image=name, needed=needed)
                     self.assertEqual(run.message.decode(), message)
                     if status == 0:
-                        self.assertIn(b"\nsound: 0 bad, 6 remarks, 0 changes\n", run.after["report.txt"])
+                        self.assertIn(b"\nsound: 0 bad, 6 remarks, 0 changes\n",
+                                      run.after["report.txt"])
 
     def test_changes(self):
         for behind, files in self.files:

@@ -58,6 +58,9 @@ IMAGE = "image.rom of the command differs"
 OUTPUT = "output of the command differs"
 STATUS = "status of the command differs"
 MESSAGE = "message of the command differs"
+# A command that only prints, and a test of it.
+LAYOUT = '*" layout "*'
+LISTING = "test_layout.Positions.test_a_map_of_version_2_before_the_map"
 # Changes the byte at an offset of a file, or the last one.
 PATCH = "printf '\\%03o' {value} | dd of={file} bs=1 seek={at} conv=notrunc status=none"
 LAST = "$(($(stat -c %s {file}) - 1))"
@@ -129,6 +132,19 @@ MUTANTS = [
     fault("hasty", "test_fmaptool.SystemFaults.test_short_reads_and_writes",
           "out of the command differs", "fmaptool takes a short write for a whole one",
           "A table on a nearly full disk has holes.", "fmaptool"),
+
+    # ---- what any command does beside its result
+    after("layout leaves another file", LAYOUT, ": > other",
+          "A folder of a build fills with files.", LISTING, "other of the command differs"),
+    after("layout leaves a folder with a file", LAYOUT, "mkdir made; : > made/other",
+          "A folder of a build fills with files.", LISTING, "made/other of the command differs"),
+    after("layout removes the image", LAYOUT, 'rm "$1"', "The image is lost.", LISTING, IMAGE),
+    after("layout ends by a signal", LAYOUT, "kill -9 $$",
+          "A script stops, or takes the listing for incomplete.", LISTING, STATUS),
+    after("layout never ends", LAYOUT, "sleep 3600", "A script never goes on.", LISTING, STATUS),
+    after("layout does all otherwise", LAYOUT,
+          'echo a; echo b >&2; echo c > "$1"; exit 3', "A failure shows one difference of many.",
+          LISTING, (STATUS, MESSAGE, OUTPUT, IMAGE)),
 
     # ---- the limits of the formats
     filtered("layout does not list the last of 65,535 areas", "sed 65536d",
