@@ -36,6 +36,8 @@ LONGEST_METADATA = 256
 KEPT_BYTES = 4
 LEGACY_STAGE, FIT_PAYLOAD, FSP = 0x10, 0x21, 0x60
 LOADED = {LEGACY_STAGE, STAGE, SIMPLE_ELF, FIT_PAYLOAD, FSP}
+# The areas from which a firmware with CBFS verification loads components.
+LOADED_FROM = (b"COREBOOT", b"FW_MAIN_A", b"FW_MAIN_B")
 SHAPES = {BAD_SIZE: "region-size", NO_CBFS: "no-cbfs"}
 MORE = "more of these"
 
@@ -463,7 +465,7 @@ class RegionRows:
         self.area = area
         self.cut = image.cut(area)
         self.wishes = wishes
-        self.anchor = usable_algorithm(image) if area.name == b"COREBOOT" else None
+        self.anchor = usable_algorithm(image) if area.name in LOADED_FROM else None
 
     def finding(self, code, *place, **fields):
         """Returns a row of the area."""
@@ -499,14 +501,15 @@ class RegionRows:
     def hash(self, cell, place):
         """Returns the row of a component's digest, if it has one."""
         state = cell.hash_state()
-        is_needed = self.wishes.needs_hashes or self.is_refused(cell)
+        is_exempt = cell.type in (BOOTBLOCK, CBFS_HEADER)
+        is_bad = self.wishes.needs_hashes and not is_exempt or self.is_refused(cell)
         if state == "absent":
-            is_exempt = self.anchor is None or cell.type in (BOOTBLOCK, CBFS_HEADER)
-            if not (self.wishes.is_verbose or self.wishes.needs_hashes) and is_exempt:
+            is_needed = (self.wishes.needs_hashes or self.anchor is not None) and not is_exempt
+            if not (self.wishes.is_verbose or is_needed):
                 return []
-            return [self.finding("hash-missing", *place, verdict=self.verdict(is_needed))]
+            return [self.finding("hash-missing", *place, verdict=self.verdict(is_bad))]
         if state == "unsupported":
-            return [self.finding("hash-unsupported", *place, verdict=self.verdict(is_needed))]
+            return [self.finding("hash-unsupported", *place, verdict=self.verdict(is_bad))]
         algorithm, result = state.split()
         changes_later = self.anchor is not None and cell.name == b"intel_fit"
         is_bad = result == "invalid" and not changes_later

@@ -18,6 +18,8 @@ FMAP = Area("FMAP", 0, 0x200)
 COREBOOT = Area("COREBOOT", 0x1000, 0x1000)
 BOOT_AREA = Area("BOOTBLOCK", 0x2000, 0x1000)
 OTHER = Area("OTHER", 0x3000, 0x1000)
+# The body of a slot of vboot, in place of the area OTHER.
+SLOTS = {name: Area(name, 0x3000, 0x1000) for name in ("FW_MAIN_A", "FW_MAIN_B")}
 SIZE = 0x4000
 FSP = 0x60
 FIT_PAYLOAD = 0x21
@@ -251,9 +253,9 @@ class Components(CheckAnchor):
 
     def test_exempt_types_on_request(self):
         parts = [Component(b"a", b"x", type=CBFS_HEADER)]
-        for verdict, options in [("remark", "-v"), ("bad", "--all-hashed")]:
-            rows = [(verdict, "COREBOOT", "a", "0x0", "no hash"), NO_HEADER]
-            self.components(sealed(parts), rows, int(verdict == "bad"), options)
+        row = ("remark", "COREBOOT", "a", "0x0", "no hash")
+        for options, rows in [("-v", [row]), ("--all-hashed", []), ("--all-hashed -v", [row])]:
+            self.components(sealed(parts), rows + [NO_HEADER], 0, options)
 
     def test_a_digest_of_another_algorithm(self):
         other = "hash isn't of the anchor's algorithm"
@@ -295,6 +297,21 @@ class Components(CheckAnchor):
                 self.finds(plain(parts), [
                     ("bad", "COREBOOT", name.decode(), "0x0", "sha256 invalid"),
                 ], status=1)
+
+    def test_slots(self):
+        """The firmware checks a component of a slot too, although no anchor has its metadata."""
+        for name, area in SLOTS.items():
+            areas = (FMAP, COREBOOT, BOOT_AREA, area)
+            for kind, verdict in [(SIMPLE_ELF, "bad"), (RAW, "remark"), (BOOTBLOCK, None)]:
+                slot = region(Component(b"a", b"x", type=kind))
+                row = [(verdict, name, "a", "0x0", "no hash")] if verdict else []
+                with self.subTest(name, kind=kind):
+                    image = sealed([hashed(b"h")], areas=areas).put(name, slot)
+                    hash_row = ("remark", "COREBOOT", "h", "0x0", "sha256 valid")
+                    self.components(image, [hash_row, *row], status=int(verdict == "bad"))
+                    without = Image(SIZE, [FMAP, COREBOOT, area]).put("COREBOOT", region())
+                    self.finds(without.put(name, slot),
+                               [("remark", "COREBOOT", "-", "-", "no components")])
 
     def test_another_region(self):
         """The anchor has nothing to do with the components of other regions."""

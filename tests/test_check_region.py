@@ -7,9 +7,9 @@ import unittest
 
 from tests.findings import (
     A, A_216, B, B_77, DELETED_64, E, FMAP, H, N, NULL_64, NULL_128, NULL_256, SHORT, U, CheckTest,
-    board, patched, region,
+    board, cell, patched, region,
 )
-from tests.image import Component
+from tests.image import SHA1, Component, hash_attribute
 from tests.samples import Sample
 
 # In hashes.rom the region COREBOOT is at 0x1400, and the area's size in the map at 0x1090.
@@ -437,6 +437,33 @@ class AllHashed(CheckTest):
             remark|A|-|-|no room for a component
             not sound: 4 bad, 7 remarks, 0 changes
         """, "--all-hashed -v")
+
+    def test_types_that_need_no_digest(self):
+        """A bootblock and a cbfs header may lack a digest, or have one that is not computed."""
+        other = [hash_attribute(SHA1, value=bytes(20))]
+        for kind in (1, 2):
+            cells = [cell(b"p", type=kind), cell(b"s", b"", type=kind, attributes=other)]
+            image = region(192, cells)
+            with self.subTest(kind):
+                self.reports(0, image, """
+                    remark|-|-|0x0|flashmap
+                    remark|A|s|0x40|hash unsupported
+                    remark|A|-|-|complete
+                    remark|A|-|-|components|2
+                    remark|A|-|-|free bytes|0
+                    remark|A|-|-|no room for a component
+                    sound: 0 bad, 6 remarks, 0 changes
+                """, "--all-hashed")
+                self.reports(0, image, """
+                    remark|-|-|0x0|flashmap
+                    remark|A|p|0x0|no hash
+                    remark|A|s|0x40|hash unsupported
+                    remark|A|-|-|complete
+                    remark|A|-|-|components|2
+                    remark|A|-|-|free bytes|0
+                    remark|A|-|-|no room for a component
+                    sound: 0 bad, 7 remarks, 0 changes
+                """, "--all-hashed -v")
 
     def test_a_component_with_a_valid_digest(self):
         self.reports(0, region(128, [H]), """

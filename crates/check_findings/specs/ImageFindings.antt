@@ -56,9 +56,16 @@ wanted_areas image expects areas = filter (is_wanted image expects (has_smaller 
 abbrev pub cbfs_areas : List ℕ → List NumberedArea → List NumberedArea
 cbfs_areas image areas = wanted_areas image (has_one_of []) areas
 
--- the anchor, if it has a digest of the area's metadata: the area is COREBOOT
+-- A firmware with CBFS verification loads components from these areas: COREBOOT and the two slots of
+-- vboot. It checks the digest of each component that it loads, also if no anchor has a digest of the
+-- area's metadata.
+abbrev pub is_loaded_from : NumberedArea → Bool
+is_loaded_from a = has_name (codes "COREBOOT") a
+    || (has_name (codes "FW_MAIN_A") a || has_name (codes "FW_MAIN_B") a)
+
+-- the anchor, if its firmware loads components from the area
 abbrev pub covering : Option Anchor → NumberedArea → Option Anchor
-covering anchor a = if has_name (codes "COREBOOT") a then anchor else None
+covering anchor a = if is_loaded_from a then anchor else None
 
 -- an area of at most `left` bytes is checked
 abbrev pub fits_in : ℕ → NumberedArea → Bool

@@ -79,10 +79,16 @@ abbrev pub firmware_refuses : HashRules → Content → Bool
 firmware_refuses rules c = is_some rules.anchor
     && (is_firmware c.kind && not (has_digest_of_some_algorithm c.stored))
 
+-- The user requires a digest of the component. A bootblock is left out even then: if it contains an
+-- anchor, its digest would depend on the anchor, and the anchor on the digest. A cbfs header is left
+-- out too, because the firmware compares no digest of it.
+abbrev pub is_required : HashRules → Content → Bool
+is_required rules c = rules.needs_all && not (is_exempt c.kind)
+
 -- The component has to have a digest, by the user's request or for the firmware. This is no
 -- verdict: it decides whether the report names a missing digest at all, as a remark or as bad.
 abbrev pub needs_hash : HashRules → Content → Bool
-needs_hash rules c = rules.needs_all || (is_some rules.anchor && not (is_exempt c.kind))
+needs_hash rules c = (rules.needs_all || is_some rules.anchor) && not (is_exempt c.kind)
 
 -- under an anchor, a component has a hash attribute, but no digest of the anchor's algorithm in it
 abbrev pub has_hash_not_of_anchor : HashRules → Content → Bool
@@ -99,8 +105,8 @@ changes_later anchor name = is_some anchor && bytes_eq name (codes "intel_fit")
 abbrev pub is_bad_hash_state : HashRules → List ℕ → Content → HashFinding → Bool
 is_bad_hash_state rules name c (hashes.Invalid algorithm) = not (changes_later rules.anchor name)
 is_bad_hash_state rules name c (hashes.Valid algorithm) = false
-is_bad_hash_state rules name c hashes.Missing = rules.needs_all || firmware_refuses rules c
-is_bad_hash_state rules name c hashes.Unsupported = rules.needs_all || firmware_refuses rules c
+is_bad_hash_state rules name c hashes.Missing = is_required rules c || firmware_refuses rules c
+is_bad_hash_state rules name c hashes.Unsupported = is_required rules c || firmware_refuses rules c
 
 -- the digest of the component with this name and content is bad
 abbrev pub is_bad_hash : HashRules → List ℕ → Content → Bool
@@ -127,13 +133,13 @@ is_bad_region rules (of_region.LargestContent n) = false
 
 -- ---- the image
 
--- the rules of a region: whether the user requires a digest of each component, and the anchor
+-- the rules of a region: whether the user requires digests, and the anchor
 abbrev pub rules_of : Bool → Option Anchor → HashRules
 rules_of needs_all anchor = record { needs_all = needs_all; anchor = anchor }
 
 -- A finding of an image is bad if it is a bad finding of the map or the anchor, if a checked area
 -- has a bad finding, or if an expected area was left out or doesn't exist. `needs_all` says whether
--- the user requires a digest of each component.
+-- the user requires digests.
 abbrev pub is_bad : Bool → ImageFinding → Bool
 is_bad needs_all (Map finding) = is_bad_map finding
 is_bad needs_all (OfAnchor finding) = is_bad_anchor finding

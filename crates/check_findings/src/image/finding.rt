@@ -18,7 +18,7 @@ pub enum ImageFinding {
     /// An area that was checked as a CBFS region.
     Region {
         area: NumberedArea,
-        /// The image's anchor, if it has a digest of the region's metadata.
+        /// The image's anchor, if its firmware loads components from the region.
         anchor: Option<Anchor>,
         findings: RegionFindings,
     },

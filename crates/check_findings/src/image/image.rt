@@ -32,15 +32,20 @@ use std::hash::RandomState;
 /// The limit of checked bytes, in image lengths.
 const MAX_IMAGES: u64 = 2;
 
-/// Returns the anchor, if it has a digest of the area's metadata: the area is COREBOOT.
+/// Returns whether a firmware with CBFS verification loads components from an area: COREBOOT and
+/// the two slots of vboot.
+fn is_loaded_from(area: &NumberedArea) -> bool
+    ensures { result ≡ of.is_loaded_from area.now }
+{
+    area.area.name_is(b"COREBOOT")
+        || (area.area.name_is(b"FW_MAIN_A") || area.area.name_is(b"FW_MAIN_B"))
+}
+
+/// Returns the anchor, if its firmware loads components from the area.
 fn covering(anchor: Option<Anchor>, area: &NumberedArea) -> Option<Anchor>
     ensures { result ≡ of.covering anchor area.now }
 {
-    if area.area.name_is(b"COREBOOT") {
-        anchor
-    } else {
-        None
-    }
+    if is_loaded_from(area) { anchor } else { None }
 }
 
 /// Checks an area of at most `left` bytes, and subtracts its size.

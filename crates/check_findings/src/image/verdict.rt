@@ -23,7 +23,7 @@ fn is_firmware(kind: u32) -> bool
     matches!(kind, 0x10 | 0x11 | 0x20 | 0x21 | 0x60)
 }
 
-/// Returns whether the firmware needs no digest of this type: bootblock or cbfs header.
+/// Returns whether a component of this type needs no digest: bootblock or cbfs header.
 fn is_exempt(kind: u32) -> bool
     ensures { result ≡ verdicts.is_exempt kind }
 {
@@ -47,9 +47,9 @@ fn has_digest_of_some_algorithm(stored: Option<StoredHash>) -> bool
 /// The requirements of a region for the digests of its components.
 #[derive(Clone, Copy)]
 pub struct HashRules {
-    /// Each component has a digest.
+    /// The user requires a digest of each component, except the types bootblock and cbfs header.
     pub needs_all: bool,
-    /// The image's anchor, if it has a digest of the region's metadata.
+    /// The image's anchor, if its firmware loads components from the region.
     pub anchor: Option<Anchor>,
 }
 
@@ -61,10 +61,17 @@ impl HashRules {
         match content.hash {
             HashFinding::Invalid(_) => !(self.anchor.is_some() && name == b"intel_fit".as_slice()),
             HashFinding::Missing | HashFinding::Unsupported => {
-                self.needs_all || self.firmware_refuses(content)
+                self.is_required(content) || self.firmware_refuses(content)
             }
             HashFinding::Valid(_) => false,
         }
+    }
+
+    /// Returns whether the user requires a digest of the component.
+    fn is_required(self, content: Content) -> bool
+        ensures { result ≡ verdicts.is_required self content }
+    {
+        self.needs_all && !is_exempt(content.kind)
     }
 
     /// Returns whether the firmware refuses to load a component, because it has no digest.
@@ -75,12 +82,12 @@ impl HashRules {
             && (is_firmware(content.kind) && !has_digest_of_some_algorithm(content.stored))
     }
 
-    /// Returns whether a component needs a digest: each one on request, and under an anchor each
-    /// one except the types bootblock and cbfs header.
+    /// Returns whether a component needs a digest: on request or under an anchor, except the types
+    /// bootblock and cbfs header.
     pub fn need(self, content: Content) -> bool
         ensures { result ≡ verdicts.needs_hash self content }
     {
-        self.needs_all || (self.anchor.is_some() && !is_exempt(content.kind))
+        (self.needs_all || self.anchor.is_some()) && !is_exempt(content.kind)
     }
 
     /// Returns whether a component under an anchor has a hash attribute, but no digest of the

@@ -18,6 +18,8 @@ fn findings_that_are_bad(rt: HostRuntime) {
         anchor: None,
     };
     equal(&rt, &rules.is_bad(b"a", content), &true);
+    let bootblock = Content { kind: 1, ..content };
+    equal(&rt, &rules.is_bad(b"a", bootblock), &false);
     let rules = HashRules {
         needs_all: false,
         anchor: None,

@@ -19,7 +19,7 @@ use Rattle.check_findings.specs.declared.map.finding.MapFinding.{MapFinding}
 use Rattle.check_findings.specs.declared.map.finding.MapFinding.TheVariants as of_map
 use Rattle.check_findings.specs.declared.image.finding.ImageFinding.{ImageFinding}
 use Rattle.check_findings.specs.declared.image.finding.ImageFinding.TheVariants.{Anchor as OfAnchor, Map, Region, NotChecked}
-use Rattle.check_findings.specs.Verdicts.{has_hash_not_of_anchor, is_bad, is_bad_anchor, is_bad_hash, is_bad_map, is_bad_region, is_bad_hash_state, is_exempt, is_firmware, has_long_metadata, needs_hash, firmware_refuses, rules_of}
+use Rattle.check_findings.specs.Verdicts.{has_hash_not_of_anchor, is_bad, is_bad_anchor, is_bad_hash, is_bad_map, is_bad_region, is_bad_hash_state, is_exempt, is_firmware, is_required, has_long_metadata, needs_hash, firmware_refuses, rules_of}
 use Rattle.check_findings.specs.declared.anchor.finding.AnchorFinding.{AnchorFinding}
 use Rattle.check_findings.specs.declared.anchor.finding.AnchorFinding.TheVariants as of_anchor
 use Rattle.check_findings.specs.declared.anchor.finding.Bootblock.TheVariants as bootblocks
@@ -83,12 +83,18 @@ or_true : (b : Bool) → (b || true) ≡ true
 or_true true = refl
 or_true false = refl
 
--- a component without a digest that the firmware refuses to load needs one
-refused_needed : (rules : HashRules) (c : Content) → (rules.needs_all || firmware_refuses rules c) ≡ true → needs_hash rules c ≡ true
+-- a component without a digest needs one if the user requires it, or the firmware refuses to load it
+refused_needed : (rules : HashRules) (c : Content) → (is_required rules c || firmware_refuses rules c) ≡ true → needs_hash rules c ≡ true
 refused_needed rules c bad = go rules.needs_all bad
   where
-    go : (needs : Bool) → (needs || firmware_refuses rules c) ≡ true → (needs || (is_some rules.anchor && not (is_exempt c.kind))) ≡ true
-    go true is = refl
+    go : (needs : Bool) → ((needs && not (is_exempt c.kind)) || firmware_refuses rules c) ≡ true → ((needs || is_some rules.anchor) && not (is_exempt c.kind)) ≡ true
+    go true is = either (is_exempt c.kind) refl is
+      where
+        either : (exempt : Bool) → is_exempt c.kind ≡ exempt → (not exempt || firmware_refuses rules c) ≡ true → not exempt ≡ true
+        either false e is = refl
+        either true e is =
+            let parts = and_parts (is_some rules.anchor) _ is in
+            absurd (false≢true (rw (not_exempt c.kind (and_parts (is_firmware c.kind) _ parts.1).0) at e))
     go false is =
         let parts = and_parts (is_some rules.anchor) _ is in
         rw (parts.0, not_exempt c.kind (and_parts (is_firmware c.kind) _ parts.1).0) refl
