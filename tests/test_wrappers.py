@@ -5,6 +5,7 @@ names must fail, with the text that the list states.
 """
 
 import os
+import signal
 import subprocess
 import sys
 import unittest
@@ -39,16 +40,21 @@ class Wrappers(ProgramTest):
         scratch.chmod(0o777)
         script = mutant.write(folder.path / "wrapper", program(mutant.program))
         (programs / mutant.program).symlink_to(script)
-        done = subprocess.run(
+        test = subprocess.Popen(
             [sys.executable, "-m", "unittest", "-f", f"tests.{mutant.test}"], cwd=TOP,
             env={**os.environ, "PROGRAMS": str(programs), "TMPDIR": str(scratch),
                  "TIME_LIMIT": COMMAND_LIMIT},
-            stdin=subprocess.DEVNULL, stdout=subprocess.PIPE, stderr=subprocess.STDOUT,
-            timeout=LIMIT)
-        seen = done.stdout.decode(errors="replace")
-        if "skipped=" in seen and done.returncode == 0:
+            stdin=subprocess.DEVNULL, stdout=subprocess.PIPE, stderr=subprocess.STDOUT)
+        try:
+            seen = test.communicate(timeout=LIMIT)[0].decode(errors="replace")
+        except subprocess.TimeoutExpired:
+            # The test ends its own commands.
+            test.send_signal(signal.SIGINT)
+            test.communicate()
+            self.fail(f"{mutant.test} does not end in {LIMIT} seconds: {title}")
+        if "skipped=" in seen and test.returncode == 0:
             self.skipTest("a tool of another test")
-        self.assertNotEqual(done.returncode, 0, f"{mutant.test} passes: {title}")
+        self.assertNotEqual(test.returncode, 0, f"{mutant.test} passes: {title}")
         reason = f"{mutant.test} fails for another reason than {mutant.said}: {title}\n{seen}"
         self.assertTrue(is_told(mutant, seen), reason)
 
