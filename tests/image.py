@@ -200,7 +200,9 @@ class Image:
 
     def put(self, name, region):
         """Puts bytes at the start of the first area with this name, which must have room."""
-        area = next(area for area in self.areas if area.name == name.encode())
+        area = next((area for area in self.areas if area.name == name.encode()), None)
+        if area is None:
+            raise ValueError(f"no area {name}")
         if len(region) > area.size:
             raise ValueError(f"{len(region)} bytes for the area {name}, which has {area.size}")
         self.put_at(area.offset, region)

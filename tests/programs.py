@@ -144,7 +144,11 @@ class Faults:
     @staticmethod
     def numbered(change):
         """Returns a change with numbers instead of the names of errors and of `always`."""
-        name, first, last, way = change.split()
+        words = change.split()
+        if len(words) != 4 or not words[1].isdecimal():
+            raise ValueError(f"{change}: a change has four words: the call, the first and the last"
+                             " number, and the way")
+        name, first, last, way = words
         if name not in CALLS:
             raise ValueError(f"{change}: the call is none of {', '.join(CALLS)}")
         number = str(ALWAYS) if last == "always" else last
@@ -153,8 +157,8 @@ class Faults:
         if way.startswith("E") and hasattr(errno, way):
             way = getattr(errno, way)
         elif way not in CALLS[name]:
-            words = ", ".join(sorted(CALLS[name]))
-            raise ValueError(f"{change}: {way} is no error of errno, and none of: {words}")
+            ways = ", ".join(sorted(CALLS[name]))
+            raise ValueError(f"{change}: {way} is no error of errno, and none of: {ways}")
         return f"{name} {first} {number} {way}"
 
     def environment(self, listed):
@@ -176,7 +180,8 @@ class Faults:
         lines = []
         for call in self.calls[:limit]:
             moved = f" of {call.length} bytes at {call.offset:#x}" if call.length else ""
-            lines.append(f"{call.name} {call.number}{moved}{call.way and f': {call.way}'}")
+            way = errno.errorcode.get(int(call.way)) if call.way.isdecimal() else call.way
+            lines.append(f"{call.name} {call.number}{moved}{way and f': {way}'}")
         more = len(self.calls) - limit
         return "\n".join(lines + [f"({more} more calls)"] * (more > 0))
 
@@ -492,7 +497,8 @@ class ProgramTest(unittest.TestCase):
         calls = []
         if done.faults:
             changed = "" if done.faults.changed() else ", of which none was changed"
-            calls = [f"calls on {done.faults.file}{changed}:\n{done.faults.listing()}"]
+            listing = done.faults.listing() or "(none: is the path that of the command line?)"
+            calls = [f"calls on {done.faults.file}{changed}:\n{listing}"]
         self.fail("\n".join([f"command: {words}", *wrong, *calls, f"folder: {folder.path}"]))
 
 

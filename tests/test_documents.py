@@ -217,8 +217,8 @@ FACTS = [
     (CHECK, ".Pp The status is {} if a finding is", [BAD]),
     (SEAL, "{} if both digests are right now, {} if the image is refused, and {} for a bad "
      "command line.", [sealed, SEAL_REFUSED, BAD_SEAL_LINE]),
-    (README, "Status 0 means no bad finding; status {}, at least one; status {}, an incomplete "
-     "report.", [BAD, INCOMPLETE]),
+    (README, "Status 0 means no bad finding; status {}, at least one; status {}, a missing or "
+     "incomplete report.", [BAD, INCOMPLETE]),
     (FORMAT, "The exit status is {} for success, {} for a bad command line, and {} for any other "
      "refusal.", [DONE, BAD_LINE, REFUSED]),
     ("docs/MOVING.md", "A refusal is one line on standard error, with status {}, or {} for a bad "

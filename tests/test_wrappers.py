@@ -71,7 +71,7 @@ class InjectedFaults(ProgramTest):
     def test_faults_that_do_not_exist(self):
         """A call, a way or an order of numbers that does not exist is refused at once."""
         for change in ["wirte 1 1 EIO", "write 1 1 ENOSPACE", "write 1 1 shrot", "stat 1 1 short",
-                       "write 2 1 EIO", "write 0 1 EIO"]:
+                       "write 2 1 EIO", "write 0 1 EIO", "write 3 EIO", "write x 3 EIO"]:
             with self.subTest(change), self.assertRaises(ValueError):
                 Faults("file", change)
 
@@ -86,6 +86,10 @@ class InjectedFaults(ProgramTest):
         folder.kept = False
         self.assertIn("no system call was changed", str(raised.exception))
         self.assertIn("read 1 of ", str(raised.exception))
+        with self.assertRaises(self.failureException) as raised:
+            self.check(command, folder, output=ROW, faults=Faults("other.rom", calls))
+        folder.kept = False
+        self.assertIn("(none: is the path that of the command line?)", str(raised.exception))
         self.check(command, {"image.rom": image}, output=ROW,
                    faults=Faults("image.rom", calls, may_change_nothing=True))
 

@@ -25,7 +25,7 @@ MUTANTS = [
        "A script takes a refused image for a typing error.",
        is_new=False),
     of("README.md", "the README swaps the statuses of cbfscheck",
-       "status 1, at least one; status 2, an", "status 2, at least one; status 1, an",
+       "status 1, at least one; status 2, a", "status 2, at least one; status 1, a",
        "A CI job flashes a bad image.",
        is_new=False),
     of(SEAL, "the page of cbfsseal has another status",

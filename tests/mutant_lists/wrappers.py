@@ -62,7 +62,8 @@ MESSAGE = "message of the command differs"
 LAYOUT = '*" layout "*'
 LISTING = "test_layout.Positions.test_a_map_of_version_2_before_the_map"
 # Changes the byte at an offset of a file, or the last one.
-PATCH = "printf '\\%03o' {value} | dd of={file} bs=1 seek={at} conv=notrunc status=none"
+PATCH = ("printf \"$(printf '\\\\%03o' {value})\" |"
+         " dd of={file} bs=1 seek={at} conv=notrunc status=none")
 LAST = "$(($(stat -c %s {file}) - 1))"
 
 
