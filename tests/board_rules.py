@@ -21,6 +21,8 @@ from tests.structures import DESCRIPTOR_AREAS, DESCRIPTOR_MAGIC, PAGE
 
 BAD, REMARK = "bad", "remark"
 FSP = 0x60
+# The areas from which a firmware with CBFS verification loads components.
+LOADED_FROM = ("COREBOOT", "FW_MAIN_A", "FW_MAIN_B")
 METADATA_LIMIT = 256
 FIRMWARE_TYPES = (STAGE, SIMPLE_ELF, FSP)
 EXEMPT_TYPES = (BOOTBLOCK, CBFS_HEADER)
@@ -261,12 +263,13 @@ def check_anchor(board):
 
 
 # Not measured: that the firmware refuses a component without a digest is known from coreboot's
-# source only. The tool's `add` gives each component a digest on a board with an anchor (measured).
+# source only. The tool's `add` gives each component a digest on a board with an anchor, also one of
+# a slot (measured).
 
 
 def check_required_digests(board, number):
     """Checks that components which only the firmware loads have a digest, with an anchor."""
-    for one in board.components():
+    for one in (one for name in LOADED_FROM for one in board.components(name)):
         stored = one.attribute(HASH_TAG)
         if one.type in EXEMPT_TYPES:
             continue
