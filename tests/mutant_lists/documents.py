@@ -402,7 +402,7 @@ MUTANTS = [
        "| `make test` | the gate", "| `make tests` | the gate", "A contributor does not find it.",
        "test_documents.FirstScreens.test_the_readme", is_new=False),
     of(README, "the README has a fourth promise",
-       "A *device* is an image", "4. A *device* is an image",
+       "- A *device* is an image", "4. A *device* is an image",
        "A reader takes a term for a promise.",
        "test_documents.FirstScreens.test_the_readme", is_new=False),
     of(README, "the README begins with a picture",
