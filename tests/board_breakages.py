@@ -14,7 +14,7 @@ from collections import namedtuple
 
 from tests import board_rules as rules
 from tests import image, structures
-from tests.boards import KEYS, Bench, fill_slot, sign, text, tool
+from tests.boards import EMPTY_ANCHOR, KEYS, Bench, fill_slot, sign, text, tool
 
 Change = namedtuple("Change", "board structure phrase apply harm")
 
@@ -520,6 +520,9 @@ def slot_changes(board="intel"):
         ("FW_MAIN_A is expanded, and not signed",
          tools(lambda b: b.cbfstool("expand", "-r", "FW_MAIN_A")), ""),
         ("the keyblock of another root key (RSA)", tools(other_keyblock), UNSIGNED),
+        ("slot B is created in an image without an anchor, and signed",
+         tools(lambda b: new_slot(b, has_anchor=False), sign),
+         "the firmware finds no digest of the payload"),
     ]
     return [Change(board, "slot", *row) for row in rows]
 
@@ -1069,11 +1072,17 @@ def good_changes():
     return [Change("intel", "good", phrase, apply, "") for phrase, apply in rows]
 
 
-def new_slot(bench):
-    """Creates the CBFS of slot B again, with other contents."""
+def new_slot(bench, has_anchor=True):
+    """Creates the CBFS of slot B again in another image, with other contents.
+
+    Coreboot's tool stores a digest in each component if the other image has an anchor.
+    """
     other = Bench(tempfile.mkdtemp(dir=bench.folder))
     other.create("FLASH 4M { FMAP 4K FW_MAIN_B(CBFS) 3080128 COREBOOT(CBFS) }",
                  ["COREBOOT", "FW_MAIN_B"])
+    if has_anchor:
+        other.add("bootblock", structures.bootblock(65536, anchor=EMPTY_ANCHOR), "-b", "-65536",
+                  type="bootblock")
     fill_slot(other, "FW_MAIN_B", 200)
     other.cbfstool("read", "-r", "FW_MAIN_B", "-f", "slot")
     bench.cbfstool("write", "-F", "-r", "FW_MAIN_B", "-f", other.folder / "slot")
