@@ -56,9 +56,9 @@ wanted_areas image expects areas = filter (is_wanted image expects (has_smaller 
 abbrev pub cbfs_areas : List ℕ → List NumberedArea → List NumberedArea
 cbfs_areas image areas = wanted_areas image (has_one_of []) areas
 
--- A firmware with CBFS verification loads components from these areas: COREBOOT and the two slots of
--- vboot. It checks the digest of each component that it loads, also if no anchor has a digest of the
--- area's metadata.
+-- A firmware with CBFS verification loads components from these areas: COREBOOT and the two slots
+-- of vboot. It checks the digest of each component that it loads, also if no anchor has a digest of
+-- the area's metadata.
 abbrev pub is_loaded_from : NumberedArea → Bool
 is_loaded_from a = has_name (codes "COREBOOT") a
     || (has_name (codes "FW_MAIN_A") a || has_name (codes "FW_MAIN_B") a)

@@ -79,9 +79,9 @@ abbrev pub firmware_refuses : HashRules → Content → Bool
 firmware_refuses rules c = is_some rules.anchor
     && (is_firmware c.kind && not (has_digest_of_some_algorithm c.stored))
 
--- The user requires a digest of the component. A bootblock is left out even then: if it contains an
--- anchor, its digest would depend on the anchor, and the anchor on the digest. A cbfs header is left
--- out too, because the firmware compares no digest of it.
+-- The user requires a digest of the component. A bootblock is left out even then: if it contains
+-- an anchor, its digest would depend on the anchor, and the anchor on the digest. A cbfs header is
+-- left out too, because the firmware compares no digest of it.
 abbrev pub is_required : HashRules → Content → Bool
 is_required rules c = rules.needs_all && not (is_exempt c.kind)
 
