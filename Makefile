@@ -77,8 +77,8 @@ fmaptool cbfscheck cbfsseal:
 	@./prove $@
 
 help:
-	@echo 'make, make all      proves and builds cbfstool, fmaptool, cbfscheck and cbfsseal (15 minutes the first time), needs rt'
-	@echo 'make cbfstool       proves and builds cbfstool alone (8 minutes), and shows a sample; also fmaptool, cbfscheck, cbfsseal'
+	@echo 'make, make all      proves and builds cbfstool, fmaptool, cbfscheck and cbfsseal, needs rt'
+	@echo 'make cbfstool       proves and builds cbfstool alone (16 minutes the first time), and shows a sample; also fmaptool, cbfscheck, cbfsseal'
 	@echo 'make test           the merge gate: proofs from nothing, must-fail edits, tests, programs (an hour or more), needs rt'
 	@echo 'make check          the programs on real files (3 minutes once they are built), needs bash, python3, cc'
 	@echo 'make install        programs, pages, completions and documents: PREFIX=/usr/local DESTDIR= SUFFIX='

@@ -1,6 +1,6 @@
-# Completion of cbfscheck for bash: options, files for its two images, and the areas of the first
-# image on the line, as the cbfstool in the same folder lists them. It offers no areas if the image
-# is read-only, or if another command locks it for longer than a second.
+# Completion of cbfscheck for bash: options, files for its two images and for @FILE, and the areas of
+# the first image on the line, as the cbfstool in the same folder lists them. It offers no areas if
+# the image is read-only, or if another command locks it for longer than a second.
 #
 # Names come from the image, and must never become a part of a command. So a name is offered with a
 # backslash before each special character; after an open quote, a name with a special character is
@@ -94,6 +94,19 @@ _cbfscheck_areas() {
     _cbfscheck_offer "${names[@]}"
 }
 
+# _cbfscheck_option_files: offers the files of an argument @FILE
+_cbfscheck_option_files() {
+    local name names=()
+    before=@
+    while IFS= read -r name; do
+        [[ ! -d $name ]] || name+=/
+        names+=("$name")
+    done < <(compgen -f -- "${plain#@}")
+    # (the rest of a path follows a single folder, and no blank)
+    [[ ${#names[@]} != 1 || ${names[0]} != */ ]] || compopt -o nospace
+    _cbfscheck_offer "${names[@]}"
+}
+
 _cbfscheck() {
     local words=() texts=() images=() given=" " wanted="" before="" after="" image=""
     local word rest plain quote closed ahead last at option
@@ -120,13 +133,16 @@ _cbfscheck() {
                     -r?*) given+="-r " ;;
                     --*=*) given+="${texts[at]%%=*} " ;;
                     -*) given+="${texts[at]} " ;;
+                    @*) ;;
                     *) images+=("${texts[at]}") ;;
                 esac
                 ;;
         esac
     done
     image=${images[0]-}
-    if [[ $wanted ]]; then
+    if [[ $plain == @* ]]; then
+        _cbfscheck_option_files
+    elif [[ $wanted ]]; then
         _cbfscheck_areas "$wanted"
     elif [[ $plain == --keep=* || $plain == --need=* || $plain == -r=* ]]; then
         before=${plain%%=*}=

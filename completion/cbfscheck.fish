@@ -1,7 +1,7 @@
-# Completion of cbfscheck for fish: options, files for its two images, and the areas of the first
-# image before the cursor, as the cbfstool in the same folder lists them. It offers no areas if the
-# image is read-only, or if another command locks it for longer than a second. (fish does not tell a
-# completion which words follow the cursor.)
+# Completion of cbfscheck for fish: options, files for its two images and for @FILE, and the areas of
+# the first image before the cursor, as the cbfstool in the same folder lists them. It offers no
+# areas if the image is read-only, or if another command locks it for longer than a second. (fish
+# does not tell a completion which words follow the cursor.)
 #
 # Names come from the image, and must never become a part of a command: fish quotes what `complete`
 # offers.
@@ -20,8 +20,8 @@ function __cbfscheck_lacks
     not string match -q -r -- "^$argv[1]\$" $words[2..]
 end
 
-# Prints the images of the words of a line, without options and their values. Returns whether no
-# value is still to come.
+# Prints the images of the words of a line, without options, their values and option files. Returns
+# whether no value is still to come.
 function __cbfscheck_images
     set -l text no
     for word in $argv[2..]
@@ -32,7 +32,7 @@ function __cbfscheck_images
         switch $word
             case -r --keep --need
                 set text yes
-            case '-*'
+            case '-*' '@*'
             case '*'
                 printf '%s\n' $word
         end
@@ -73,7 +73,13 @@ function __cbfscheck_needs
     end
 end
 
+# Prints the files of the argument @FILE at the cursor.
+function __cbfscheck_option_files
+    string replace -r '^' '@' -- (__fish_complete_path (string replace -r '^@' '' -- (commandline -ct)))
+end
+
 complete -c cbfscheck -f
+complete -c cbfscheck -n "string match -q '@*' -- (commandline -ct)" -a '(__cbfscheck_option_files)'
 complete -c cbfscheck -n __cbfscheck_wants_image -F
 complete -c cbfscheck -n "__cbfscheck_lacks '-r.*'" -s r -x -a '(__cbfscheck_areas ,)' -d 'areas that are checked as a CBFS'
 complete -c cbfscheck -n '__cbfscheck_lacks -v' -s v -d 'all rows, and components without a digest'

@@ -296,15 +296,10 @@ def is_signed(area, body_end, body_size):
 
 
 class BoardRows:
-    """The rows of the board of an image.
+    """The rows of the board of an image; `finding` makes a row, as in tests/model.py."""
 
-    `components(name)` returns the components that the rows of the first checked area with this name
-    report; `finding` makes a row, as in tests/model.py.
-    """
-
-    def __init__(self, image, components, finding):
+    def __init__(self, image, finding):
         self.image = image
-        self.components = components
         self.finding = finding
 
     def rows(self):
@@ -349,8 +344,8 @@ class BoardRows:
         return [self.finding("me-table-blank" if is_blank(data) else found, b"SI_ME")]
 
     def placed(self, area):
-        """Returns the components of an area that begin before its end."""
-        return [one for one in self.components(area.name) if one.start < area.size]
+        """Returns the components of an area, up to its last multiple of 64 bytes."""
+        return self.image.entries(area).components
 
     def ends_with_bootblock(self, area):
         return any(one.type == BOOTBLOCK and one.start + len(one.content) == area.size
@@ -440,6 +435,26 @@ STRUCTURES = [
     ({"slot", "slot-not-checked", "slot-invalid"}, b"VBLOCK_B", "signatures of the slot are gone"),
 ]
 UNUSED = "region of the flash descriptor is unused now"
+
+
+SLOTS = [(b"VBLOCK_A", b"FW_MAIN_A"), (b"VBLOCK_B", b"FW_MAIN_B")]
+
+
+def outdated_slots(old, new):
+    """Returns the areas of the signatures that both boards have, and that sign other bytes now.
+    Both are `BoardRows`."""
+    sound = {row.area for row in new.rows() if row.code == "slot"}
+    return [block for block, body in SLOTS if block in sound and is_outdated(old, new, block, body)]
+
+
+def is_outdated(old, new, block, body):
+    """Returns whether the signatures of a slot stay, and not all bytes that they sign."""
+    signatures = new.bytes_in(block)
+    if old.bytes_in(block) != signatures or old.bytes_in(body) is None:
+        return False
+    signed = signed_length(signatures[keyblock_length(signatures) :])
+    before, after = old.bytes_in(body)[:signed], new.bytes_in(body)[:signed]
+    return len(before) == signed and before != after
 
 
 def lost_structures(old, new):

@@ -24,13 +24,13 @@ LONGEST_NAME = 127
 
 
 class Result(NamedTuple):
-    """What a command does. Without a refusal it also may print that an anchor is outdated."""
+    """What a command does. Without a refusal it also may print notes."""
 
     image: bytes
     refusal: Optional[str] = None
     output: str = ""
     file: bytes = b""
-    has_note: bool = False
+    notes: tuple = ()
 
 
 class Refusal(Exception):
@@ -76,16 +76,40 @@ def walk(image, area):
     return found
 
 
-def replaced(image, area, region):
+def map_note(before, after):
+    """Returns the note on the first map of an image, if it is not the map of before."""
+    if after is None:
+        return ["the image has no flash map now"]
+    if (after.position, after.bytes[:56]) != (before.position, before.bytes[:56]):
+        return [f"the image has another flash map now, at {after.position:#x}"]
+    return []
+
+
+def region_note(image, area):
+    """Returns the note on an area that is written, by the map of the image."""
+    end = area.offset + area.size
+    first, last = image.map.position, image.map.position + len(image.map.bytes)
+    if area.size and area.offset < last and first < end:
+        return ["the region holds the flash map"]
+    others = [other for other in image.areas if other.name != area.name and other.size
+              and area.offset <= other.offset and other.offset + other.size <= end]
+    return ["the region contains other areas of the flash map"] if others else []
+
+
+def replaced(image, area, region, region_notes=()):
     """Returns the result of a command that replaces a region.
 
-    The note is about the flash map at the place that the command used, if its head is still there.
+    The note on an anchor is about the flash map at the place that the command used, if its head is
+    still there.
     """
     data = image.data[: area.offset] + region + image.data[area.offset + area.size :]
     same = map_at(data, image.map.position)
     is_same = same is not None and same.bytes[:56] == image.map.bytes[:56]
     now = Reading(data, same if is_same else None)
-    return Result(data, has_note=now.has_outdated_anchor())
+    anchors = ["the bootblock's metadata hash is outdated: run cbfsseal image.rom"]
+    notes = [*region_notes, *map_note(image.map, Reading(data).map),
+             *(anchors if now.has_outdated_anchor() else [])]
+    return Result(data, notes=tuple(notes))
 
 
 # ---- Commands that read
@@ -135,7 +159,7 @@ def write(image, name, data):
     """Returns the result of `write`."""
     area = region_of(image, name)
     require(len(data) == area.size, "source size differs from the region")
-    return replaced(image, area, data)
+    return replaced(image, area, data, region_note(image, area))
 
 
 @command

@@ -48,7 +48,6 @@ PROGRAMS = ("cbfstool", "fmaptool", "cbfscheck")
 LIMIT = 20.0
 MOST_FAILURES = 50
 DIGESTS = {"sha256": SHA256, "sha512": SHA512}
-NOTE = "cbfstool: note: the bootblock's metadata hash is outdated: run cbfsseal image.rom\n"
 UNREADABLE = [
     [], ["frobnicate"], ["print", "more"], ["print", "-r"], ["layout", "-r", "A"], ["remove"],
     ["--help"], ["extract", "-n", "a"], ["remove", "-n", "a", "-n", "b"], ["read"],
@@ -126,7 +125,9 @@ class Trial:
         """Runs a command on the image, and compares it with the result of the model."""
         done = self.run(["cbfstool", "image.rom", *words], words[0])
         left = {"image.rom": result.image, **({out: result.file} if out else {})}
-        message = f"cbfstool: {result.refusal}\n" if result.refusal else NOTE * result.has_note
+        message = "".join(f"cbfstool: note: {note}\n" for note in result.notes)
+        if result.refusal:
+            message = f"cbfstool: {result.refusal}\n"
         self.compare(done, int(result.refusal is not None), result.output, message, left)
         self.image = result.image
         return result.refusal is None

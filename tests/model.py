@@ -24,7 +24,7 @@ from tests.image import (
     BOOTBLOCK, CBFS_HEADER, CELL_SIZE, COMPRESSION_TAG, DELETED, HASH_TAG, HASHES, HEAD_SIZE,
     HEADER_SIZE, MAGIC, PRESERVED, SIMPLE_ELF, STAGE, STAGE_TAG, digest,
 )
-from tests.reading import BAD_SIZE, NO_CBFS, UNUSED_TAGS, first_map, has_entry
+from tests.reading import BAD_SIZE, NO_CBFS, UNUSED_TAGS, Reading, first_map, has_entry
 from tests.regions import runs
 from tests.texts import COMPRESSIONS, TYPES, shown
 
@@ -64,7 +64,7 @@ CODES = {
     "anchor-cut-off": ("bad", "anchor is cut off"),
     "area-not-checked": (
         "remark", "isn't checked: checked areas would exceed twice the image"),
-    "region-size": ("bad", "size is 0 or no multiple of 64"),
+    "region-size": ("bad", "size is less than 64"),
     "no-cbfs": ("bad", "no CBFS"),
     "component-shadowed": ("bad", "has the name of an earlier component"),
     "metadata-too-long": ("bad", "metadata longer than 256 bytes: firmware can't find it"),
@@ -87,6 +87,7 @@ CODES = {
     "free-bytes": ("remark", "free bytes"),
     "largest-content": ("remark", "largest content that add takes"),
     "no-room": ("remark", "no room for a component"),
+    "region-unaligned": ("remark", "size is no multiple of 64"),
     "no-area": ("bad", "no such area"),
     "need-missing": ("bad", "needed component isn't there"),
     "need-elsewhere": ("bad", "needed component is elsewhere"),
@@ -101,6 +102,7 @@ CODES = {
     "anchor-gone": ("bad", "anchor gone"),
     "anchor-algorithm-changed": ("change", "anchor's algorithm changed from {}"),
     "structure-gone": ("bad", "GBB is gone"),
+    "slot-outdated": ("bad", "signed bytes changed, but not the signatures"),
     "area-added": ("change", "area added"),
     "area-moved": ("change", "area moved from"),
     "area-resized": ("change", "area resized from"),
@@ -405,11 +407,6 @@ class Checked:
             self.areas.append(area)
             self.rows += RegionRows(image, area, wishes).rows()
 
-    def components(self, name):
-        """Returns the components of the first checked area with a name."""
-        area = next((area for area in self.areas if area.name == name), None)
-        return self.image.cut(area).components if area else []
-
 
 def attribute_fault(cell):
     """Returns the text of the first fault of a component's attributes, or None.
@@ -463,7 +460,7 @@ class RegionRows:
 
     def __init__(self, image, area, wishes):
         self.area = area
-        self.cut = image.cut(area)
+        self.cut = image.entries(area)
         self.wishes = wishes
         self.anchor = usable_algorithm(image) if area.name in LOADED_FROM else None
 
@@ -472,9 +469,10 @@ class RegionRows:
         return finding(code, self.area.name, *place, **fields)
 
     def rows(self):
-        """Returns the rows: the cells, how they end, and the counts."""
+        """Returns the rows: the cells, how they end, the counts, and the size."""
+        size = [self.finding("region-unaligned")] * self.is_unaligned()
         if self.cut.shape:
-            return [self.finding(SHAPES[self.cut.shape])]
+            return [self.finding(SHAPES[self.cut.shape]), *size]
         rows, names = [], set()
         for cell in self.cut.cells:
             if not cell.is_free():
@@ -482,7 +480,11 @@ class RegionRows:
                 names.add(cell.name)
             elif cell.type == DELETED:
                 rows.append(self.finding("component-deleted", None, cell.position))
-        return [*rows, *self.end(), *self.counts()]
+        return [*rows, *self.end(), *self.counts(), *size]
+
+    def is_unaligned(self):
+        """Returns whether the area has room for an entry, and bytes that no entry can fill."""
+        return self.area.size > CELL_SIZE and self.area.size % CELL_SIZE != 0
 
     def component(self, cell, is_shadowed):
         """Returns the rows of a component."""
@@ -555,7 +557,7 @@ class RegionRows:
                 else self.finding("no-components")]
         free = sum(len(cell.bytes) for cell in self.cut.cells if cell.is_free())
         rows.append(self.finding("free-bytes", value=free))
-        rooms = [end - start - HEADER_SIZE - KEPT_BYTES * (end == self.area.size)
+        rooms = [end - start - HEADER_SIZE - KEPT_BYTES * (end == len(self.cut.region))
                  for start, end in runs(self.cut.cells)]
         if not rooms:
             return [*rows, self.finding("no-room")]
@@ -574,7 +576,7 @@ def missing_rows(areas, names):
 def need_rows(need, checked):
     """Returns the row of a need that is not met."""
     area = next((area for area in checked.areas if area.name == need.area), None)
-    found = checked.image.cut(area).component(need.component) if area else None
+    found = checked.image.entries(area).component(need.component) if area else None
     if found is None:
         return [finding("need-missing", need.area, need.component)]
     at_end = area.size - len(found.content)
@@ -649,14 +651,16 @@ class Changes:
         return [finding("anchor-algorithm-changed", word=HASHES[old])]
 
     def structures(self):
-        """Returns the rows of the structures of the board that only the old image has."""
-        # (the old image is checked as if nothing were asked for)
-        nothing = Wishes()
-        old = Checked(self.old, expected_names(None, nothing), nothing)
-        boards = [board_model.BoardRows(one.image, one.components, finding)
-                  for one in (old, self.checked)]
-        return [finding("structure-gone", area, what=text)
+        """Returns the rows of the structures that only the old image has, and of slots whose
+        signatures are those of other bytes."""
+        boards = [board_model.BoardRows(image, finding) for image in (self.old, self.new)]
+        rows = [finding("structure-gone", area, what=text)
                 for area, text in board_model.lost_structures(*boards)]
+        # (an old image without a map has the areas of the new one)
+        before = Reading(self.old.data, self.old.map or self.new.map)
+        outdated = board_model.outdated_slots(
+            board_model.BoardRows(before, finding), boards[1])
+        return rows + [finding("slot-outdated", area) for area in outdated]
 
     def areas(self):
         """Returns the rows of the areas of both images."""
@@ -719,7 +723,7 @@ class Changes:
                 rows.append(finding("components-not-compared", area.name, None, area.offset))
                 continue
             left -= was.size
-            rows += component_changes(area, self.old.cut(was), self.new.cut(area))
+            rows += component_changes(area, self.old.entries(was), self.new.entries(area))
         return rows
 
 
@@ -772,7 +776,7 @@ def components(old, new, wishes):
     """Returns the components of all areas that are checked, as --list shows them."""
     rows = []
     for area in Checked(new, expected_names(old, wishes), wishes).areas:
-        for cell in new.cut(area).components:
+        for cell in new.entries(area).components:
             packing, state = cell.compression(), cell.hash_state()
             kind = TYPES.get(cell.type, hex(cell.type))
             texts = {"absent": "no hash", "unsupported": "hash unsupported"}
@@ -788,5 +792,5 @@ def report(old, new, wishes):
     rows += missing_rows(new.areas, wishes.areas)
     for need in wishes.needs:
         rows += need_rows(need, checked)
-    rows += board_model.BoardRows(new, checked.components, finding).rows()
+    rows += board_model.BoardRows(new, finding).rows()
     return rows + (Changes(old, new, checked, wishes).rows() if old else [])

@@ -191,8 +191,8 @@ class Maker:
     def change(self, image):
         """Makes one change of an image."""
         rng = self.rng
-        changes = [*4 * [self.change_head], self.change_attribute, self.change_map,
-                   *2 * [self.change_structure], self.cut_off, self.copy_block, self.change_magic,
+        changes = [*4 * [self.change_head], self.change_attribute, self.change_content,
+                   self.change_map, *2 * [self.change_structure], self.cut_off, self.copy_block, self.change_magic,
                    self.flip_bit]
         heads = [found.start() for found in re.finditer(MAGIC, image)]
         rng.choice(changes)(image, rng.choice(heads or [0]))
@@ -209,6 +209,11 @@ class Maker:
         offset = int.from_bytes(image[head + 16 : head + 20], "big")
         if 0 < offset < 4096:
             self.put_number(image, head + offset + self.rng.choice([0, 4, 8]))
+
+    def change_content(self, image, head):
+        offset = int.from_bytes(image[head + 20 : head + 24], "big")
+        if head + offset < len(image):
+            image[head + offset] ^= 1 << self.rng.randrange(8)
 
     def change_map(self, image, _):
         rng, at = self.rng, image.find(MAP_MAGIC)

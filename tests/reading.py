@@ -352,6 +352,10 @@ class Reading:
             self.cuts[place] = cut(self.bytes_of(area))
         return self.cuts[place]
 
+    def entries(self, area):
+        """Returns the cut of an area up to its last multiple of 64 bytes."""
+        return self.cut(Area(area.name, area.offset, area.size - area.size % CELL_SIZE))
+
     def inside(self, name):
         """Returns the first area with a name if it is inside the image, or None."""
         area = self.first(name)

@@ -141,14 +141,14 @@ class Memory(CheckTest):
     def test_one_image(self):
         reported, spared = self.refuse_memory("cbfscheck hashes.rom", FILES, REPORT, status=2)
         self.assertGreaterEqual(len(reported) + len(spared), 90)
-        self.assertEqual(len(spared), 4)
+        self.assertEqual(len(spared), 5)
 
     def test_two_images(self):
         done = self.folder(FILES).run("cbfscheck packed.rom hashes.rom --json")
         self.assertEqual(done.output[:52], b'{"format":1,"image":"hashes.rom","old":"packed.rom",')
         reported, spared = self.refuse_memory("cbfscheck packed.rom hashes.rom --json", FILES,
                                               done.output, status=2)
-        self.assertGreaterEqual(len(reported) + len(spared), 240)
+        self.assertGreaterEqual(len(reported) + len(spared), 230)
         self.assertEqual(len(spared), 7)
 
 

@@ -116,13 +116,14 @@ class Needs(Check):
 # The numbers of reads of each sample: of a check, of a check with -r COREBOOT,FW_MAIN_A, and of OLD
 # and NEW in a check of the sample and a copy of it. A check reads the image once from the start to
 # the end, the first 4096 bytes by one call and then 16,384 bytes by a call; and each area with a
-# CBFS again, from its entries on. The last sample has four areas for structures of the board, which
-# are blank.
+# CBFS again, from its entries on. It reads the entries of COREBOOT and of the slots once more for
+# the structures of the board. The last sample has four areas for such structures, which are blank.
+# Of an old image it reads the map, the anchor and the structures, and what it compares.
 READS = [
     ("created.rom", 1, 1, 1, 1),
-    ("hashes.rom", 9, 9, 20, 16),
-    ("packed.rom", 9, 9, 20, 16),
-    ("types.rom", 14, 15, 38, 35),
+    ("hashes.rom", 9, 9, 13, 16),
+    ("packed.rom", 9, 9, 13, 16),
+    ("types.rom", 16, 17, 33, 37),
 ]
 OPTIONS = ["", "-v --list --json", "--all-hashed", "--need COREBOOT:bootblock@end"]
 

@@ -2,10 +2,11 @@
 
 import unittest
 
-from tests.findings import CheckTest
+from tests.findings import CheckTest, patched
 from tests.image import Component, region
 from tests.structured_board import (
-    BOARD, BOOTBLOCK_SIZE, HEADER_AT, PLACES, REGIONS, board, signed_block, with_table, without,
+    BOARD, BODY, BOOTBLOCK_SIZE, HEADER_AT, PLACES, REGIONS, board, signed_block, with_table,
+    without,
 )
 from tests.structures import (
     UNUSED_REGION, bootblock, bootblock_component, descriptor, header_component, header_pointer,
@@ -134,6 +135,80 @@ class NotLost(CheckTest):
             change|-|-|-|erase blocks differ|3
             change|GBB|-|0x3000|erase blocks differ|3
             not sound: 1 bad, 19 remarks, 2 changes
+        """)
+
+
+# A byte of a body's free space, and how many bytes of the body are signed up to it.
+BYTE_AT = 0x300
+SIGNED_WITH_IT, SIGNED_WITHOUT_IT = BYTE_AT + 1, BYTE_AT
+
+
+def with_byte(slot, signed, **parts):
+    """Returns the board with another byte in a slot, and with signatures of so many bytes."""
+    body = patched(BODY, (BYTE_AT, b"\0"))
+    return board(**{f"FW_MAIN_{slot}": body, f"VBLOCK_{slot}": signed_block(signed), **parts})
+
+
+class Outdated(CheckTest):
+    """A slot is bad if its signed bytes change, and its signatures stay."""
+
+    def test_a_signed_byte_of_each_slot(self):
+        for slot, start in ("A", "0x8000"), ("B", "0xb000"):
+            old = board(**{f"VBLOCK_{slot}": signed_block(SIGNED_WITH_IT)})
+            with self.subTest(slot):
+                self.changes(1, old, with_byte(slot, SIGNED_WITH_IT), f"""
+                    change|-|-|-|erase blocks differ|1
+                    bad|VBLOCK_{slot}|-|-|signed bytes changed, but not the signatures
+                    change|FW_MAIN_{slot}|-|{start}|erase blocks differ|1
+                    not sound: 1 bad, 20 remarks, 2 changes
+                """)
+
+    def test_the_first_byte_that_is_not_signed(self):
+        old = board(VBLOCK_A=signed_block(SIGNED_WITHOUT_IT))
+        self.changes(0, old, with_byte("A", SIGNED_WITHOUT_IT), """
+            change|-|-|-|erase blocks differ|1
+            change|FW_MAIN_A|-|0x8000|erase blocks differ|1
+            sound: 0 bad, 20 remarks, 2 changes
+        """)
+
+    def test_other_signatures(self):
+        """They may be right: signatures of RSA are not computed."""
+        old = board(VBLOCK_A=signed_block(SIGNED_WITH_IT + 1))
+        self.changes(0, old, with_byte("A", SIGNED_WITH_IT), """
+            change|-|-|-|erase blocks differ|2
+            change|VBLOCK_A|-|0x6000|erase blocks differ|1
+            change|FW_MAIN_A|-|0x8000|erase blocks differ|1
+            sound: 0 bad, 20 remarks, 3 changes
+        """)
+
+    def test_a_body_without_a_signed_length(self):
+        old = board(VBLOCK_A=signed_block(0))
+        self.changes(0, old, with_byte("A", 0), """
+            change|-|-|-|erase blocks differ|1
+            change|FW_MAIN_A|-|0x8000|erase blocks differ|1
+            sound: 0 bad, 20 remarks, 2 changes
+        """)
+
+    def test_an_old_image_without_a_map(self):
+        """Its bytes are compared at the places of the new map."""
+        old = patched(board(VBLOCK_A=signed_block(SIGNED_WITH_IT)), (PLACES["FMAP"][0], b"X"))
+        self.changes(1, old, with_byte("A", SIGNED_WITH_IT), """
+            change|-|-|-|erase blocks differ|2
+            change|-|-|-|the old image has no flashmap
+            bad|VBLOCK_A|-|-|signed bytes changed, but not the signatures
+            change|FW_MAIN_A|-|0x8000|erase blocks differ|1
+            change|FMAP|-|0xc000|erase blocks differ|1
+            not sound: 1 bad, 20 remarks, 4 changes
+        """)
+
+    def test_an_old_image_without_the_area(self):
+        old = board(without("FW_MAIN_A"), VBLOCK_A=signed_block(SIGNED_WITH_IT))
+        self.changes(0, old, with_byte("A", SIGNED_WITH_IT), """
+            change|-|-|-|erase blocks differ|2
+            change|SI_BIOS|-|0x3000|erase blocks differ|1
+            change|FW_MAIN_A|-|0x8000|area added
+            change|FMAP|-|0xc000|erase blocks differ|1
+            sound: 0 bad, 20 remarks, 4 changes
         """)
 
 

@@ -622,7 +622,7 @@ class CheckedAreas(CheckTest):
         image = board(0x400, [FMAP, ("A", 0x100, 0x100), ("S", 0x100, 24)], (0x100, NULL_256))
         self.reports(1, image, """
             remark|-|-|0x0|flashmap
-            bad|S|-|-|size is 0 or no multiple of 64
+            bad|S|-|-|size is less than 64
             not sound: 1 bad, 1 remarks, 0 changes
         """)
 
@@ -720,7 +720,7 @@ class CheckedBytes(CheckTest):
             remark|A|-|-|free bytes|64
             remark|A|-|-|largest content that add takes|32
             bad|B|-|0x3c0|isn't checked: checked areas would exceed twice the image
-            bad|E|-|-|size is 0 or no multiple of 64
+            bad|E|-|-|size is less than 64
             not sound: 4 bad, 6 remarks, 0 changes
         """, "-r P,Q,B,E")
         self.reports(1, image, """
@@ -756,13 +756,14 @@ class CheckedBytes(CheckTest):
         self.reports(1, image, """
             remark|-|-|0x0|flashmap
             bad|P|-|-|no CBFS
-            bad|Q|-|-|size is 0 or no multiple of 64
+            bad|Q|-|-|no CBFS
+            remark|Q|-|-|size is no multiple of 64
             remark|A|-|-|complete
             remark|A|-|-|no components
             remark|A|-|-|free bytes|64
             remark|A|-|-|largest content that add takes|32
-            bad|O|-|-|size is 0 or no multiple of 64
-            not sound: 3 bad, 5 remarks, 0 changes
+            bad|O|-|-|size is less than 64
+            not sound: 3 bad, 6 remarks, 0 changes
         """, "-r P,Q,O")
 
     def test_an_area_that_is_left_out_takes_nothing(self):

@@ -27,11 +27,20 @@ class Sampled(CheckTest):
         self.refuses(1, message, f"cbfstool image.rom {command}", {"image.rom": image, **more})
 
     def test_a_size_that_is_no_multiple_of_64(self):
+        """coreboot's tools use such an area. cbfstool of this project refuses it."""
         image = patched(HASHES, (0x1090, b"\x20\x40"))
-        self.reports(1, image, """
+        self.reports(0, image, r"""
             remark|-|-|0x1000|flashmap
-            bad|COREBOOT|-|-|size is 0 or no multiple of 64
-            not sound: 1 bad, 1 remarks, 0 changes
+            remark|COREBOOT|h\x20sha1|0x0|hash unsupported
+            remark|COREBOOT|h\x20sha256|0x80|sha256 valid
+            remark|COREBOOT|h\x20sha512|0x100|sha512 valid
+            remark|COREBOOT|gap|0x380|sha256 valid
+            remark|COREBOOT|-|-|complete
+            remark|COREBOOT|-|-|components|5
+            remark|COREBOOT|-|-|free bytes|15744
+            remark|COREBOOT|-|-|largest content that add takes|15264
+            remark|COREBOOT|-|-|size is no multiple of 64
+            sound: 0 bad, 10 remarks, 0 changes
         """)
         self.trips("bad region size", "print", image)
 
@@ -217,15 +226,48 @@ class Components(CheckTest):
         self.reports(1, region(0, []), """
             remark|-|-|0x0|flashmap
             remark|A|-|0x100|has no bytes
-            bad|A|-|-|size is 0 or no multiple of 64
+            bad|A|-|-|size is less than 64
             not sound: 1 bad, 2 remarks, 0 changes
         """, "-r A")
 
     def test_a_size_that_is_no_multiple_of_64(self):
-        self.reports(1, region(500, [A]), """
+        """The area is checked up to byte 448."""
+        self.reports(0, region(500, [A]), """
             remark|-|-|0x0|flashmap
-            bad|A|-|-|size is 0 or no multiple of 64
-            not sound: 1 bad, 1 remarks, 0 changes
+            remark|A|-|0x40|unused tail
+            remark|A|-|-|components|1
+            remark|A|-|-|free bytes|0
+            remark|A|-|-|no room for a component
+            remark|A|-|-|size is no multiple of 64
+            sound: 0 bad, 6 remarks, 0 changes
+        """)
+
+    def test_sizes_around_that_of_an_entry(self):
+        for size in 24, 63:
+            with self.subTest(size):
+                self.reports(1, region(size, [A[:size]]), """
+                    remark|-|-|0x0|flashmap
+                    bad|A|-|-|size is less than 64
+                    not sound: 1 bad, 1 remarks, 0 changes
+                """)
+        for size, more in (64, []), (65, ["remark|A|-|-|size is no multiple of 64"]):
+            with self.subTest(size):
+                self.reports(0, region(size, [A]), "\n".join([
+                    "remark|-|-|0x0|flashmap", "remark|A|-|-|complete",
+                    "remark|A|-|-|components|1", "remark|A|-|-|free bytes|0",
+                    "remark|A|-|-|no room for a component", *more,
+                    f"sound: 0 bad, {5 + len(more)} remarks, 0 changes"]))
+
+    def test_bytes_after_the_last_multiple_of_64(self):
+        """They are no part of the tail, and can have any value."""
+        self.reports(0, region(500, [A], (448, b"x" * 52)), """
+            remark|-|-|0x0|flashmap
+            remark|A|-|0x40|unused tail
+            remark|A|-|-|components|1
+            remark|A|-|-|free bytes|0
+            remark|A|-|-|no room for a component
+            remark|A|-|-|size is no multiple of 64
+            sound: 0 bad, 6 remarks, 0 changes
         """)
 
     def test_a_region_without_an_entry_at_its_start(self):

@@ -52,7 +52,7 @@ TEXTS = {
     "anchor-cut-off": ["anchor is cut off"],
     "area-not-checked": ["isn't checked: checked areas would exceed twice the image"],
     "no-area": ["no such area"],
-    "region-size": ["size is 0 or no multiple of 64"],
+    "region-size": ["size is less than 64"],
     "no-cbfs": ["no CBFS"],
     "component-shadowed": ["has the name of an earlier component"],
     "metadata-too-long": ["metadata longer than 256 bytes: firmware can't find it"],
@@ -75,6 +75,7 @@ TEXTS = {
     "free-bytes": ["free bytes"],
     "largest-content": ["largest content that add takes"],
     "no-room": ["no room for a component"],
+    "region-unaligned": ["size is no multiple of 64"],
     "need-missing": ["needed component isn't there"],
     "need-elsewhere": ["needed component is elsewhere"],
     "descriptor": ["flash descriptor"],
@@ -108,6 +109,7 @@ TEXTS = {
     "anchor-gone": ["anchor gone"],
     "anchor-algorithm-changed": ["anchor's algorithm changed from sha256"],
     "structure-gone": ["GBB is gone", "signatures of the slot are gone"],
+    "slot-outdated": ["signed bytes changed, but not the signatures"],
     "area-added": ["area added"],
     "area-gone": ["area gone"],
     "area-moved": ["area moved from"],
@@ -159,11 +161,11 @@ def faults_of_regions():
     cells = join(
         A, A, entry(b"\xff", type=0x77), HASHED, patched(HASHED, (0x54, b"d")),
         patched(HASHED, (0x33, b"\x09")), free(0x40, type=0))
-    areas = [("FMAP", 0, 0x200), ("A", 0x200, 0x800), ("C", 0xA00, 40)]
+    areas = [("FMAP", 0, 0x200), ("A", 0x200, 0x800), ("C", 0xA00, 40), ("U", 0xC00, 100)]
     small = [("FMAP", 0, 0x200), ("A", 0x200, 0x200), ("COREBOOT", 0x400, 0x200)]
     return [
         ("-v --list --need A:a@1,A:h@end,B:a",
-         board(0x1000, areas, (0x200, cells), (0x900, A), (0xA00, A))),
+         board(0x1000, areas, (0x200, cells), (0x900, A), (0xA00, A), (0xC00, A))),
         ("--list", board(0x400, small[:2], (0x200, free(0x200)))),
         ("", board(0x600, small, (0x200, free(0x200)), (0x400, patched(A, (20, b"\xff"))))),
     ]
@@ -219,6 +221,7 @@ BOARDS = [
     ("", board_with(GBB=sound_gbb(flags=1), VBLOCK_A=signed_block(0))),
     ("", with_table(microcode(96))), ("", with_table(microcode(96, sum_is=1))),
     ("", BOARD, board_with(GBB=None, VBLOCK_A=None)),
+    ("", BOARD, board_with(FW_MAIN_A=b"x")),
 ]
 OF_SAMPLES = [row for sample in SAMPLES for row in [
     ("", sample), ("-v --all-hashed --need COREBOOT:none", sample),

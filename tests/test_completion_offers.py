@@ -87,7 +87,9 @@ OFFERS = [
     ("cbfscheck image.rom --need COR", "COREBOOT:"), ("cbfscheck image.rom --need COREBOOT:", ""),
     ("cbfscheck --need COREBOOT:boot image.rom ha", "hashes.rom"), ("cbfscheck --need ", ""),
     ("cbfscheck -r RW_", ""), ("cbfscheck absent.rom -r ", ""),
-    ("cbfscheck board.fmd --keep ", ""),
+    ("cbfscheck board.fmd --keep ", ""), ("cbfscheck @board.fmd im", "image.rom"),
+    ("cbfscheck @board.fmd image.rom hashes.rom ha", ""),
+    ("cbfscheck @board.fmd image.rom --need COR", "COREBOOT:"),
 ]
 
 # Lines whose last word has an option and the start of its value: the line, the option as it is
@@ -104,6 +106,7 @@ JOINED = [
     ("cbfstool new.rom create -M board.fmap -rFW", "-r", "FW_MAIN_A"),
     ("cbfstool new.rom create -Mboard.fmap -rCOREBOOT,FW", "-rCOREBOOT,", "FW_MAIN_A"),
     ("cbfscheck image.rom -rRW_", "-r", RW),
+    ("cbfscheck image.rom @board", "@", "board.fmap|board.fmd"),
 ]
 # Lines for which nothing is offered while another command has the lock of the image.
 WAITING = ["cbfstool image.rom print -r ", "cbfstool image.rom extract -r ",

@@ -295,7 +295,9 @@ class Maps(ProgramTest):
         cells = region(512, {0: Component(b"m", other)})
         image = Image(4096, areas).put("COREBOOT", cells).data()
         folder = self.folder({"image.rom": image_of(4096, areas, "COREBOOT"), "other": other})
-        self.check("cbfstool image.rom add -n m -t raw -f other", folder, left={"image.rom": image})
+        self.check("cbfstool image.rom add -n m -t raw -f other", folder,
+                   message="cbfstool: note: the image has another flash map now, at 0x1c\n",
+                   left={"image.rom": image})
         self.check("cbfstool image.rom layout", folder, output=(
             "fmap\t0x1c\tF\t4096\t2\nFMAP\t0x0\t512\t0x0\nCOREBOOT\t0x200\t3584\t0x0\n"))
 

@@ -317,7 +317,8 @@ FACTS = [
     (TOOL, "The size is 0 or no multiple of {}", [cell_size]),
     (TOOL, "Up to {} bytes of 0xff, the gap, may separate fields and content.",
      [lambda: cell_size() - 1]),
-    (CHECK, ".It bad Qq size is 0 or no multiple of {}", [cell_size]),
+    (CHECK, ".It bad Qq size is less than {}", [cell_size]),
+    (CHECK, ".It remark Qq size is no multiple of {}", [cell_size]),
     (CHECK, "A lost entry, at a multiple of {} bytes.", [cell_size]),
     (LANGUAGE, "a coreboot file system, whose size is a multiple of {}.", [cell_size]),
     (FORMAT, "| 0 to {} | the gap, bytes 0xff, if the content requires a higher offset.",
@@ -749,8 +750,9 @@ class Boards(unittest.TestCase):
     # What PROMISES.md says of a class of missed harm, and the rows of the class: the first class of
     # a row counts. A row is a text of its structure, its change and the rules, joined by bars.
     CLASSES = [
-        ("| signatures of RSA and the keys that they belong to, and a byte of a slot that was "
-         "changed inside the signed bytes | {} |", r"\(RSA\)|changed within the signed length"),
+        ("| signatures of RSA and the keys that they belong to. (A changed byte inside the signed "
+         "bytes of a slot is found with two images, if the signatures are the same: "
+         "`slot-outdated`) | {} |", r"\(RSA\)"),
         ("| a broken master header on a board whose `COREBOOT` does not end with a bootblock (a "
          "remark): only older payloads read it | {} |", r"^arm\|arm\|.*header"),
         ("| wrong fields of the FIT: an entry or the microcode is missing, an entry is skipped, or "
@@ -883,13 +885,14 @@ class Orders(ProgramTest):
     programs = ("cbfscheck",)
 
     def test_the_errors_of_cbfscheck(self):
-        """Arguments come first, then the old image, the new one, and the output."""
+        """Option files come first, then arguments, the old image, the new one, and the output."""
         self.assertIn(
-            "Errors are checked in the order arguments, random numbers, .Ar OLD , .Ar NEW , "
-            "output.", words_of_document(CHECK),
+            "Errors are checked in the order option files, arguments, random numbers, .Ar OLD , "
+            ".Ar NEW , output.", words_of_document(CHECK),
         )
         folder = self.folder({"image.rom": board()})
         for line, wanted in [
+            ("--bogus no.rom @none", b"none: No such file"),
             ("--bogus no.rom none.rom", b"unknown option '--bogus'"),
             ("no.rom none.rom", b"no.rom: No such file"),
             ("image.rom none.rom", b"none.rom: No such file"),

@@ -7,6 +7,7 @@ import subprocess
 import tty
 import unittest
 
+from tests.image import Area, Component, FreeEntry, Image, join
 from tests.programs import ProgramTest, program, words_of
 from tests.samples import Sample
 
@@ -107,14 +108,52 @@ AREAS = (
     "VBLOCK_A, FW_MAIN_A, RW_FWID_A, RO, FMAP, GBB, COREBOOT\n"
 )
 
+COMPONENTS = (
+    "cbfstool: its components are: t/raw, t/spd, t/cmos_default, t/cmos_layout, t/microcode, "
+    "t/bootsplash, t/mrc, t/mrc_cache, t/vsa, t/mbi, t/optionrom, t/bootblock, t/mma, t/efi, "
+    "t/struct, t/stage and 4 more\n"
+)
+
 # the arguments, the refusal, and the lines that name its subject, and what could have been meant
 SUBJECTS = [
     ("image.rom print -r coreboot", "no such region",
      "cbfstool: the flash map has no area 'coreboot'\n" + AREAS),
     (["image.rom", "print", "-r", "a\x07"], "no such region",
      "cbfstool: the flash map has no area 'a\\x07'\n" + AREAS),
+    ("image.rom print -r FW_MAIN_B", "no such region",
+     "cbfstool: the flash map has no area 'FW_MAIN_B'\n"
+     "cbfstool: its areas are: FW_MAIN_A, SI_ALL, SI_DESC, SI_ME, SI_BIOS, RW_MRC_CACHE, "
+     "RW_SECTION_A, VBLOCK_A, RW_FWID_A, RO, FMAP, GBB, COREBOOT\n"),
     ("image.rom remove -n absent", "no such component",
-     "cbfstool: the region 'COREBOOT' has no component 'absent'\n"),
+     "cbfstool: the region 'COREBOOT' has no component 'absent'\n" + COMPONENTS),
+    ("image.rom extract -n absent -f made", "no such component",
+     "cbfstool: the region 'COREBOOT' has no component 'absent'\n" + COMPONENTS),
+    # (the last of 20 components is near)
+    ("image.rom extract -n t/fps -f made", "no such component",
+     "cbfstool: the region 'COREBOOT' has no component 't/fps'\n"
+     + COMPONENTS.replace("are: ", "are: t/fsp, ").replace(", t/stage and", " and")),
+    # (two names are near)
+    ("image.rom remove -n t/mba", "no such component",
+     "cbfstool: the region 'COREBOOT' has no component 't/mba'\n"
+     + COMPONENTS.replace(", t/mbi", "").replace(", t/mma", "").replace("are: ",
+                                                                       "are: t/mbi, t/mma, ")),
+    # (the larger one of two places with room: in a free cell, and at the end of the region)
+    ("image.rom add -n a -t raw -f large", "no space",
+     "cbfstool: the content has 40865 bytes, and the largest that fits is 40864 bytes\n"),
+    ("image.rom add -n a -t raw -A sha256 -f large", "no space",
+     "cbfstool: the content has 40865 bytes, and the largest that fits is 40820 bytes\n"),
+    ("image.rom add -n name -t raw -A sha512 -f large", "no space",
+     "cbfstool: the content has 40865 bytes, and the largest that fits is 40784 bytes\n"),
+    ("image.rom add -n a -t raw -a 4096 -f large", "no space",
+     "cbfstool: the content has 40865 bytes, and the largest that fits is 38908 bytes\n"),
+    ("image.rom add -n a -t raw -b 0x4dc -f large", "no space",
+     "cbfstool: the content has 40865 bytes, and the largest that fits is 740 bytes\n"),
+    ("image.rom add -n a -t raw -b 0xa800 -f source", "no space",
+     "cbfstool: the content has 1 bytes, and the largest that fits is 0 bytes\n"),
+    ("image.rom add -n a -t raw -b 0x4db -f source", "no space",
+     "cbfstool: the content has 1 bytes, and not even an empty content fits\n"),
+    ("image.rom add -n a -t raw -b 0xa801 -f empty", "no space",
+     "cbfstool: the content has 0 bytes, and not even an empty content fits\n"),
     ("image.rom add -n t/raw -f source -t raw", "component exists",
      "cbfstool: the region 'COREBOOT' has a component 't/raw'\n"),
     ("absent.rom print", "device fault",
@@ -181,13 +220,34 @@ class Explanations(ProgramTest):
                        output=Sample("types").listing, environment=environment)
 
     def test_subjects(self):
-        files = {"image.rom": IMAGE, "source": b"x", "folder/file": b""}
+        files = {"image.rom": IMAGE, "source": b"x", "folder/file": b"", "empty": b"",
+                 "large": bytes(40865)}
         for arguments, refusal, line in SUBJECTS:
             message = f"cbfstool: {refusal}\n"
+            # (a refused extraction leaves an empty file)
+            left = {"made": b""} if "extract" in arguments else {}
             with self.subTest(arguments):
-                self.check(self.words(arguments), files, 1, message=message + line,
+                self.check(self.words(arguments), files, 1, message=message + line, left=left,
                            environment={"CBFSTOOL_EXPLAIN": "1"})
-                self.check(self.words(arguments), files, 1, message=message)
+                self.check(self.words(arguments), files, 1, message=message, left=left)
+
+    def test_no_component(self):
+        """A region without a component has no line of components."""
+        areas = [Area("FMAP", 0, 0x200), Area("COREBOOT", 0x1000, 0x1000)]
+        image = Image(0x2000, areas).put("COREBOOT", FreeEntry(0x1000, keeps=b"last").bytes)
+        self.check("cbfstool image.rom remove -n a", {"image.rom": image.data()}, 1,
+                   message="cbfstool: no such component\n"
+                   "cbfstool: the region 'COREBOOT' has no component 'a'\n",
+                   environment={"CBFSTOOL_EXPLAIN": "1"})
+
+    def test_components_of_another_region(self):
+        areas = [Area("FMAP", 0, 0x200), Area("COREBOOT", 0x1000, 0x1000), Area("A", 0x2000, 128)]
+        image = Image(0x3000, areas).put("A", join(Component(b"one", b"1"), Component(b"b b", b"2")))
+        self.check("cbfstool image.rom remove -r A -n a", {"image.rom": image.data()}, 1,
+                   message="cbfstool: no such component\n"
+                   "cbfstool: the region 'A' has no component 'a'\n"
+                   "cbfstool: its components are: one, b\\x20b\n",
+                   environment={"CBFSTOOL_EXPLAIN": "1"})
 
     def test_areas_of_a_given_map(self):
         # `create` has filled the image when it finds no area
@@ -228,7 +288,11 @@ class Terminals(ProgramTest):
     def test_other_refusals(self):
         self.assertEqual(self.on_terminal(["image.rom", "remove", "-n", "absent"]),
                          (1, b"", "cbfstool: no such component\n"
-                                  "cbfstool: the region 'COREBOOT' has no component 'absent'\n"))
+                                  "cbfstool: the region 'COREBOOT' has no component 'absent'\n"
+                                  + COMPONENTS))
+        self.assertEqual(self.on_terminal("image.rom add -n a -t raw -b 0 -f image.rom".split()),
+                         (1, b"", "cbfstool: no space\ncbfstool: the content has 65536 bytes, "
+                                  "and not even an empty content fits\n"))
 
 
 if __name__ == "__main__":

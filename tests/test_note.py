@@ -1,6 +1,6 @@
-"""The note of cbfstool on an outdated anchor of CBFS verification.
+"""The notes of cbfstool on an image that it has changed.
 
-The note is one line on standard error after a successful `add`, `remove` or `write`. It changes
+A note is one line on standard error after a successful `add`, `remove` or `write`. It changes
 neither the status nor standard output nor the image. Expected images come from the builder.
 """
 
@@ -22,6 +22,10 @@ COREBOOT = Area("COREBOOT", 0x1000, 0x1000)
 BOOT_AREA = Area("BOOTBLOCK", 0x2000, 0x1000)
 AREAS = (FMAP, CONFIG, COREBOOT, BOOT_AREA)
 NOTE = "cbfstool: note: the bootblock's metadata hash is outdated: run cbfsseal %s\n"
+HOLDS = "cbfstool: note: the region holds the flash map\n"
+CONTAINS = "cbfstool: note: the region contains other areas of the flash map\n"
+ANOTHER = "cbfstool: note: the image has another flash map now, at %#x\n"
+NO_MAP = "cbfstool: note: the image has no flash map now\n"
 LISTING = "a\t0x0\traw\t7\tnone\n(empty)\t0x40\tnull\t4000\tnone\n"
 
 OLD = Component(b"a", b"content")
@@ -62,15 +66,16 @@ def full_pipe():
 class Note(ProgramTest):
     programs = ("cbfstool", "fmaptool", "cbfsseal")
 
-    def notes(self, command, before, after, path="image.rom", **files):
-        """Checks that the command succeeds with the note, and leaves this image."""
-        self.check(command, {path: before.data(), **files}, 0, "", NOTE % path,
+    def notes(self, command, before, after, path="image.rom", others="", **files):
+        """Checks that the command succeeds with the note on the anchor, after the given others, and
+        leaves this image."""
+        self.check(command, {path: before.data(), **files}, 0, "", others + NOTE % path,
                    {path: after.data()})
 
-    def is_silent(self, command, before, after=None, output="", left=(), **files):
-        """Checks that the command succeeds without a note."""
+    def is_silent(self, command, before, after=None, output="", left=(), others="", **files):
+        """Checks that the command succeeds without the note on the anchor."""
         changed = {"image.rom": (after or before).data(), **dict(left)}
-        self.check(command, {"image.rom": before.data(), **files}, 0, output, "", changed)
+        self.check(command, {"image.rom": before.data(), **files}, 0, output, others, changed)
 
 
 class Outdated(Note):
@@ -180,12 +185,14 @@ class StandingMap(Note):
     def test_an_added_map_below_the_map(self):
         """A later search finds the added map, but the firmware reads the other."""
         nested = Component(b"b", FOREIGN)
+        # (behind a component of one cell and a header of 28 bytes)
+        hides = ANOTHER % (0x1000 + 0x40 + 28)
         right = late_sealed(OLD)
         self.notes(ADD, late_image(OLD, start=right), late_image(OLD, nested, start=right),
-                   new=FOREIGN)
+                   others=hides, new=FOREIGN)
         right = late_sealed(OLD, nested)
         self.is_silent(ADD, late_image(OLD, start=right), late_image(OLD, nested, start=right),
-                       new=FOREIGN)
+                       others=hides, new=FOREIGN)
 
     def test_a_write_over_the_map(self):
         """Another head at the place of the map: the lowest map of the image counts."""
@@ -201,10 +208,11 @@ class StandingMap(Note):
                 before = start.put_at(0x2000, wrong)
                 after = Image(SIZE, list(areas), name=b"OTHER").put("COREBOOT", region(OLD))
                 after.put_at(map_at, content).put_at(0x2000, wrong)
-                self.notes(write, before, after, new=content)
+                others = HOLDS + ANOTHER % map_at
+                self.notes(write, before, after, others=others, new=content)
                 before.put_at(0x2000, right)
                 after.put_at(0x2000, right)
-                self.is_silent(write, before, after, new=content)
+                self.is_silent(write, before, after, others=others, new=content)
 
     def test_a_write_of_a_map_at_another_offset(self):
         """The map moves inside its area, so that no head is at the earlier offset."""
@@ -215,14 +223,16 @@ class StandingMap(Note):
             with self.subTest(told):
                 before = late_image(OLD, start=start)
                 after = late_image(OLD, start=start).put_at(LATE_AT, content)
-                (self.notes if told else self.is_silent)(write, before, after, new=content)
+                (self.notes if told else self.is_silent)(
+                    write, before, after, others=HOLDS + ANOTHER % (LATE_AT + 0x100), new=content)
 
     def test_a_write_that_removes_the_map(self):
         write = "cbfstool image.rom write -r FMAP -f new"
         content = b"\xff" * 0x1000
         start = late_sealed(NEW)
         self.is_silent(write, late_image(OLD, start=start),
-                       late_image(OLD, start=start).put_at(LATE_AT, content), new=content)
+                       late_image(OLD, start=start).put_at(LATE_AT, content),
+                       others=HOLDS + NO_MAP, new=content)
 
     def test_a_write_of_other_areas_below_the_same_head(self):
         """The head stands, so the areas are read anew: BOOTBLOCK is elsewhere."""
@@ -235,7 +245,132 @@ class StandingMap(Note):
             with self.subTest(told):
                 before = late_image(OLD).put_at(0x2800, anchored)
                 after = late_image(OLD).put_at(0x2800, anchored).put_at(LATE_AT, content)
-                (self.notes if told else self.is_silent)(write, before, after, new=content)
+                (self.notes if told else self.is_silent)(write, before, after, others=HOLDS,
+                                                         new=content)
+
+
+class WrittenRegions(Note):
+    """The notes on the region that `write` replaces."""
+
+    def writes(self, name, note, areas, content=None, size=SIZE, map_at=None):
+        """Checks the note after the bytes of an area, or a content, are written to the area."""
+        before = Image(size, areas, map_at) if map_at else Image(size, areas)
+        data = before.data()
+        area = next(area for area in areas if area.name == name.encode())
+        end = area.offset + area.size
+        content = data[area.offset : end] if content is None else content
+        self.check(f"cbfstool image.rom write -r {name} -f new",
+                   {"image.rom": data, "new": content}, 0, "", note,
+                   {"image.rom": data[: area.offset] + content + data[end:]})
+
+    def test_a_region_at_the_map(self):
+        """The table of n areas at 0x100 ends at 0x100 + 56 + 42 n."""
+        end = 0x100 + 56 + 42 * 3
+        for offset, size, note in [
+            (0x100, 0x100, HOLDS),
+            (0xF0, 0x10, ""),
+            (0xF0, 0x11, HOLDS),
+            (end, 0x10, ""),
+            (end - 1, 1, HOLDS),
+            (0x110, 1, HOLDS),
+            (0x110, 0, ""),
+            (0x100, 0, ""),
+        ]:
+            with self.subTest(hex(offset), size=size):
+                self.writes("A", note, [Area("FMAP", 0x400, 0x100), COREBOOT,
+                                        Area("A", offset, size)], map_at=0x100)
+
+    def test_a_region_with_the_map_and_other_areas(self):
+        """There is no second note on the region."""
+        areas = [Area("FMAP", 0x100, 0x200), Area("ALL", 0, SIZE), COREBOOT]
+        self.writes("ALL", HOLDS, areas, map_at=0x100)
+
+    def test_a_region_with_other_areas(self):
+        for offset, size, note in [
+            (0x1400, 0x400, CONTAINS),
+            (0x1000, 0x1000, CONTAINS),
+            (0x1000, 1, CONTAINS),
+            (0x1FFF, 1, CONTAINS),
+            (0x1400, 0, ""),
+            (0xFFF, 2, ""),
+            (0xFFF, 0x1001, ""),
+            (0x1FFF, 2, ""),
+            (0x1000, 0x1001, ""),
+            (0x2000, 0x10, ""),
+        ]:
+            with self.subTest(hex(offset), size=size):
+                self.writes("OUTER", note, [FMAP, Area("INNER", offset, size),
+                                            Area("OUTER", 0x1000, 0x1000)])
+
+    def test_a_region_beside_the_others(self):
+        self.writes("CONFIG", "", list(AREAS))
+        self.writes("COREBOOT", "", list(AREAS), content=region(OLD))
+
+    def test_a_second_area_of_the_name(self):
+        self.writes("COREBOOT", "", [FMAP, COREBOOT, Area("COREBOOT", 0x1400, 0x100)])
+
+    def test_another_command_in_a_region_with_other_areas(self):
+        areas = [FMAP, COREBOOT, Area("INNER", 0x1800, 0x100)]
+        before, after = image(OLD, areas=areas), image(OLD, NEW, areas=areas)
+        self.is_silent(ADD, before, after, new=b"abc")
+        self.is_silent("cbfstool image.rom remove -n b", after, before)
+
+    def test_a_refused_write(self):
+        data = image(OLD).data()
+        self.refuses(1, "source size differs from the region",
+                     "cbfstool image.rom write -r FMAP -f new", {"image.rom": data, "new": b"x"})
+
+
+class OtherMaps(Note):
+    """The note on the flash map that the next command finds."""
+
+    def test_an_addition_of_a_map(self):
+        """Below the image's map it hides that map, and above it does not."""
+        nested = Component(b"b", FOREIGN)
+        self.is_silent(ADD, late_image(), late_image(nested), others=ANOTHER % (0x1000 + 28),
+                       new=FOREIGN)
+        self.is_silent(ADD, image(), image(nested), new=FOREIGN)
+
+    def test_an_addition_of_no_valid_map(self):
+        """The major version is 2, or the signature is not complete."""
+        for wrong in (FOREIGN[:8] + b"\2" + FOREIGN[9:], FOREIGN[1:]):
+            with self.subTest(wrong[:9]):
+                self.is_silent(ADD, late_image(), late_image(Component(b"b", wrong)), new=wrong)
+
+    def test_a_removal_of_a_map(self):
+        """The removal by the hidden map's rival, which has the region too, leaves the other map."""
+        areas = [Area("FMAP", 0x3000, 0x1000), CONFIG, COREBOOT]
+        rival = flash_map(SIZE, areas)
+        before = Image(SIZE, areas, 0x3000)
+        before.put("COREBOOT", region(Component(b"a", rival)))
+        after = Image(SIZE, areas, 0x3000).put("COREBOOT", region())
+        run = self.folder({"image.rom": before.data()}).run(REMOVE)
+        self.assertEqual((run.status, run.output, run.message.decode()),
+                         (0, b"", ANOTHER % 0x3000))
+        # (the removed content is erased)
+        self.assertEqual(run.after["image.rom"], after.data())
+
+    def test_a_write_of_the_same_map(self):
+        before = image(OLD)
+        self.is_silent("cbfstool image.rom write -r FMAP -f new", before, others=HOLDS,
+                       new=before.data()[:0x200])
+
+    def test_a_write_of_a_map_elsewhere(self):
+        """A map below the image's own one becomes the first, and a map above does not."""
+        content = FOREIGN.ljust(0x1000, b"\xff")
+        write = "cbfstool image.rom write -r COREBOOT -f new"
+        self.is_silent(write, late_image(), late_image().put_at(0x1000, content),
+                       others=ANOTHER % 0x1000, new=content)
+        self.is_silent(write, image(), image().put_at(0x1000, content), new=content)
+
+    def test_the_notes_are_in_order(self):
+        """All three notes of a write over the map, under another head."""
+        right = late_sealed(OLD)
+        before = late_image(OLD, start=right)
+        renamed = flash_map(SIZE, LATE_AREAS, name=b"OTHER").ljust(0x1000, b"\xff")
+        self.notes("cbfstool image.rom write -r FMAP -f new", before,
+                   late_image(OLD, start=right).put_at(LATE_AT, renamed),
+                   others=HOLDS + ANOTHER % LATE_AT, new=renamed)
 
 
 class NotOutdated(Note):

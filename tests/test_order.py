@@ -343,7 +343,7 @@ class CheckArguments(ProgramTest):
             with self.subTest(title):
                 self.refuses(2, error, f"cbfscheck {words}", {"image.rom": b"no map"})
 
-    VERSION = "cbfscheck 3.0\n"
+    VERSION = "cbfscheck 3.1\n"
 
     def test_help_and_version(self):
         self.check("cbfscheck --none --version --help", output=self.VERSION)

@@ -161,15 +161,28 @@ MUTANTS = [
     ),
     Mutant(
         "the note does not name the image", CBFSTOOL,
-        "let image = line.image();", 'let image = "IMAGE";',
+        "print_notes(rt, line.image(), notes);", 'print_notes(rt, "IMAGE", notes);',
         "In the log of a build with several images, the user seals the wrong one.",
         "test_note.Outdated.test_the_path_is_the_argument",
     ),
     Mutant(
         "the note follows a refusal too", CBFSTOOL,
-        "session.is_note_due(answer);", "session.is_note_due(Ok(()));",
+        "session.notes(answer);", "session.notes(Ok(()));",
         "A refused command seems to have changed the image.",
         "test_note.NotOutdated.test_after_a_refused_command",
+    ),
+    Mutant(
+        "a hidden flash map gets no note", CBFSTOOL,
+        "        print_map_note(rt, note);\n", "        let _untold = note;\n",
+        "The next command changes a region of another map, and nobody is told.",
+        "test_note.OtherMaps.test_an_addition_of_a_map",
+    ),
+    Mutant(
+        "a region with the flash map has the note on other areas", CBFSTOOL,
+        '"cbfstool: note: the region holds the flash map"',
+        '"cbfstool: note: the region contains other areas of the flash map"',
+        "The user looks for an overwritten area, and has lost the map.",
+        "test_note.WrittenRegions.test_a_region_at_the_map",
     ),
     Mutant(
         "the note is printed under the lock", CBFSTOOL,

@@ -13,7 +13,7 @@ use Rattle.board_structures.specs.ResetVectors.{reset_vector_in}
 use Rattle.board_findings.specs.declared.components.Placed.{Placed}
 use Rattle.board_findings.specs.declared.finding.BoardFinding.{BoardFinding}
 use Rattle.board_findings.specs.declared.finding.BoardFinding.TheVariants as found
-use Rattle.board_findings.specs.Components.{components_in, findings_of, is_bootblock_to, is_header, range_named}
+use Rattle.board_findings.specs.Components.{components_in, is_bootblock_to, is_header, range_named}
 use Rattle.board_findings.specs.BoardFindings.{Board, board_range, firmware_table_part, master_header_part, reset_vector_part, table_findings}
 
 abbrev pub is_x86 : Board → Range → Bool → Bool
@@ -32,12 +32,12 @@ header_if b r ends header = option_map_or (λ c. found.MasterHeader (record {
 }) ∷ []) header []
 
 pub gains_all : {E : Type 0} (b : Board) (r : Range) (n : ℕ) (components : List Placed) (ends : Bool) (header : Option Placed) (first mid next last : Vec BoardFinding) (result : Result (Unit {0}) E)
-    → n ≡ length b.image → Some r ≡ range_named n b.areas (codes "COREBOOT") → components ≡ components_in r.size (findings_of (codes "COREBOOT") b.findings) → ends ≡ list_any (is_bootblock_to r.size) components → header ≡ find is_header components
+    → n ≡ length b.image → Some r ≡ range_named n b.areas (codes "COREBOOT") → components ≡ components_in b.image r → ends ≡ list_any (is_bootblock_to r.size) components → header ≡ find is_header components
     → mid.items ≡ first.items ++ vector_if b r ends → next.items ≡ mid.items ++ table_if b r ends → Gains next last result (header_if b r ends header) → Gains first last result (reset_vector_part b ++ firmware_table_part b ++ master_header_part b)
 gains_all b r n components ends header first mid next last (Err fault) len is all end_is first_is had table more = tt
 gains_all b r n components ends header first mid next last (Ok done) len is all end_is first_is had table more =
     let here : board_range b (codes "COREBOOT") ≡ Some r = sym (subst (λ k. Some r ≡ range_named k b.areas (codes "COREBOOT")) len is) in
-    let known = components_in r.size (findings_of (codes "COREBOOT") b.findings) in
+    let known = components_in b.image r in
     let ends_known : ends ≡ list_any (is_bootblock_to r.size) known = end_is ∙ ap (λ l. list_any (is_bootblock_to r.size) l) all in
     let header_known : header ≡ find is_header known = first_is ∙ ap (λ l. find is_header l) all in
     let two : next.items ≡ first.items ++ (vector_if b r ends ++ table_if b r ends) = table ∙ ap (λ l. l ++ table_if b r ends) had ∙ append_assoc first.items (vector_if b r ends) (table_if b r ends) in

@@ -1,4 +1,5 @@
 pub mod SoundParts
+pub mod PlacedComponents
 pub mod CorebootParts
 pub mod BoardParts
 pub mod Differences

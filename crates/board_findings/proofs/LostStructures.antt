@@ -1,9 +1,9 @@
 -- Structures that an update loses.
-use Rattle.std.proofs.Common.{◌≡◌, ◌≢◌, ◌∙◌, ℕ, ◌<◌, ◌≤◌, Bool, true, false, ◌&&◌, List, [], ◌∷◌, ◌++◌, Some, None, zero, suc, ap, arith, length, lit<, refl, subst}
-use Rattle.std.specs.Prelude.{not, Contains, Any, filter, is_some, nat_lt, ◌↔◌}
+use Rattle.std.proofs.Common.{◌≡◌, ◌≢◌, ◌∙◌, ◌≤◌, Bool, true, false, ◌&&◌, List, [], ◌∷◌, zero, suc, ap, arith, lit<, refl, subst}
+use Rattle.std.specs.Prelude.{not, Contains, filter, is_some, nat_lt, ◌↔◌}
 use Rattle.std.specs.List.{list_any}
 use Rattle.std.proofs.lemmas.Bool.{ltb-false, le-ltb}
-use Rattle.std.proofs.lemmas.List.Elements.{All-contains, Contains-append_right, filter-append, filter_passes}
+use Rattle.std.proofs.lemmas.List.Elements.{All-contains, filter_passes}
 use Rattle.std.proofs.lemmas.List.Folds.{Any-from_list_any, list_any-from_Any}
 use Rattle.board_structures.specs.Descriptors.{base_of, limit_of, range_of}
 use Rattle.board_structures.specs.declared.descriptor.Descriptor.{Descriptor}

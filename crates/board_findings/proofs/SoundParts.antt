@@ -1,7 +1,7 @@
 -- Parts of findings without a bad one.
-use Rattle.std.proofs.Common.{◌≡◌, ◌∙◌, ◌⊎◌, inl, inr, ℕ, ◌+◌, Bool, true, false, ◌||◌, ◌&&◌, List, [], ◌∷◌, ◌++◌, Option, Some, None, refl, sym, ap, length}
+use Rattle.std.proofs.Common.{◌≡◌, ◌∙◌, ◌⊎◌, inl, inr, ℕ, ◌+◌, Bool, true, false, ◌||◌, ◌&&◌, List, [], ◌∷◌, ◌++◌, Option, Some, None, refl, sym, length}
 use Rattle.std.specs.Prelude.{◌==◌, if◌then◌else◌}
-use Rattle.std.specs.List.{find, flat_map, list_any}
+use Rattle.std.specs.List.{find, list_any}
 use Rattle.std.specs.Option.{option_map, option_map_or, option_to_list}
 use Rattle.std.proofs.lemmas.Bool.{eq-eqb}
 use lib.Chars.{codes}
@@ -11,7 +11,6 @@ use Rattle.check_findings.specs.Lists.{only_if}
 use Rattle.check_findings.specs.declared.areas.NumberedArea.{NumberedArea}
 use Rattle.board_structures.specs.Descriptors as descriptors
 use Rattle.board_structures.specs.Descriptors.{descriptor_in, difference_in}
-use Rattle.board_structures.specs.FirmwareTables as firmware
 use Rattle.board_structures.specs.FirmwareTables.{firmware_table_in, table_place}
 use Rattle.board_structures.specs.Laws.{IsUsableTable}
 use Rattle.board_structures.specs.declared.firmware_table.FirmwareTable.{FirmwareTable}
@@ -36,9 +35,9 @@ use Rattle.board_structures.specs.declared.master_header.MasterHeader.{MasterHea
 use Rattle.board_structures.specs.declared.master_header.MasterHeader.TheVariants as states
 use Rattle.board_findings.specs.declared.finding.BoardFinding.{BoardFinding}
 use Rattle.board_findings.specs.declared.finding.BoardFinding.TheVariants as found
-use Rattle.board_findings.specs.BoardFindings.{Board, areas_in, board_findings, board_range, components_of, differences, differences_of, ends_with_bootblock, in_area, in_coreboot}
+use Rattle.board_findings.specs.BoardFindings.{Board, areas_in, board_findings, board_range, differences, differences_of, ends_with_bootblock, in_area, in_coreboot}
 use Rattle.board_findings.specs.BoardFindings.{block_name, slot_body}
-use Rattle.board_findings.specs.Components.{is_header}
+use Rattle.board_findings.specs.Components.{components_in, is_header}
 use Rattle.board_findings.specs.declared.components.Placed.{Placed}
 use Rattle.board_findings.specs.declared.finding.Slot.{Slot}
 use Rattle.board_findings.specs.BoardFindings.{descriptor_part, ends_as_x86, firmware_table_part, gbb_part, master_header_part, partition_table_part, reset_vector_part, slot_part, table_findings}
@@ -199,7 +198,7 @@ header_of b r c = found.MasterHeader (record {
 header_there : (b : Board) (r : Range) (c : Placed) (o : Option Placed) → o ≡ Some c → AreFine (option_map_or (λ c. header_of b r c ∷ []) o []) → is_bad (header_of b r c) ≡ false
 header_there b r c o is are = (first_fine (header_of b r c) [] (rw is at are)).0
 
-pub header_fine : (b : Board) (r : Range) (c : Placed) → board_range b (codes "COREBOOT") ≡ Some r → ends_with_bootblock b r ≡ true → find is_header (components_of b (codes "COREBOOT") r) ≡ Some c → AreFine (master_header_part b) → master_header_in r.start c.start (bytes_in r b.image) ≡ states.Sound
+pub header_fine : (b : Board) (r : Range) (c : Placed) → board_range b (codes "COREBOOT") ≡ Some r → ends_with_bootblock b r ≡ true → find is_header (components_in b.image r) ≡ Some c → AreFine (master_header_part b) → master_header_in r.start c.start (bytes_in r b.image) ≡ states.Sound
 header_fine b r c is ends there are =
     header_sound (ends_with_bootblock b r) (master_header_in r.start c.start (bytes_in r b.image)) ends
-    (header_there b r c (find is_header (components_of b (codes "COREBOOT") r)) there (coreboot_fine b (λ r. option_map_or (λ c. header_of b r c ∷ []) (find is_header (components_of b (codes "COREBOOT") r)) []) r is are))
+    (header_there b r c (find is_header (components_in b.image r)) there (coreboot_fine b (λ r. option_map_or (λ c. header_of b r c ∷ []) (find is_header (components_in b.image r)) []) r is are))

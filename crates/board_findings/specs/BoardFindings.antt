@@ -8,7 +8,6 @@ use Rattle.flash_device.specs.Regions.{Range, bytes_in}
 use Rattle.flash_format.specs.declared.flashmap.Area.{Area}
 use Rattle.check_findings.specs.Lists.{only_if}
 use Rattle.check_findings.specs.declared.areas.NumberedArea.{NumberedArea}
-use Rattle.check_findings.specs.declared.image.finding.ImageFinding.{ImageFinding}
 use Rattle.board_structures.specs.Descriptors.{descriptor_in, difference_in}
 use Rattle.board_structures.specs.FirmwareTables.{firmware_table_in, table_reads}
 use Rattle.board_structures.specs.GoogleBinaryBlocks.{gbb_in}
@@ -24,18 +23,16 @@ use Rattle.board_structures.specs.declared.descriptor.RegionTable.{RegionTable}
 use Rattle.board_structures.specs.declared.firmware_table.FirmwareTable.{FirmwareTable}
 use Rattle.board_structures.specs.declared.firmware_table.FirmwareTable.TheVariants as tables
 use Rattle.board_structures.specs.declared.signed_slot.SlotBody.{SlotBody}
-use Rattle.board_findings.specs.declared.components.Placed.{Placed}
 use Rattle.board_findings.specs.declared.finding.BoardFinding.{BoardFinding}
 use Rattle.board_findings.specs.declared.finding.BoardFinding.TheVariants as found
 use Rattle.board_findings.specs.declared.finding.Slot.{Slot}
 use Rattle.board_findings.specs.declared.finding.Slot.TheVariants as slots
-use Rattle.board_findings.specs.Components.{components_in, findings_of, is_bootblock_to, is_header, last_end, range_named}
+use Rattle.board_findings.specs.Components.{components_in, is_bootblock_to, is_header, last_end, range_named}
 
--- an image, the areas of its flash map, and the findings of its check
+-- an image, and the areas of its flash map
 pub record Board : Type 0 where
   pub image : List ℕ
   pub areas : List NumberedArea
-  pub findings : List ImageFinding
 
 -- ---- areas of the board
 
@@ -46,10 +43,6 @@ board_range b name = range_named (length b.image) b.areas name
 -- the findings from the bytes of the area with this name; without the area there are none
 abbrev pub in_area : Board → List ℕ → (List ℕ → List BoardFinding) → List BoardFinding
 in_area b name part = option_map_or (λ r. part (bytes_in r b.image)) (board_range b name) []
-
--- the components of the area with this name, which has this range
-abbrev pub components_of : Board → List ℕ → Range → List Placed
-components_of b name r = components_in r.size (findings_of name b.findings)
 
 -- ---- the files of Intel
 
@@ -89,8 +82,7 @@ in_coreboot b part = option_map_or part (board_range b (codes "COREBOOT")) []
 
 -- a bootblock ends with the area COREBOOT, which has this range
 abbrev pub ends_with_bootblock : Board → Range → Bool
-ends_with_bootblock b r =
-    list_any (is_bootblock_to r.size) (components_of b (codes "COREBOOT") r)
+ends_with_bootblock b r = list_any (is_bootblock_to r.size) (components_in b.image r)
 
 -- a bootblock of x86: it ends with COREBOOT, which has this range, and with the image
 abbrev pub ends_as_x86 : Board → Range → Bool
@@ -116,7 +108,7 @@ abbrev pub master_header_part : Board → List BoardFinding
 master_header_part b = in_coreboot b (λ r. option_map_or (λ c. found.MasterHeader (record {
   state = master_header_in r.start c.start (bytes_in r b.image);
   ends_with_bootblock = ends_with_bootblock b r;
-}) ∷ []) (find is_header (components_of b (codes "COREBOOT") r)) [])
+}) ∷ []) (find is_header (components_in b.image r)) [])
 
 -- ---- vboot
 
@@ -135,7 +127,7 @@ body_name slots.B = codes "FW_MAIN_B"
 -- without its area, the body has no bytes
 abbrev pub slot_body : Board → Slot → SlotBody
 slot_body b slot = option_map_or
-    (λ r. record { end = last_end (components_of b (body_name slot) r); size = r.size })
+    (λ r. record { end = last_end (components_in b.image r); size = r.size })
     (board_range b (body_name slot)) (record { end = 0; size = 0 })
 
 abbrev pub slot_part : Slot → Board → List BoardFinding
@@ -159,4 +151,4 @@ board_findings b = descriptor_part b
 
 -- the largest number of reads of a check of n bytes
 abbrev pub board_reads : ℕ → ℕ
-board_reads n = table_reads n + 7 * (n / 4096) + 27
+board_reads n = table_reads n + 3 * (n / 60) + 7 * (n / 4096) + 30

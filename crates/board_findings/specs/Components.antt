@@ -1,19 +1,18 @@
 -- Areas of an image by name, and the components of a CBFS area.
-use Rattle.std.specs.Prelude.{ℕ, ◌+◌, Bool, ◌&&◌, List, [], ◌∷◌, Option, Some, None, nat_le, nat_lt, ◌==◌, if◌then◌else◌}
-use Rattle.std.specs.List.{find, flat_map, fold}
-use Rattle.std.specs.Option.{option_and_then}
-use Rattle.flash_device.specs.Regions.{Range}
-use Rattle.flash_format.specs.Flashmap.{is_area}
-use Rattle.flash_format.specs.Head.{round64}
+use Rattle.std.specs.Prelude.{ℕ, ◌+◌, Bool, ◌&&◌, List, [], Option, Some, None, map, nat_le, not, ◌==◌, if◌then◌else◌}
+use Rattle.std.specs.List.{find, fold}
+use Rattle.std.specs.Option.{option_and_then, option_map_or}
+use Rattle.flash_device.specs.Regions.{Range, bytes_in}
+use Rattle.flash_format.specs.Components.{Component, components}
+use Rattle.flash_format.specs.Head.{head_of, is_free, round64}
 use Rattle.cbfs_anchor.specs.Metadata.{bootblock_type, header_type}
+use Rattle.cbfs_walk.specs.Shapes.{shape_fault}
+use Rattle.cbfs_walk.specs.declared.cell.Cell.{Cell}
 use Rattle.check_findings.specs.Areas.{area_end, has_name}
 use Rattle.check_findings.specs.ImageFindings.{range_of}
 use Rattle.check_findings.specs.Lists.{only_if}
+use Rattle.check_findings.specs.RegionFindings.{entry_range}
 use Rattle.check_findings.specs.declared.areas.NumberedArea.{NumberedArea}
-use Rattle.check_findings.specs.declared.image.finding.ImageFinding.{ImageFinding}
-use Rattle.check_findings.specs.declared.image.finding.ImageFinding.TheVariants.{Region}
-use Rattle.check_findings.specs.declared.region.finding.RegionFinding.{RegionFinding}
-use Rattle.check_findings.specs.declared.region.finding.RegionFinding.TheVariants.{Component}
 use Rattle.board_findings.specs.declared.components.Placed.{Placed}
 
 -- ---- areas
@@ -28,21 +27,23 @@ range_named n areas name = option_and_then (range_inside n) (find (has_name name
 
 -- ---- components
 
--- the findings of the first checked area with this name
-abbrev pub findings_of : List ℕ → List ImageFinding → List RegionFinding
-findings_of name [] = []
-findings_of name (Region a anchor all ∷ findings) =
-    if is_area name a.area then all else findings_of name findings
-findings_of name (_ ∷ findings) = findings_of name findings
+-- a component by its type and the range of its content
+abbrev pub placed : Component → Placed
+placed c = let head = head_of c.bytes in
+    record { kind = head.kind; start = c.at + head.offset; len = head.len }
 
--- a component whose content begins in an area of this size
-abbrev pub placed_in : ℕ → RegionFinding → List Placed
-placed_in size (Component at name shadowed c) =
-    only_if (nat_lt c.start size) (record { kind = c.kind; start = c.start; len = c.len })
-placed_in size _ = []
+-- the component of a cell; none of free space
+abbrev pub cell_placed : Cell → List Placed
+cell_placed c = only_if (not (is_free c.head))
+    (record { kind = c.head.kind; start = c.at + c.head.offset; len = c.head.len })
 
-abbrev pub components_in : ℕ → List RegionFinding → List Placed
-components_in size findings = flat_map (placed_in size) findings
+-- the components of a region up to a damage; none without a valid shape
+unfoldable pub placed_in : List ℕ → List Placed
+placed_in x = option_map_or (λ fault. []) (shape_fault x) (map placed (components x))
+
+-- of the area with this range; its entries end at the last multiple of 64 bytes
+abbrev pub components_in : List ℕ → Range → List Placed
+components_in image r = placed_in (bytes_in (entry_range r) image)
 
 -- a bootblock that ends at this offset
 abbrev pub is_bootblock_to : ℕ → Placed → Bool

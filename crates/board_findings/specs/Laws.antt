@@ -22,8 +22,8 @@ use Rattle.board_structures.specs.declared.descriptor.RegionTable.{RegionTable}
 use Rattle.board_structures.specs.declared.firmware_table.FirmwareTable.TheVariants as firmware
 use Rattle.board_findings.specs.declared.components.Placed.{Placed}
 use Rattle.board_findings.specs.declared.finding.Slot.{Slot}
-use Rattle.board_findings.specs.Components.{is_header}
-use Rattle.board_findings.specs.BoardFindings.{Board, areas_in, block_name, board_range, components_of}
+use Rattle.board_findings.specs.Components.{components_in, is_header}
+use Rattle.board_findings.specs.BoardFindings.{Board, areas_in, block_name, board_range}
 use Rattle.board_findings.specs.BoardFindings.{ends_with_bootblock, slot_body}
 
 -- P holds for the bytes of the area with this name, if the board has one
@@ -76,7 +76,7 @@ pub record HasSoundStructures (b : Board) : Type 0 where
       → HasUsableTable b.image
   pub master_header : (r : Range) (c : Placed) → board_range b (codes "COREBOOT") ≡ Some r
       → ends_with_bootblock b r ≡ true
-      → find is_header (components_of b (codes "COREBOOT") r) ≡ Some c
+      → find is_header (components_in b.image r) ≡ Some c
       → let x = bytes_in r b.image in
       IsHeaderOfArea r.start c.start (fields_of (slice_range x c.start (c.start + 32))) x
   pub gbb : InArea b (codes "GBB") (λ x. IsErased x ⊎ IsUsableBlock (header_of (take 128 x)) x)

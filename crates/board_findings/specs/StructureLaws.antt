@@ -1,5 +1,5 @@
 -- What it means that an update loses a structure.
-use Rattle.std.specs.Prelude.{◌≡◌, ◌≢◌, ◌≤◌, Contains, List, [], ◌∷◌}
+use Rattle.std.specs.Prelude.{◌≢◌, ◌≤◌, Contains, List, [], ◌∷◌}
 use Rattle.board_structures.specs.Descriptors.{base_of, limit_of}
 use Rattle.board_structures.specs.declared.descriptor.Descriptor.{Descriptor}
 use Rattle.board_structures.specs.declared.descriptor.Descriptor.TheVariants as descriptors

@@ -8,7 +8,7 @@ use crate::coreboot::push_coreboot;
 use crate::finding::{BoardFinding, Slot};
 use crate::intel::{push_descriptor, push_partition_table};
 use crate::vboot::{push_gbb, push_slot};
-use check_findings::{CheckFault, ImageFinding, NumberedArea};
+use check_findings::{CheckFault, NumberedArea};
 use flash_device::{Flash, Paged};
 use std::alloc::Global;
 
@@ -16,16 +16,14 @@ use std::alloc::Global;
 /// descriptor and the areas that aren't its regions, the partition table of the Management Engine,
 /// the reset vector, the master header, the Google Binary Block, and the slots A and B.
 ///
-/// `areas` are the areas of the flash map, and `checked` the findings of `check_image`, which have
-/// the components of COREBOOT and of the slots. A structure is looked for in the first area with
-/// its name, if this area lies inside the image.
+/// `areas` are the areas of the flash map. A structure is looked for in the first area with its
+/// name, if this area lies inside the image. No digest of a content is computed.
 ///
 /// Returns `Device` exactly if the device refused a read, and `Memory` if an allocation failed.
 pub fn check_board<F: Flash>(
     alloc: Global,
     paged: &mut Paged<F>,
     areas: &[NumberedArea],
-    checked: &[ImageFinding],
 ) -> Result<Vec<BoardFinding>, CheckFault>
     // On any device.
     ensures after { HasReadBy by_device (board_reads (length paged.old.device.content))
@@ -33,14 +31,14 @@ pub fn check_board<F: Flash>(
 
     // On an honest device.
     ensures found { OnHonest paged.old.device (λ image. Lists result
-        (board_findings (record { image = image; areas = areas.now; findings = checked.now }))) }
+        (board_findings (record { image = image; areas = areas.now }))) }
 {
     let mut findings = Vec::new(alloc);
     push_descriptor(paged, areas, &mut findings)?;
     push_partition_table(paged, areas, &mut findings)?;
-    push_coreboot(alloc, paged, areas, checked, &mut findings)?;
+    push_coreboot(alloc, paged, areas, &mut findings)?;
     push_gbb(paged, areas, &mut findings)?;
-    push_slot(alloc, paged, areas, checked, Slot::A, &mut findings)?;
-    push_slot(alloc, paged, areas, checked, Slot::B, &mut findings)?;
+    push_slot(alloc, paged, areas, Slot::A, &mut findings)?;
+    push_slot(alloc, paged, areas, Slot::B, &mut findings)?;
     Ok(findings)
 }

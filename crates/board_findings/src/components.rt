@@ -1,10 +1,17 @@
-//! Components of a CBFS area, from the findings of its check.
-ghost use Rattle.std.specs.Prelude.{◌≡◌, ◌+◌, ◌^◌, ◌<◌};
+//! Components of a CBFS area, by their types and the ranges of their contents.
+ghost use Rattle.std.specs.Prelude.{◌≡◌, ◌+◌, ◌/◌, ◌^◌, ◌<◌};
 ghost use Rattle.std.specs.List.{find, list_any};
-ghost use Rattle.flash_device.specs.Pages.{Lists};
-ghost use Rattle.board_findings.specs.Components.{components_in, entry_end, findings_of, is_bootblock_to, is_header, last_end};
+ghost use Rattle.flash_device.specs.Pages.{HasReadBy, Lists, OnHonest, OnHonestIn};
+ghost use Rattle.flash_device.specs.Regions.{LiesOn};
+ghost use Rattle.check_findings.specs.Faults.{by_device};
+ghost use Rattle.check_findings.specs.Lists.{Gains};
+ghost use Rattle.board_findings.specs.Components.{cell_placed, components_in, entry_end};
+ghost use Rattle.board_findings.specs.Components.{is_bootblock_to, is_header, last_end, placed_in};
 
-use check_findings::{ImageFinding, RegionFinding, push};
+use cbfs_walk::{Cell, Step, Walk, WalkFault};
+use check_findings::{CheckFault, entry_region, push_if};
+use flash_device::{Flash, Paged};
+use flash_map::Region;
 use std::alloc::{AllocError, Global};
 
 /// The type of a bootblock.
@@ -52,56 +59,60 @@ impl Placed {
     }
 }
 
-/// Returns the findings of the first checked area with this name.
-fn findings_of<'a>(findings: &'a [ImageFinding], name: &[u8]) -> &'a [RegionFinding]
-    ensures { result.now ≡ findings_of name.now findings.now }
+/// Appends the component of a cell. Free space has none.
+fn push_placed(components: &mut Vec<Placed>, cell: &Cell) -> Result<(), AllocError>
+    requires { cell.now.at + cell.now.head.offset < 2 ^ 32 }
+
+    ensures { Gains components.old components.new result (cell_placed cell.now) }
 {
-    for finding in findings {
-        if let ImageFinding::Region { area, findings, .. } = finding {
-            if area.area.name_is(name) {
-                return findings.as_slice();
-            }
-        }
-    }
-    &[]
+    let placed = Placed {
+        kind: cell.head.kind,
+        start: cell.at as u32 + cell.head.offset,
+        len: cell.head.len,
+    };
+    push_if(components, !cell.head.is_free(), placed)
 }
 
-/// Returns the components whose content begins in an area of this size.
-fn components_in(
+/// Returns the components of a region in order, up to a damage; none without a valid shape.
+fn placed_in<F: Flash>(
     alloc: Global,
-    findings: &[RegionFinding],
-    size: u64,
-) -> Result<Vec<Placed>, AllocError>
-    requires { size < 2 ^ 32 }
-    ensures { Lists result (components_in size findings.now) }
+    paged: &mut Paged<F>,
+    region: Region,
+) -> Result<Vec<Placed>, CheckFault>
+    requires { LiesOn region paged.old.device }
+
+    ensures calls { HasReadBy by_device (region.size / 60 + 1) paged.old paged.new result }
+    ensures found { OnHonestIn paged.old.device region (λ x. Lists result (placed_in x)) }
 {
     let mut components = Vec::new(alloc);
-    for finding in findings {
-        if let RegionFinding::Component { content, .. } = finding {
-            if content.start < size {
-                let placed = Placed {
-                    kind: content.kind,
-                    start: content.start as u32,
-                    len: content.len,
-                };
-                push(&mut components, placed)?;
-            }
+    let mut walk = Walk::new(region);
+    loop {
+        match walk.next(paged) {
+            Ok(Step::Cell(cell)) => push_placed(&mut components, &cell)?,
+            Ok(Step::Tail(_)) => return Ok(components),
+            Ok(Step::End) => return Ok(components),
+            Err(fault) => match fault {
+                WalkFault::Device => return Err(CheckFault::Device),
+                _ => return Ok(components),
+            },
         }
     }
-    Ok(components)
 }
 
-/// Returns the components of the first checked area with this name, which has this size.
-pub fn components_of(
+/// Returns the components of the area with this range, in order, up to a damage. Its entries end at
+/// the last multiple of 64 bytes. Returns `Device` exactly if a read failed, and `Memory` if an
+/// allocation failed.
+pub fn components_in<F: Flash>(
     alloc: Global,
-    findings: &[ImageFinding],
-    name: &[u8],
-    size: u64,
-) -> Result<Vec<Placed>, AllocError>
-    requires { size < 2 ^ 32 }
-    ensures { Lists result (components_in size (findings_of name.now findings.now)) }
+    paged: &mut Paged<F>,
+    region: Region,
+) -> Result<Vec<Placed>, CheckFault>
+    requires { LiesOn region paged.old.device }
+
+    ensures calls { HasReadBy by_device (region.size / 60 + 1) paged.old paged.new result }
+    ensures found { OnHonest paged.old.device (λ image. Lists result (components_in image region)) }
 {
-    components_in(alloc, findings_of(findings, name), size)
+    placed_in(alloc, paged, entry_region(region))
 }
 
 /// Returns whether a bootblock ends at this offset.

@@ -1,5 +1,5 @@
 //! The bootblock and the master header in COREBOOT, and what the processor reads before them.
-ghost use Rattle.std.specs.Prelude.{◌≡◌, ◌+◌, ◌^◌, ◌<◌, ◌∷◌, ◌++◌, ◌&&◌, [], length, ◌==◌, if◌then◌else◌};
+ghost use Rattle.std.specs.Prelude.{◌≡◌, ◌+◌, ◌/◌, ◌^◌, ◌<◌, ◌∷◌, ◌++◌, ◌&&◌, [], length, ◌==◌, if◌then◌else◌};
 ghost use Rattle.std.specs.Option.{option_map_or};
 ghost use Rattle.flash_device.specs.Pages.{HasReadBy, OnHonest};
 ghost use Rattle.flash_device.specs.Regions.{LiesOn, bytes_in};
@@ -12,10 +12,10 @@ ghost use Rattle.board_findings.specs.BoardFindings.{Board, firmware_table_part,
 ghost use Rattle.board_findings.specs.declared.finding.BoardFinding.TheVariants as found;
 
 use crate::area::region_named;
-use crate::components::{Placed, components_of, first_header, has_bootblock_to};
+use crate::components::{Placed, components_in, first_header, has_bootblock_to};
 use crate::finding::{BoardFinding, HeaderFinding};
 use board_structures::{FirmwareTable, read_firmware_table, read_master_header, read_reset_vector};
-use check_findings::{CheckFault, ImageFinding, NumberedArea};
+use check_findings::{CheckFault, NumberedArea};
 use flash_device::{Flash, Paged};
 use flash_map::Region;
 use std::alloc::Global;
@@ -100,20 +100,19 @@ pub fn push_coreboot<F: Flash>(
     alloc: Global,
     paged: &mut Paged<F>,
     areas: &[NumberedArea],
-    checked: &[ImageFinding],
     findings: &mut Vec<BoardFinding>,
 ) -> Result<(), CheckFault>
-    ensures after { HasReadBy by_device (table_reads (length paged.old.device.content) + 6)
-        paged.old paged.new result }
+    ensures after { HasReadBy by_device (table_reads (length paged.old.device.content)
+        + length paged.old.device.content / 60 + 7) paged.old paged.new result }
     ensures found { OnHonest paged.old.device (λ image.
-        let board : Board = record { image = image; areas = areas.now; findings = checked.now } in
+        let board : Board = record { image = image; areas = areas.now } in
         Gains findings.old findings.new result
         (reset_vector_part board ++ firmware_table_part board ++ master_header_part board)) }
 {
     let Some(region) = region_named(areas, b"COREBOOT", paged.len()) else {
         return Ok(());
     };
-    let components = components_of(alloc, checked, b"COREBOOT", region.size())?;
+    let components = components_in(alloc, paged, region)?;
     let is_end = has_bootblock_to(&components, region.size());
     let header = first_header(&components);
     let is_x86 = is_x86(region, paged.len(), is_end);

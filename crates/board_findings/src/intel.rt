@@ -82,7 +82,7 @@ pub fn push_descriptor<F: Flash>(
     ensures after { HasReadBy by_device (length paged.old.device.content / 4096 + 2)
         paged.old paged.new result }
     ensures found { OnHonest paged.old.device (λ image. Gains findings.old findings.new result
-        (descriptor_part (record { image = image; areas = areas.now; findings = [] }))) }
+        (descriptor_part (record { image = image; areas = areas.now }))) }
 {
     let Some(area) = region_named(areas, b"SI_DESC", paged.len()) else {
         return Ok(());
@@ -110,7 +110,7 @@ pub fn push_partition_table<F: Flash>(
     ensures after { HasReadBy by_device (length paged.old.device.content / 4096 + 2)
         paged.old paged.new result }
     ensures found { OnHonest paged.old.device (λ image. Gains findings.old findings.new result
-        (partition_table_part (record { image = image; areas = areas.now; findings = [] }))) }
+        (partition_table_part (record { image = image; areas = areas.now }))) }
 {
     let Some(area) = region_named(areas, b"SI_ME", paged.len()) else {
         return Ok(());

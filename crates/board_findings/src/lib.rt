@@ -1,5 +1,4 @@
-//! Checks the structures that a board boots from beside CBFS, by the flash map and the findings of
-//! an image.
+//! Checks the structures that a board boots from beside CBFS, by the flash map of an image.
 #![tactic(auto)]
 
 mod area;
@@ -12,6 +11,7 @@ mod laws;
 mod structure;
 mod vboot;
 
+pub use area::region_named;
 pub use board::check_board;
 pub use finding::{BoardFinding, HeaderFinding, Slot, SlotFinding};
 pub use laws::{

@@ -4,6 +4,7 @@ mod CommandOutputs
 mod CreatedRegions
 mod CreationEffects
 mod ExtractedContents
+mod OtherAreas
 mod OutputParts
 mod OwnResults
 mod PlanLaws

@@ -1,7 +1,9 @@
 pub mod Creations
 pub mod Effects
 pub mod Laws
+pub mod MapNotes
 pub mod Notes
 pub mod Outcomes
 pub mod Rows
 pub mod Samples
+pub mod Used

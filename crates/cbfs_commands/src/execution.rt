@@ -2,32 +2,34 @@
 
 ghost use Rattle.std.specs.Prelude.{◌≡◌, ◌<◌, ◌≤◌, Ok, true, false, IsErrOf};
 ghost use Rattle.flash_device.specs.Pages.{OnHonest};
-ghost use Rattle.flash_map.specs.Fmap.{found_in};
 ghost use Rattle.cbfs_commands.specs.Effects.{HasEffect, OnAllHonest, effect_of};
 ghost use Rattle.cbfs_requests.specs.Requests.{request_of};
+ghost use Rattle.cbfs_commands.specs.MapNotes.{region_name};
 ghost use Rattle.cbfs_commands.specs.Notes.{may_outdate};
+ghost use Rattle.cbfs_commands.specs.Used.{HasUsed};
 ghost use Rattle.cbfs_commands.specs.Outcomes.{PrintsOut};
 
 use crate::add::add;
 use crate::create::create;
 use crate::extract::extract;
 use crate::layout::layout;
+use crate::mapped::Used;
 use crate::print::print;
 use crate::read::read;
 use crate::remove::remove;
 use crate::write::write;
 use cbfs_requests::{Command, Refusal};
 use flash_device::{Flash, Paged, Sink, Source};
-use flash_map::FoundMap;
 
 /// Runs a command on an image, without allocating memory. A successful `add`, `remove` or `write`
-/// stores in `used` the flash map that the image had before. Other commands don't change `used`.
+/// stores in `used` the flash map that the image had before, and the region. Other commands don't
+/// change `used`.
 pub fn run_with_map<F: Flash, S: Source, W: Sink>(
     paged: &mut Paged<F>,
     command: &Command,
     source: &mut S,
     out: &mut W,
-    used: &mut Option<FoundMap>,
+    used: &mut Option<Used>,
 ) -> Result<(), Refusal>
     ensures effect { HasEffect (effect_of command.now) paged.old.device paged.new.device
         (S.facts source.old) (S.facts source.new) result }
@@ -45,9 +47,10 @@ pub fn run_with_map<F: Flash, S: Source, W: Sink>(
         PrintsOut (W.contents out.old) (W.contents out.new) result
         (effect.outcome image content).printout) }
 
-    // The flash map of an honest device before a change.
+    // The flash map of an honest device before a change, and the region by this map.
     ensures used { OnHonest paged.old.device (λ image.
-        may_outdate (request_of command.now) result ≡ true → used.new ≡ found_in image) }
+        may_outdate (request_of command.now) result ≡ true
+        → HasUsed image (region_name (request_of command.now)) used.new) }
     ensures unused { may_outdate (request_of command.now) (Ok tt) ≡ false → used.new ≡ used.old }
 {
     match command {

@@ -12,7 +12,7 @@ use flash_format::FmapHead;
 use flash_map::{FoundMap, find_fmap};
 
 /// Returns whether the head of a map still stands at its offset.
-fn stands<F: Flash>(paged: &mut Paged<F>, map: &FoundMap) -> Result<bool, FlashFault>
+pub fn stands<F: Flash>(paged: &mut Paged<F>, map: &FoundMap) -> Result<bool, FlashFault>
     ensures calls { HasAnswered 1 paged.old paged.new result }
     ensures within { IfOk result (λ kept. IsTrue kept
         → map_end map.now ≤ length paged.old.device.content) }

@@ -12,3 +12,4 @@ pub mod Insertions
 pub mod AdditionLemmas
 pub mod EditLists
 pub mod SearchLaws
+pub mod Rooms

@@ -2,7 +2,7 @@
 use Rattle.std.specs.Option.{option_or}
 use Rattle.std.specs.Prelude.{◌≡◌, ℕ, ◌%◌, ◌^◌, ◌<◌, ◌≤◌, ◌||◌, is_some, List, IfSome}
 use Rattle.std.specs.Prelude.{false, ok_or, ◌+◌, ◌/◌, ◌⊎◌, IsErrOf, IfOk, if◌then◌else◌, Result}
-use Rattle.std.specs.Prelude.{Ok, Err}
+use Rattle.std.specs.Prelude.{Ok, Err, Option}
 use Rattle.flash_device.specs.Device.{fault_count}
 use Rattle.flash_device.specs.Pages.{Pages, HasRead, OnHonestIn}
 use Rattle.flash_device.specs.Regions.{Range}
@@ -12,6 +12,7 @@ use Rattle.cbfs_walk.specs.Search.{first_named}
 use Rattle.cbfs_edit.specs.Removals.{IsCellRange, group_from, row_end}
 use Rattle.cbfs_edit.specs.Places.{runs_from}
 use Rattle.cbfs_edit.specs.Places.{LiesInItsRun, first_place, is_bad_align}
+use Rattle.cbfs_edit.specs.Rooms.{larger_of, largest_room}
 use Rattle.cbfs_edit.specs.declared.fault.EditFault.{EditFault}
 use Rattle.cbfs_edit.specs.declared.fault.EditFault.TheVariants.{Device, Source, NotFound}
 use Rattle.cbfs_edit.specs.declared.fault.EditFault.TheVariants.{Exists, NoSpace}
@@ -19,6 +20,7 @@ use Rattle.cbfs_edit.specs.declared.group.CellRange.{CellRange}
 use Rattle.cbfs_edit.specs.declared.group.Search.{Search}
 use Rattle.cbfs_edit.specs.declared.group.Search.TheVariants.{Looking, Growing, Whole}
 use Rattle.cbfs_edit.specs.declared.place.Survey.{Survey}
+use Rattle.cbfs_edit.specs.declared.room.RoomSurvey.{RoomSurvey}
 use Rattle.cbfs_edit.specs.declared.place.Wanted.{Wanted}
 use Rattle.cbfs_edit.specs.declared.place.Place.{Place}
 
@@ -59,3 +61,16 @@ pub record IsSurvey (wanted : Wanted) (size at : ℕ) (s : Survey) : Type 0 wher
   pub here : s.row.end ≡ at
   pub row : (s.row.start ≡ s.row.end) ⊎ IsCellRange s.row size
   pub place : IfSome s.place (LiesInItsRun wanted size)
+
+-- The result of a search for the largest content that has passed some cells, by its state and the
+-- remaining cells.
+abbrev pub room_by : Wanted → ℕ → RoomSurvey → List (List ℕ) → Option ℕ
+room_by empty size s cells =
+    larger_of s.largest (largest_room empty size (runs_from s.row.start s.row.end cells))
+
+-- the bounds of the row, which may be empty
+pub record IsRoomSurvey (empty : Wanted) (size at : ℕ) (s : RoomSurvey) : Type 0 where
+  pub spot : is_bad_align empty.spot ≡ false
+  pub small : size < 2 ^ 32
+  pub here : s.row.end ≡ at
+  pub row : (s.row.start ≡ s.row.end) ⊎ IsCellRange s.row size

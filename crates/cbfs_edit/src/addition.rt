@@ -116,7 +116,7 @@ fn copy_hashed<F: Flash, S: Source, H: sha2::Digest>(
     Ok(hashing.finish())
 }
 
-fn wanted_of(name: &[u8], hash: HashChoice, len: u32, spot: Spot) -> Wanted
+pub fn wanted_of(name: &[u8], hash: HashChoice, len: u32, spot: Spot) -> Wanted
     requires { length name.now ≤ 127 }
     ensures { (kind : ℕ) (content : List ℕ) → len ≡ length content
         → result ≡ wanted_for (new_component name.now kind hash content) spot }
@@ -129,7 +129,7 @@ fn wanted_of(name: &[u8], hash: HashChoice, len: u32, spot: Spot) -> Wanted
 }
 
 /// Returns the first error that depends on no device.
-fn argument_fault(name: &[u8], kind: u32, spot: Spot) -> Option<EditFault>
+pub fn argument_fault(name: &[u8], kind: u32, spot: Spot) -> Option<EditFault>
     ensures { result ≡ argument_fault name.now kind spot }
 {
     if name.is_empty() || name.len() > 127 || has_nul(name) {

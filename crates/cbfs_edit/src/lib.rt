@@ -15,6 +15,7 @@ mod laws;
 mod place;
 mod region_writes;
 mod removal;
+mod room;
 
 pub use addition::{HashChoice, Placed, add};
 pub use edit::{Edit, Reply, apply_all};
@@ -27,3 +28,4 @@ pub use laws::{
 };
 pub use place::Spot;
 pub use removal::remove;
+pub use room::largest_content;

@@ -164,7 +164,7 @@ fn place_so_far(wanted: Wanted, region: Region, survey: Survey) -> Option<Place>
 
 /// Returns the least allowed place in a run. The header lies at the last multiple of 64 with room
 /// for the metadata.
-fn place_in(wanted: Wanted, region: Region, run: CellRange) -> Option<Place>
+pub fn place_in(wanted: Wanted, region: Region, run: CellRange) -> Option<Place>
     requires spot { is_bad_align wanted.spot ≡ false }
     requires run { IsCellRange run region.size }
     requires small { region.size < 2 ^ 32 }
@@ -203,7 +203,7 @@ fn least_allowed_from(spot: Spot, from: u64) -> u64
 }
 
 /// Returns the upper bound of the content's end.
-fn content_limit(spot: Spot, region: Region, end: u64) -> u64
+pub fn content_limit(spot: Spot, region: Region, end: u64) -> u64
     requires { 64 ≤ end }
     ensures { result ≡ content_limit spot region.size end }
 {

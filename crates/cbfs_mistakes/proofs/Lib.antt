@@ -2,3 +2,5 @@ mod AreaNames
 mod Causes
 mod Named
 mod Refused
+pub mod WalkParts
+pub mod ComponentNames

@@ -1,10 +1,12 @@
 pub mod Areas
+pub mod Components
 pub mod Faults
 pub mod Lines
 pub mod Messages
 pub mod Mistakes
 pub mod NameLines
 pub mod Near
+pub mod Rooms
 pub mod Subjects
 pub mod Suggestions
 pub mod Synopses

@@ -1,5 +1,5 @@
 -- Words that differ by one letter: this project's own measure.
-use Rattle.std.specs.Prelude.{ℕ, Bool, false, List, [], ◌∷◌, ◌||◌, ◌&&◌, drop, ◌==◌, if◌then◌else◌}
+use Rattle.std.specs.Prelude.{ℕ, Bool, false, List, [], ◌∷◌, ◌++◌, ◌||◌, ◌&&◌, drop, filter, not, ◌==◌, if◌then◌else◌}
 use Rattle.std.specs.Str.{bytes_eq}
 
 -- the first two letters are those of the other word in another order, and the others are equal
@@ -18,3 +18,8 @@ unfoldable pub is_near : List ℕ → List ℕ → Bool
 is_near [] ys = differ_in_front [] ys
 is_near (x ∷ xs) [] = differ_in_front (x ∷ xs) []
 is_near (x ∷ xs) (y ∷ ys) = if x == y then is_near xs ys else differ_in_front (x ∷ xs) (y ∷ ys)
+
+-- the names near a word, and then the others, each in their order
+abbrev pub near_first : List ℕ → List (List ℕ) → List (List ℕ)
+near_first word names =
+    filter (is_near word) names ++ filter (λ name. not (is_near word name)) names

@@ -8,6 +8,7 @@ ghost use Rattle.cbfs_mistakes.specs.Faults.{by_device};
 
 use crate::list_fault::ListFault;
 use crate::names_line::push_names;
+use crate::near::near_first;
 use flash_device::{Flash, Paged};
 use flash_map::{FoundMap, area, find_fmap};
 use std::alloc::Global;
@@ -35,21 +36,23 @@ fn area_names<F: Flash>(
     Ok(names)
 }
 
-/// Appends the line that names the areas of the image's flash map, if it has one with areas.
-/// Errors: a failed read, or an allocation failure.
+/// Appends the line that names the areas of the image's flash map, if it has one with areas. The
+/// names near the given one come first. Errors: a failed read, or an allocation failure.
 pub fn push_areas<F: Flash>(
     alloc: Global,
     out: &mut Vec<u8>,
     paged: &mut Paged<F>,
+    given: &[u8],
 ) -> Result<(), ListFault>
     ensures calls { HasReadBy by_device (map_reads paged.old.device) paged.old paged.new result }
     ensures line { OnHonest paged.old.device (λ image.
-        OnOk result (out.new.items ≡ out.old.items ++ areas_line image)) }
+        OnOk result (out.new.items ≡ out.old.items ++ areas_line image given.now)) }
 {
     let Some(map) = find_fmap(paged)? else {
         return Ok(());
     };
     let names = area_names(alloc, paged, &map)?;
-    push_names(out, "cbfstool: its areas are: ", names.as_slice())?;
+    let sorted = near_first(alloc, given, names.as_slice())?;
+    push_names(out, "cbfstool: its areas are: ", sorted.as_slice())?;
     Ok(())
 }

@@ -1,7 +1,9 @@
 //! Words that differ by one letter.
 
-ghost use Rattle.std.specs.Prelude.{◌≡◌, drop};
-ghost use Rattle.cbfs_mistakes.specs.Near.{are_exchanged, differ_in_front, is_near};
+ghost use Rattle.std.specs.Prelude.{◌≡◌, IfOk, drop, map};
+ghost use Rattle.cbfs_mistakes.specs.Near.{are_exchanged, differ_in_front, is_near, near_first};
+
+use std::alloc::{AllocError, Global};
 
 /// Returns the letters of a word behind the first n.
 fn behind<'a>(word: &'a [u8], n: usize) -> &'a [u8]
@@ -49,4 +51,23 @@ pub fn is_near(word: &[u8], known: &[u8]) -> bool
         other = others;
     }
     differ_in_front(rest, other)
+}
+
+/// Returns copies of the names near a word, and then of the others.
+pub fn near_first(alloc: Global, word: &[u8], names: &[Vec<u8>]) -> Result<Vec<Vec<u8>>, AllocError>
+    ensures { IfOk result (λ sorted. map (λ name. name.items) sorted.items
+        ≡ near_first word.now (map (λ name. name.items) names.now)) }
+{
+    let mut near = Vec::new(alloc);
+    let mut others = Vec::new(alloc);
+    for name in names {
+        let copy = name.as_slice().to_vec(alloc)?;
+        if is_near(word, name.as_slice()) {
+            near.push(copy)?;
+        } else {
+            others.push(copy)?;
+        }
+    }
+    near.append(&mut others)?;
+    Ok(near)
 }

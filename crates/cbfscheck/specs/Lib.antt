@@ -1,2 +1,3 @@
+pub mod OptionTexts
 pub mod Refusals
 pub mod Requests

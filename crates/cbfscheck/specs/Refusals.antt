@@ -14,8 +14,10 @@ use Rattle.check_report.specs.declared.fault.WriteFault.{WriteFault}
 use Rattle.check_report.specs.declared.fault.WriteFault.TheVariants as writes
 use Rattle.flash_store.specs.declared.open_fault.OpenFault.{OpenFault}
 use Rattle.flash_store.specs.declared.open_fault.OpenFault.TheVariants as opens
-use Rattle.cbfscheck.specs.declared.refusal.ImageFault.{ImageFault}
-use Rattle.cbfscheck.specs.declared.refusal.ImageFault.TheVariants as images
+use Rattle.cbfscheck.specs.declared.refusal.FileFault.{FileFault}
+use Rattle.cbfscheck.specs.declared.refusal.FileFault.TheVariants as files
+use Rattle.cbfscheck.specs.declared.refusal.OptionsFault.{OptionsFault}
+use Rattle.cbfscheck.specs.declared.refusal.OptionsFault.TheVariants as options
 use Rattle.cbfscheck.specs.declared.refusal.Refusal.{Refusal}
 use Rattle.cbfscheck.specs.declared.refusal.Refusal.TheVariants as refusals
 
@@ -29,14 +31,20 @@ abbrev pub of_writing : WriteFault → Refusal
 of_writing writes.Memory = refusals.Memory
 of_writing writes.Output = refusals.Output
 
--- an image that is not opened
+-- a file that is not opened
 abbrev pub of_opening : Bor (List ℕ) → OpenFault → Refusal
 of_opening path opens.Memory = refusals.Memory
-of_opening path opens.TooLarge = refusals.Image path images.TooLarge
-of_opening path (opens.Failed kinds.NotFound) = refusals.Image path images.NotFound
-of_opening path (opens.Failed kinds.PermissionDenied) = refusals.Image path images.NoPermission
-of_opening path (opens.Failed kinds.IsADirectory) = refusals.Image path images.IsDirectory
-of_opening path (opens.Failed kind) = refusals.Image path images.Device
+of_opening path opens.TooLarge = refusals.File path files.LargeImage
+of_opening path (opens.Failed kinds.NotFound) = refusals.File path files.NotFound
+of_opening path (opens.Failed kinds.PermissionDenied) = refusals.File path files.NoPermission
+of_opening path (opens.Failed kinds.IsADirectory) = refusals.File path files.IsDirectory
+of_opening path (opens.Failed kind) = refusals.File path files.Device
+
+-- an option file without text
+abbrev pub of_options : Bor (List ℕ) → OptionsFault → Refusal
+of_options path (options.Unread fault) = of_opening path fault
+of_options path options.TooLarge = refusals.File path files.LargeOptions
+of_options path options.NotUtf8 = refusals.File path files.OptionsNotUtf8
 
 -- the new image, or else the only one
 abbrev pub newest : CheckLine → Bor (List ℕ)
@@ -45,20 +53,22 @@ newest line = unwrap_or line.new_image line.image
 -- the image that could not be read
 abbrev pub of_report : CheckLine → ChangeFault → Refusal
 of_report line changes.Memory = refusals.Memory
-of_report line changes.OldDevice = refusals.Image line.image images.Device
-of_report line changes.NewDevice = refusals.Image (newest line) images.Device
+of_report line changes.OldDevice = refusals.File line.image files.Device
+of_report line changes.NewDevice = refusals.File (newest line) files.Device
 
 -- ---- texts
 
-abbrev pub image_text : ImageFault → List ℕ
-image_text images.NotFound = codes "No such file or directory"
-image_text images.NoPermission = codes "Permission denied"
-image_text images.IsDirectory = codes "Is a directory"
-image_text images.Device = codes "device fault"
-image_text images.TooLarge = codes "image too large"
+abbrev pub file_text : FileFault → List ℕ
+file_text files.NotFound = codes "No such file or directory"
+file_text files.NoPermission = codes "Permission denied"
+file_text files.IsDirectory = codes "Is a directory"
+file_text files.Device = codes "device fault"
+file_text files.LargeImage = codes "image too large"
+file_text files.LargeOptions = codes "option file larger than 64 KiB"
+file_text files.OptionsNotUtf8 = codes "option file is not UTF-8"
 
-abbrev pub path_text : List ℕ → ImageFault → List ℕ
-path_text path fault = shown path ++ codes ": " ++ image_text fault
+abbrev pub path_text : List ℕ → FileFault → List ℕ
+path_text path fault = shown path ++ codes ": " ++ file_text fault
 
 abbrev pub refusal_text : Refusal → List ℕ
 refusal_text (refusals.Line fault) = fault_text fault ++ codes " (see cbfscheck --help)"
@@ -66,7 +76,7 @@ refusal_text refusals.Words = codes "an argument is not UTF-8"
 refusal_text refusals.Memory = codes "out of memory"
 refusal_text refusals.Output = codes "output fault"
 refusal_text refusals.Random = codes "no random numbers"
-refusal_text (refusals.Image path fault) = path_text path.now fault
+refusal_text (refusals.File path fault) = path_text path.now fault
 
 -- the line on standard error
 abbrev pub message : Refusal → List ℕ

@@ -1,19 +1,22 @@
 //! Checks the flash map and file systems of an image, and lists the changes of a new image.
 #![tactic(auto)]
 
+mod option_files;
 mod refusal;
 mod request;
 mod texts;
 
+use check_line::whole_line;
 pub use check_line::{CheckLine, Invocation, LineFault, read_check};
 use check_report::WrittenReport;
 pub use check_report::{Inspection, ReportFault, Request, inspect_change, inspect_image};
 use flash_store::{FileFlash, Output, Paged, RepeatingSink};
+use option_files::read_arguments;
 use refusal::{Refusal, status_of};
-use request::{Images, images_of, request_of};
+use request::{Images, Screen, form_of, images_of, request_of};
 use std::env;
 use std::hash::RandomState;
-use std::io::{self, ErrorKind, Write};
+use std::io::{self, ErrorKind, IsTerminal, Write};
 use std::process::ExitCode;
 use texts::{HELP, USAGE, VERSION};
 
@@ -47,7 +50,14 @@ fn inspect<'a>(
 /// Prints the report, and returns whether a finding is bad. It prints after closing the images,
 /// since a reader of the report may wait for their locks.
 fn check<'a>(rt: &HostRuntime, line: &CheckLine<'a>) -> Result<bool, Refusal<'a>> {
-    let request = request_of(line);
+    let no_color = env::var(rt, "NO_COLOR").ok();
+    let term = env::var(rt, "TERM").ok();
+    let screen = Screen {
+        is_terminal: rt.stdout().is_terminal(),
+        no_color: no_color.as_deref(),
+        term: term.as_deref(),
+    };
+    let request = request_of(line, form_of(line, screen));
     let inspection = inspect(rt, line, request)?;
     let out = Output::new(rt.alloc(), RepeatingSink::new(io::writer(rt)));
     let WrittenReport { mut out, is_bad } = inspection.write(rt.alloc(), request, out);
@@ -101,17 +111,21 @@ fn finish(rt: &HostRuntime, outcome: &Result<bool, Refusal<'_>>) -> ExitCode {
     ExitCode::from(status_of(outcome))
 }
 
-/// Performs the request, or prints the usage without arguments. Returns the exit status.
+/// Performs the request, or prints the usage without arguments. It reads the option files before it
+/// reads the line. Returns the exit status.
 fn answer_to(rt: &HostRuntime, words: &[String]) -> ExitCode {
     if words.is_empty() {
         let _told = eprint!(rt; "{USAGE}");
         return ExitCode::from(2);
     }
-    let Ok(texts) = words.iter().map(|word| word.as_str()).collect(rt.alloc()) else {
-        return finish(rt, &Err(Refusal::Memory));
+    let arguments = match read_arguments(rt, words) {
+        Ok(arguments) => arguments,
+        Err(refusal) => return finish(rt, &Err(refusal)),
     };
-    let texts: Vec<&str> = texts;
-    finish(rt, &obey(rt, &texts))
+    match whole_line(rt.alloc(), &arguments) {
+        Ok(line) => finish(rt, &obey(rt, &line)),
+        Err(fault) => finish(rt, &Err(Refusal::from(fault))),
+    }
 }
 
 fn main(rt: HostRuntime) -> ExitCode {

@@ -1,8 +1,12 @@
 //! Refusals, their texts, and exit statuses.
 
 ghost use Rattle.std.specs.Prelude.{◌≡◌, ◌++◌, IfOk, OnOk};
-ghost use Rattle.cbfscheck.specs.Refusals.{image_text, message, of_line, of_opening, of_report};
-ghost use Rattle.cbfscheck.specs.Refusals.{of_writing, path_text, refusal_text, status_of};
+ghost use Rattle.std.specs.IoError.{error_kind};
+ghost use Rattle.flash_store.specs.Files.{open_fault_of};
+ghost use Rattle.cbfscheck.specs.Refusals.{file_text, message, of_line, of_opening, of_options};
+ghost use Rattle.cbfscheck.specs.Refusals.{of_report, of_writing, path_text, refusal_text};
+ghost use Rattle.cbfscheck.specs.Refusals.{status_of};
+ghost use Rattle.cbfscheck.specs.declared.refusal.OptionsFault.TheVariants.{Unread};
 ghost use Rattle.cbfscheck.specs.declared.refusal.Refusal.TheVariants.{Memory};
 
 use check_line::{CheckLine, LineFault};
@@ -10,29 +14,51 @@ use check_report::{ReportFault, WriteFault};
 use flash_store::OpenFault;
 use quoted_text::push_shown;
 use std::alloc::{AllocError, Global};
-use std::io::ErrorKind;
+use std::io::{self, ErrorKind};
 
-/// The fault of an image's file.
+/// The fault of an image or of an option file.
 #[derive(Clone, Copy, Debug, PartialEq, Eq)]
-pub enum ImageFault {
+pub enum FileFault {
     NotFound,
     NoPermission,
     IsDirectory,
     Device,
-    TooLarge,
+    LargeImage,
+    LargeOptions,
+    OptionsNotUtf8,
 }
 
-impl ImageFault {
+impl FileFault {
     fn text(self) -> &'static str
-        ensures { result.now ≡ image_text self }
+        ensures { result.now ≡ file_text self }
     {
         match self {
-            ImageFault::NotFound => "No such file or directory",
-            ImageFault::NoPermission => "Permission denied",
-            ImageFault::IsDirectory => "Is a directory",
-            ImageFault::Device => "device fault",
-            ImageFault::TooLarge => "image too large",
+            FileFault::NotFound => "No such file or directory",
+            FileFault::NoPermission => "Permission denied",
+            FileFault::IsDirectory => "Is a directory",
+            FileFault::Device => "device fault",
+            FileFault::LargeImage => "image too large",
+            FileFault::LargeOptions => "option file larger than 64 KiB",
+            FileFault::OptionsNotUtf8 => "option file is not UTF-8",
         }
+    }
+}
+
+/// The reason for an option file without text.
+#[derive(Clone, Copy, Debug, PartialEq, Eq, Drop)]
+pub enum OptionsFault {
+    /// A file that is not opened or read.
+    Unread(OpenFault),
+    /// More than 65536 bytes.
+    TooLarge,
+    NotUtf8,
+}
+
+impl From<io::Error> for OptionsFault {
+    ghost from_gives = { λ error fault. fault ≡ Unread (open_fault_of (error_kind error)) };
+
+    fn from(error: io::Error) -> OptionsFault {
+        OptionsFault::Unread(OpenFault::from(error))
     }
 }
 
@@ -45,7 +71,7 @@ pub enum Refusal<'a> {
     Memory,
     Output,
     Random,
-    Image { path: &'a str, fault: ImageFault },
+    File { path: &'a str, fault: FileFault },
 }
 
 impl<'a> From<LineFault<'a>> for Refusal<'a> {
@@ -54,9 +80,10 @@ impl<'a> From<LineFault<'a>> for Refusal<'a> {
     fn from(fault: LineFault<'a>) -> Refusal<'a> {
         match fault {
             LineFault::Memory => Refusal::Memory,
-            LineFault::Word { .. } | LineFault::NoImage | LineFault::NoNewImage => {
-                Refusal::Line(fault)
-            }
+            LineFault::Word { .. }
+            | LineFault::NoImage
+            | LineFault::NoNewImage
+            | LineFault::NestedFile { .. } => Refusal::Line(fault),
         }
     }
 }
@@ -80,7 +107,7 @@ impl<'a> From<WriteFault> for Refusal<'a> {
     }
 }
 
-fn push_path(out: &mut Vec<u8>, path: &str, fault: ImageFault) -> Result<(), AllocError>
+fn push_path(out: &mut Vec<u8>, path: &str, fault: FileFault) -> Result<(), AllocError>
     ensures { OnOk result (out.new.items ≡ out.old.items ++ path_text path.now fault) }
 {
     push_shown(out, path)?;
@@ -89,19 +116,31 @@ fn push_path(out: &mut Vec<u8>, path: &str, fault: ImageFault) -> Result<(), All
 }
 
 impl<'a> Refusal<'a> {
-    /// Returns the refusal of an image that is not opened.
+    /// Returns the refusal of a file that is not opened.
     pub fn of_opening(path: &'a str, fault: OpenFault) -> Refusal<'a>
         ensures { result ≡ of_opening path.entry fault }
     {
         let fault = match fault {
             OpenFault::Memory => return Refusal::Memory,
-            OpenFault::TooLarge => ImageFault::TooLarge,
-            OpenFault::Failed(ErrorKind::NotFound) => ImageFault::NotFound,
-            OpenFault::Failed(ErrorKind::PermissionDenied) => ImageFault::NoPermission,
-            OpenFault::Failed(ErrorKind::IsADirectory) => ImageFault::IsDirectory,
-            OpenFault::Failed(_) => ImageFault::Device,
+            OpenFault::TooLarge => FileFault::LargeImage,
+            OpenFault::Failed(ErrorKind::NotFound) => FileFault::NotFound,
+            OpenFault::Failed(ErrorKind::PermissionDenied) => FileFault::NoPermission,
+            OpenFault::Failed(ErrorKind::IsADirectory) => FileFault::IsDirectory,
+            OpenFault::Failed(_) => FileFault::Device,
         };
-        Refusal::Image { path, fault }
+        Refusal::File { path, fault }
+    }
+
+    /// Returns the refusal of an option file.
+    pub fn of_options(path: &'a str, fault: OptionsFault) -> Refusal<'a>
+        ensures { result ≡ of_options path.entry fault }
+    {
+        let fault = match fault {
+            OptionsFault::Unread(fault) => return Refusal::of_opening(path, fault),
+            OptionsFault::TooLarge => FileFault::LargeOptions,
+            OptionsFault::NotUtf8 => FileFault::OptionsNotUtf8,
+        };
+        Refusal::File { path, fault }
     }
 
     /// Returns the refusal of an incomplete report. It names the image that could not be read.
@@ -113,8 +152,8 @@ impl<'a> Refusal<'a> {
             ReportFault::OldDevice => line.image,
             ReportFault::NewDevice => line.new_image.unwrap_or(line.image),
         };
-        let fault = ImageFault::Device;
-        Refusal::Image { path, fault }
+        let fault = FileFault::Device;
+        Refusal::File { path, fault }
     }
 
     fn push_text(&self, out: &mut Vec<u8>) -> Result<(), AllocError>
@@ -129,7 +168,7 @@ impl<'a> Refusal<'a> {
             Refusal::Memory => out.extend_from_slice(b"out of memory"),
             Refusal::Output => out.extend_from_slice(b"output fault"),
             Refusal::Random => out.extend_from_slice(b"no random numbers"),
-            Refusal::Image { path, fault } => push_path(out, path, *fault),
+            Refusal::File { path, fault } => push_path(out, path, *fault),
         }
     }
 

@@ -8,7 +8,7 @@ usage: cbfscheck [OPTIONS] IMAGE
 ";
 
 /// The output of `--version`.
-pub const VERSION: &str = "cbfscheck 3.0\n";
+pub const VERSION: &str = "cbfscheck 3.1\n";
 
 /// The text of `--help`.
 pub const HELP: &str = "\
@@ -28,6 +28,7 @@ what flashing NEW over OLD changes. Images are never written.
   -v                    also list components without a digest, and more than
                         16 rows of a kind
   --json                print the report as one JSON document
+  @FILE                 read options from FILE, one in each line
   -h, --help            print this help
   --version             print the version
 

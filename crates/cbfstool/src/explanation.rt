@@ -1,8 +1,11 @@
 //! Lines on standard error that explain a refusal.
 use cbfs_commands::Refusal;
 use cbfs_line::{Line, read_line};
-use cbfs_mistakes::{ListFault, Mistake, find_mistake, push_areas, push_explanation, push_subject};
-use flash_store::{FileFlash, Paged};
+use cbfs_mistakes::{
+    ListFault, Mistake, find_mistake, push_areas, push_components, push_explanation, push_room,
+    push_subject,
+};
+use flash_store::{FileFlash, FileSource, Paged, Source};
 use quoted_text::is_explained;
 use std::alloc::AllocError;
 use std::env;
@@ -45,13 +48,42 @@ fn open_map(rt: &HostRuntime, line: &Line<'_>) -> Result<Paged<FileFlash>, ListF
     }
 }
 
-/// Prints the areas of the flash map that could have been meant. After a fault, it prints none.
-fn print_names(rt: &HostRuntime, line: &Line<'_>, refusal: Refusal) -> Result<(), ListFault> {
-    if refusal != Refusal::NoRegion {
+/// Appends the line on the length of FILE, and the largest content that the addition takes. Without
+/// a FILE that can be read again, it appends nothing.
+fn push_lengths(rt: &HostRuntime, text: &mut Vec<u8>, line: &Line<'_>) -> Result<(), ListFault> {
+    let Ok(command) = line.command() else {
         return Ok(());
+    };
+    match FileSource::open(rt, line.file().unwrap_or("")) {
+        Ok(content) => push_room(text, &mut open_map(rt, line)?, &command, content.len()),
+        Err(_) => Ok(()),
     }
+}
+
+/// Appends the line that says what could have been meant: the areas of the flash map, the
+/// components of the region, or the largest content.
+fn push_choice(
+    rt: &HostRuntime,
+    text: &mut Vec<u8>,
+    line: &Line<'_>,
+    refusal: Refusal,
+) -> Result<(), ListFault> {
+    let region = line.regions().as_bytes();
+    match refusal {
+        Refusal::NoRegion => push_areas(rt.alloc(), text, &mut open_map(rt, line)?, region),
+        Refusal::NotFound => {
+            let name = line.option("name").unwrap_or("").as_bytes();
+            push_components(rt.alloc(), text, &mut open_map(rt, line)?, region, name)
+        }
+        Refusal::NoSpace => push_lengths(rt, text, line),
+        _ => Ok(()),
+    }
+}
+
+/// Prints the line that says what could have been meant. After a fault, it prints none.
+fn print_choice(rt: &HostRuntime, line: &Line<'_>, refusal: Refusal) -> Result<(), ListFault> {
     let mut text = Vec::new(rt.alloc());
-    push_areas(rt.alloc(), &mut text, &mut open_map(rt, line)?)?;
+    push_choice(rt, &mut text, line, refusal)?;
     let _told = rt.stderr().write_all(&text);
     Ok(())
 }
@@ -68,7 +100,7 @@ fn print_subject(
     let mut text = Vec::new(rt.alloc());
     push_subject(&mut text, &line, refusal, reason)?;
     let _told = rt.stderr().write_all(&text);
-    let _listed = print_names(rt, &line, refusal);
+    let _listed = print_choice(rt, &line, refusal);
     Ok(())
 }
 

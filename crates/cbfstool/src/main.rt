@@ -5,11 +5,12 @@ mod explanation;
 mod session;
 
 pub use cbfs_commands::{Command, Refusal, create_size, run};
+use cbfs_commands::{MapNote, RegionNote};
 pub use cbfs_line::{Line, read_line};
 use cbfs_steps::{refusal_of_words, status_of};
 use explanation::{explain, explain_unread};
 use flash_store::program_words;
-use session::Session;
+use session::{Notes, Session};
 use std::io::ErrorKind;
 use std::process::ExitCode;
 
@@ -18,22 +19,50 @@ usage: cbfstool IMAGE COMMAND [OPTIONS]
 commands: print layout extract add remove read write create
 ";
 
-/// Takes the steps of a command, and stores the system's reason for a file that is not opened in
-/// `reason`. The note is printed after its lock is released.
-fn execute(rt: &HostRuntime, line: &Line, reason: &mut Option<ErrorKind>) -> Result<(), Refusal> {
-    let mut image = None;
-    let mut session = Session::new(rt, line, &mut image)?;
-    let answer = session.obey();
-    let is_note_due = session.is_note_due(answer);
-    *reason = session.reason();
-    drop(session);
-    drop(image);
-    if is_note_due {
-        let image = line.image();
+fn print_region_note(rt: &HostRuntime, note: RegionNote) {
+    let _told = match note {
+        RegionNote::HoldsMap => { eprintln!(rt; "cbfstool: note: the region holds the flash map") }
+        RegionNote::ContainsAreas => {
+            eprintln!(rt; "cbfstool: note: the region contains other areas of the flash map")
+        }
+    };
+}
+
+fn print_map_note(rt: &HostRuntime, note: MapNote) {
+    let _told = match note {
+        MapNote::AnotherMap { at } => {
+            eprintln!(rt; "cbfstool: note: the image has another flash map now, at {at:#x}")
+        }
+        MapNote::NoMap => eprintln!(rt; "cbfstool: note: the image has no flash map now"),
+    };
+}
+
+/// Prints the notes on a changed image, a line for each.
+fn print_notes(rt: &HostRuntime, image: &str, notes: Notes) {
+    if let Some(note) = notes.region {
+        print_region_note(rt, note);
+    }
+    if let Some(note) = notes.map {
+        print_map_note(rt, note);
+    }
+    if notes.outdated_anchor {
         let _told = eprintln!(rt;
             "cbfstool: note: the bootblock's metadata hash is outdated: run cbfsseal {image}"
         );
     }
+}
+
+/// Takes the steps of a command, and stores the system's reason for a file that is not opened in
+/// `reason`. The notes are printed after its lock is released.
+fn execute(rt: &HostRuntime, line: &Line, reason: &mut Option<ErrorKind>) -> Result<(), Refusal> {
+    let mut image = None;
+    let mut session = Session::new(rt, line, &mut image)?;
+    let answer = session.obey();
+    let notes = session.notes(answer);
+    *reason = session.reason();
+    drop(session);
+    drop(image);
+    print_notes(rt, line.image(), notes);
     answer
 }
 

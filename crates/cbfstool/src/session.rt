@@ -1,10 +1,13 @@
 //! A command with its open files, and its steps.
-use cbfs_commands::{Command, Refusal, create_size, is_note_due, run_with_map};
+use cbfs_commands::{
+    Command, MapNote, Refusal, RegionNote, Used, create_size, is_note_due, map_note, region_note,
+    run_with_map,
+};
 use cbfs_line::Line;
 use cbfs_steps::{Progress, Step, steps_of};
 use flash_store::{
-    FileFlash, FileSource, FoundMap, Lock, MemSource, OpenFault, Output, Paged, RepeatingSink,
-    SinkFault, create_output,
+    FileFlash, FileSource, Lock, MemSource, OpenFault, Output, Paged, RepeatingSink, SinkFault,
+    create_output,
 };
 use std::fs::File;
 use std::io::{self, ErrorKind, Printer};
@@ -14,6 +17,14 @@ use std::io::{self, ErrorKind, Printer};
 enum Receiver<'r> {
     Standard(Output<RepeatingSink<Printer<'r, HostRuntime>>>),
     File(Output<RepeatingSink<File>>),
+}
+
+/// The notes that are due after a command.
+#[derive(Clone, Copy)]
+pub struct Notes {
+    pub region: Option<RegionNote>,
+    pub map: Option<MapNote>,
+    pub outdated_anchor: bool,
 }
 
 /// A command, and the files that its steps have opened.
@@ -29,8 +40,8 @@ pub struct Session<'r, 'w, 'i> {
     file: &'w str,
     command: Command<'w>,
     image: &'i mut Option<Paged<FileFlash>>,
-    /// The flash map that a changed image had before.
-    used_map: Option<FoundMap>,
+    /// The flash map that a changed image had before, and the region by this map.
+    used: Option<Used>,
     input: Option<FileSource>,
     output: Receiver<'r>,
     /// The system's reason for a file that was not opened.
@@ -51,7 +62,7 @@ impl<'r, 'w, 'i> Session<'r, 'w, 'i> {
             file: line.file().unwrap_or(""),
             command: line.command()?,
             image,
-            used_map: None,
+            used: None,
             input: None,
             output: Receiver::Standard(Output::keeping(
                 rt.alloc(),
@@ -146,7 +157,7 @@ impl<'r, 'w, 'i> Session<'r, 'w, 'i> {
             return Err(Refusal::Device);
         };
         let (command, nothing) = (&self.command, &mut MemSource::new(&[]));
-        let used = &mut self.used_map;
+        let used = &mut self.used;
         match (&mut self.input, &mut self.output) {
             (Some(input), Receiver::Standard(out)) => {
                 run_with_map(image, command, input, out, used)
@@ -178,11 +189,23 @@ impl<'r, 'w, 'i> Session<'r, 'w, 'i> {
         }
     }
 
-    /// Returns whether the note on an outdated anchor is due, under the lock of the image.
-    pub fn is_note_due(&mut self, answer: Result<(), Refusal>) -> bool {
-        match &mut *self.image {
-            Some(image) => is_note_due(image, &self.command, self.used_map, answer),
-            None => false,
+    /// Returns the notes that are due, under the lock of the image.
+    pub fn notes(&mut self, answer: Result<(), Refusal>) -> Notes {
+        let Some(image) = &mut *self.image else {
+            return Notes {
+                region: None,
+                map: None,
+                outdated_anchor: false,
+            };
+        };
+        let used_map = match &self.used {
+            Some(used) => Some(used.map),
+            None => None,
+        };
+        Notes {
+            region: region_note(image, &self.command, &self.used, answer),
+            map: map_note(image, &self.command, &self.used, answer),
+            outdated_anchor: is_note_due(image, &self.command, used_map, answer),
         }
     }
 }

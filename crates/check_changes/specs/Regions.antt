@@ -5,6 +5,7 @@ use Rattle.flash_device.specs.Regions.{Range, bytes_in}
 use Rattle.check_findings.specs.declared.areas.NumberedArea.{NumberedArea}
 use Rattle.check_findings.specs.declared.image.finding.ImageFinding.{ImageFinding}
 use Rattle.check_findings.specs.ImageFindings.{region_areas}
+use Rattle.check_findings.specs.RegionFindings.{entry_range}
 use Rattle.check_findings.specs.Lists.{only_if}
 use Rattle.check_changes.specs.declared.areas.pairs.AreaPair.{AreaPair}
 use Rattle.check_changes.specs.declared.components.first.Listing.{Listing}
@@ -35,10 +36,14 @@ HasReadAreas areas i j r =
     let old_reads = (areas.old_bytes + areas.new_bytes) / 24 + 2 * areas.count in
     let new_reads = areas.new_bytes / 12 + 2 * areas.count in HasReadFor old_reads new_reads i j r
 
+-- the parts of both ranges that entries can fill
+abbrev pub entry_ranges : Both Range → Both Range
+entry_ranges r = record { old = entry_range r.old; new = entry_range r.new }
+
 -- the changes of the components of an area, by the compared regions; none without a namesake
 abbrev pub region_change : List ℕ → List ℕ → AreaPair → Option (Both Range) → List RegionChange
-region_change x y pair (Some regions) = Compared pair.new
-    (component_changes (bytes_in regions.old x) (bytes_in regions.new y)) ∷ []
+region_change x y pair (Some regions) = let entries = entry_ranges regions in Compared pair.new
+    (component_changes (bytes_in entries.old x) (bytes_in entries.new y)) ∷ []
 region_change x y pair None = only_if (is_some pair.old) (NotCompared pair.new)
 
 -- the changes of components of some areas from old namesakes, with `left` bytes for comparisons

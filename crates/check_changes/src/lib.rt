@@ -13,8 +13,8 @@ pub use anchor::{AnchorChange, anchor_change};
 pub use areas::{
     AreaChange, AreaDifference, Areas, ImageChanges, MapChange, image_changes, map_changes,
 };
-pub use components::{ComponentChange, ComponentDifference, component_changes};
+pub use components::{ComponentChange, ComponentDifference, component_changes, same_bytes};
 pub use fault::ChangeFault;
-pub use images::{Both, Images, RegionPair};
+pub use images::{Both, Images, Lengths, RegionPair};
 pub use laws::differences_are_reported;
 pub use regions::{ComponentChanges, RegionChange, region_changes};

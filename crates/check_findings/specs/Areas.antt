@@ -5,7 +5,6 @@ use Rattle.std.specs.Ordering.{nat_cmp}
 use Rattle.std.specs.Cmp.Lexicographic.{slice_cmp}
 use Rattle.std.specs.BTreeMap.{get_by}
 use Rattle.std.specs.Option.{option_map_or}
-use Rattle.flash_format.specs.declared.flashmap.Area.{Area}
 use Rattle.flash_format.specs.Flashmap.{is_area}
 pub use Rattle.flash_format.specs.Flashmap.{area_end}
 use Rattle.flash_map.specs.declared.search.FoundMap.{FoundMap}

@@ -18,7 +18,7 @@ use Rattle.check_findings.specs.Anchors.{anchor_findings, image_anchor}
 use Rattle.check_findings.specs.declared.areas.NumberedArea.{NumberedArea}
 use Rattle.check_findings.specs.MapFindings.{map_findings}
 use Rattle.check_findings.specs.Areas.{area_end, has_name, image_areas}
-use Rattle.check_findings.specs.RegionFindings.{region_findings}
+use Rattle.check_findings.specs.RegionFindings.{entry_range, range_findings}
 use Rattle.check_findings.specs.declared.image.finding.ImageFinding.{ImageFinding}
 use Rattle.check_findings.specs.declared.image.finding.ImageFinding.TheVariants.{Map, Anchor as OfAnchor, Region}
 use Rattle.check_findings.specs.declared.image.finding.ImageFinding.TheVariants.{NotChecked, NoArea}
@@ -30,6 +30,10 @@ range_of a = record { start = a.area.offset; size = a.area.size }
 
 abbrev pub bytes_of : List ℕ → NumberedArea → List ℕ
 bytes_of image a = bytes_in (range_of a) image
+
+-- the bytes of the area that entries can fill
+abbrev pub entry_bytes : List ℕ → NumberedArea → List ℕ
+entry_bytes image a = bytes_in (entry_range (range_of a)) image
 
 abbrev pub names_in : List (Bor (List ℕ)) → List (List ℕ)
 names_in names = map (λ n. n.now) names
@@ -75,7 +79,7 @@ fits_in left a = nat_le a.area.size left
 abbrev pub area_finding : List ℕ → Option Anchor → (NumberedArea → Bool) → ℕ → NumberedArea
     → ImageFinding
 area_finding image anchor expects left a = if fits_in left a
-    then Region a (covering anchor a) (region_findings (bytes_of image a))
+    then Region a (covering anchor a) (range_findings image (range_of a))
     else NotChecked a (expects a)
 
 -- the remaining bytes for checks after an area

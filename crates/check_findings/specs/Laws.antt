@@ -23,7 +23,7 @@ use Rattle.cbfs_walk.specs.declared.hashes.HashState.TheVariants.{Invalid}
 use Rattle.cbfs_walk.specs.CellReadings.{place_after}
 use Rattle.check_findings.specs.MapFindings.{begins_with_map, namesake}
 use Rattle.check_findings.specs.RegionFindings.{is_filled, region_findings}
-use Rattle.check_findings.specs.ImageFindings.{bytes_of, covering, image_findings, range_of}
+use Rattle.check_findings.specs.ImageFindings.{covering, entry_bytes, image_findings, range_of}
 use Rattle.check_findings.specs.ImageFindings.{region_areas}
 use Rattle.check_findings.specs.Verdicts.{changes_later, is_bad, is_bad_region, rules_of}
 use Rattle.check_findings.specs.Anchors.{image_anchor}
@@ -73,10 +73,10 @@ pub record IsWhole (anchor : Option Anchor) (x : List ℕ) : Type 0 where
   pub blank : (cut x).end ≡ tail → IsBlankTail (place_after 0 (cut x).cells) x
   pub found : (c : Component) → Contains (components x) c → component_in x c.name ≡ Ok (Some c)
 
--- its name finds the area, which is a whole region
+-- its name finds the area, and the bytes that entries can fill are a whole region
 abbrev pub IsFit : List ℕ → NumberedArea → Type 0
 IsFit x a = (region_of x (text_of a.area.name) ≡ Ok (range_of a))
-    × IsWhole (covering (image_anchor x) a) (bytes_of x a)
+    × IsWhole (covering (image_anchor x) a) (entry_bytes x a)
 
 -- P holds for each checked area of an image without bad findings
 abbrev pub InFitImages : (List ℕ → NumberedArea → Type 0) → Type 0

@@ -1,11 +1,12 @@
 -- Findings of a region.
-use Rattle.std.specs.Prelude.{ℕ, ◌+◌, ◌-◌, ◌*◌, ◌/◌, Bool, false, not, ◌||◌}
+use Rattle.std.specs.Prelude.{ℕ, ◌+◌, ◌-◌, ◌*◌, ◌/◌, ◌%◌, Bool, false, not, ◌&&◌, ◌||◌}
 use Rattle.std.specs.Prelude.{List, [], ◌∷◌, ◌++◌, drop, filter, length, map, max, slice_range}
-use Rattle.std.specs.Prelude.{Option, Some, None, nat_le, is_some, ◌==◌, if◌then◌else◌}
+use Rattle.std.specs.Prelude.{Option, Some, None, nat_le, nat_lt, is_some, ◌==◌, if◌then◌else◌}
 use Rattle.std.specs.List.{filter_map, flat_map, fold, position_from, range_with_len, scan, slice_get}
 use Rattle.std.specs.Bool.{then_some}
 use Rattle.std.specs.Option.{option_map_or}
 use Rattle.std.specs.Str.{bytes_eq}
+use Rattle.flash_device.specs.Regions.{Range, bytes_in}
 use Rattle.flash_format.specs.Head.{head_of, is_free}
 use Rattle.flash_format.specs.Made.{algorithm}
 use Rattle.flash_format.specs.Entry.{front}
@@ -176,3 +177,19 @@ marked earlier other = other
 -- of the walk, with marks
 unfoldable pub region_findings : List ℕ → List RegionFinding
 region_findings x = scan (λ earlier finding. finding ∷ earlier) marked [] (walk_findings x)
+
+-- ---- areas of any size
+
+-- the part of a range that entries can fill: up to the last multiple of 64 bytes
+abbrev pub entry_range : Range → Range
+entry_range r = record { start = r.start; size = r.size - r.size % 64 }
+
+-- the range has room for an entry, but its size is no multiple of 64
+abbrev pub is_unaligned : Range → Bool
+is_unaligned r = nat_lt 64 r.size && not (r.size % 64 == 0)
+
+-- The findings of a checked range: those of its entries, and a last one if the range is unaligned.
+-- The bytes after the last multiple of 64 have no entry.
+abbrev pub range_findings : List ℕ → Range → List RegionFinding
+range_findings image r = region_findings (bytes_in (entry_range r) image)
+    ++ only_if (is_unaligned r) findings.UnalignedSize

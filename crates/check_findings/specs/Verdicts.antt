@@ -114,8 +114,9 @@ is_bad_hash rules name c = is_bad_hash_state rules name c c.hash
 
 -- A finding of a region is bad if commands refuse the region, if an entry is damaged, if a
 -- component can't be found, has a bad digest or has attributes with a fault, or if the tail, which
--- has to be unused, has filled bytes or entries: no command lists these. That the entries end with
--- the region or with a tail, deleted components and the counts are remarks.
+-- has to be unused, has filled bytes or entries: no command lists these. A size that is no multiple
+-- of 64 is a remark, because coreboot's tools and firmware read such an area, and so is that the
+-- entries end with the region or with a tail. Deleted components and the counts are remarks too.
 abbrev pub is_bad_region : HashRules → RegionFinding → Bool
 is_bad_region rules of_region.BadSize = true
 is_bad_region rules of_region.NotCbfs = true
@@ -130,6 +131,7 @@ is_bad_region rules (of_region.Tail at) = false
 is_bad_region rules (of_region.Components n) = false
 is_bad_region rules (of_region.FreeBytes n) = false
 is_bad_region rules (of_region.LargestContent n) = false
+is_bad_region rules of_region.UnalignedSize = false
 
 -- ---- the image
 

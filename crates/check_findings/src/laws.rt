@@ -16,7 +16,7 @@ ghost use Rattle.check_findings.specs.declared.region.finding.RegionFinding.TheV
 ghost use Rattle.check_findings.specs.MapFindings.{map_findings};
 ghost use Rattle.check_findings.specs.RegionFindings.{component_content, region_findings};
 ghost use Rattle.check_findings.specs.RegionFindings.{entry_counts, tail_findings};
-ghost use Rattle.check_findings.specs.ImageFindings.{bytes_of, image_findings};
+ghost use Rattle.check_findings.specs.ImageFindings.{entry_bytes, image_findings};
 ghost use Rattle.check_findings.specs.ImageFindings.{areas_to_check, region_areas, sum_sizes};
 ghost use Rattle.check_findings.specs.declared.areas.NumberedArea.{NumberedArea};
 ghost use Rattle.check_findings.specs.declared.image.finding.ImageFinding.TheVariants.{NotChecked};
@@ -76,8 +76,8 @@ pub fn fit_regions_are_whole()
     ensures { InFitRegions IsWhole }
 {}
 
-/// In an image without bad findings, a command finds each checked area by name, and the area is a
-/// region as above.
+/// In an image without bad findings, a command finds each checked area by name, and its bytes up to
+/// the last multiple of 64 are a region as above.
 pub fn fit_images_are_whole()
     ensures { InFitImages IsFit }
 {}
@@ -96,11 +96,12 @@ pub fn two_image_lengths_are_checked()
 {}
 
 /// If the findings meet a need, a search in its area finds its component at the required position.
+/// The search ends at the area's last multiple of 64 bytes.
 pub fn needs_are_there()
     ensures { (image : List ℕ) (names expected : List (List ℕ)) (need : Need) →
         let all = image_findings image names expected in unmet all need ≡ None
         → IsSomeAnd (find (has_name need.area.now) (region_areas all)) (λ a. IsOkAnd
-        (component_in (bytes_of image a) need.name.now) (λ found. IsSomeAnd found
+        (component_in (entry_bytes image a) need.name.now) (λ found. IsSomeAnd found
         (λ c. is_met need.place (component_content c) a.area.size ≡ true))) }
 {}
 

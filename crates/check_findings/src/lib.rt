@@ -27,4 +27,6 @@ pub use laws::{
 pub use lists::{Elements, push, push_if};
 pub use map::{CheckedMap, MapFinding, check_map, is_text};
 pub use names::AreaNames;
-pub use region::{AttributeFault, Content, HashFinding, Name, RegionFinding, check_region};
+pub use region::{
+    AttributeFault, Content, HashFinding, Name, RegionFinding, check_region, entry_region,
+};

@@ -7,7 +7,7 @@ ghost use Rattle.cbfs_edit.specs.Places.{first_place, runs};
 ghost use Rattle.cbfs_edit.specs.declared.place.Spot.TheVariants.{First};
 ghost use Rattle.cbfs_edit.specs.declared.place.Wanted.{Wanted};
 ghost use Rattle.cbfs_walk.specs.Shapes.{shape_fault};
-ghost use Rattle.std.specs.Prelude.{◌≡◌, ◌↔◌, ◌≤◌, ℕ, Bool, true, Contains, List, None, Some, is_some, length};
+ghost use Rattle.std.specs.Prelude.{◌≡◌, ◌↔◌, ◌%◌, ◌≤◌, ℕ, Bool, true, Contains, List, None, Some, is_some, length};
 ghost use Rattle.cbfs_commands.specs.Outcomes.{extract_region, print_region, printed_component, printed_in};
 ghost use Rattle.cbfs_commands.specs.Outcomes.{shows};
 ghost use Rattle.cbfs_commands.specs.Rows.{rows_from};
@@ -26,9 +26,10 @@ pub fn fit_regions_are_listed()
     fit_regions_are_whole();
 }
 
-/// In an image without bad findings, `print` does so for each checked area, by name.
+/// In an image without bad findings, `print` does so for each checked area, by name, if the area's
+/// size is a multiple of 64 bytes. It refuses an area of another size.
 pub fn fit_images_are_listed()
-    ensures { InFitImages (λ image a. (verbose : Bool) →
+    ensures { InFitImages (λ image a. (verbose : Bool) → a.area.size % 64 ≡ 0 →
         printed_in image (text_of a.area.name) (λ x. print_region x verbose)
         ≡ shows (rows_from verbose 0 (cut (bytes_of image a)).cells)) }
 {
@@ -36,11 +37,11 @@ pub fn fit_images_are_listed()
 }
 
 /// In an image without bad findings, `extract` returns the content of each uncompressed component
-/// of a checked area, by both names.
+/// of a checked area, by both names, if the area's size is a multiple of 64 bytes.
 pub fn fit_images_are_extracted()
-    ensures { InFitImages (λ image a. (c : Component) → Contains (components (bytes_of image a)) c →
-        printed_in image (text_of a.area.name) (λ x. extract_region x c.name)
-        ≡ printed_component c) }
+    ensures { InFitImages (λ image a. (c : Component) → a.area.size % 64 ≡ 0 →
+        Contains (components (bytes_of image a)) c → printed_in image (text_of a.area.name)
+        (λ x. extract_region x c.name) ≡ printed_component c) }
 {
     fit_images_are_whole();
 }

@@ -9,7 +9,8 @@ ghost use Rattle.check_findings.specs.RegionFindings.{component_content};
 ghost use Rattle.std.specs.List.{find};
 ghost use Rattle.flash_map.specs.Regions.{region_of};
 ghost use Rattle.check_findings.specs.Areas.{has_name, map_areas};
-ghost use Rattle.check_findings.specs.ImageFindings.{bytes_of, image_findings, region_areas};
+ghost use Rattle.check_findings.specs.ImageFindings.{bytes_of, entry_bytes, image_findings};
+ghost use Rattle.check_findings.specs.ImageFindings.{region_areas};
 ghost use Rattle.check_findings.specs.MapFindings.{begins_with_map};
 ghost use Rattle.check_findings.specs.declared.image.needs.Need.{Need};
 ghost use Rattle.check_findings.specs.declared.image.needs.NeededPlace.TheVariants.{At};
@@ -85,7 +86,7 @@ pub fn a_small_image_is_checked()
 /// a content from byte 28 on.
 pub fn a_need_is_there()
     ensures { (need : Need) → need.area.now ≡ codes "COREBOOT" → need.name.now ≡ codes "a"
-        → need.place ≡ At 28 → IsOkAnd (component_in (bytes_of small_image coreboot_area)
+        → need.place ≡ At 28 → IsOkAnd (component_in (entry_bytes small_image coreboot_area)
         (codes "a")) (λ found. IsSomeAnd found (λ c. ((component_content c).start == 28) ≡ true)) }
 {
     needs_are_there();

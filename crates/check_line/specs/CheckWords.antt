@@ -20,7 +20,8 @@ use Rattle.check_findings.specs.Needs.{NeedBytes, need_bytes}
 use Rattle.check_findings.specs.declared.image.needs.NeededPlace.{NeededPlace}
 use Rattle.check_findings.specs.declared.image.needs.NeededPlace.TheVariants.{Any, At, End}
 use Rattle.check_line.specs.declared.fault.LineFault.{LineFault}
-use Rattle.check_line.specs.declared.fault.LineFault.TheVariants.{Word, NoImage, NoNewImage, Memory}
+use Rattle.check_line.specs.declared.fault.LineFault.TheVariants.{Word, NoImage, NoNewImage}
+use Rattle.check_line.specs.declared.fault.LineFault.TheVariants.{NestedFile, Memory}
 use Rattle.check_line.specs.declared.fault.WordFault.{WordFault}
 use Rattle.check_line.specs.declared.fault.WordFault.TheVariants as mistake
 use Rattle.check_line.specs.declared.line.Invocation.{Invocation}
@@ -79,10 +80,11 @@ need_in text = let area = before_first (λ b. b == 58) text in option_and_then
 
 -- ---- the options
 
--- a fault of accepted arguments
+-- a fault of accepted arguments, or of an option file: its path, and a line that names another one
 pub data Complaint : Type 0 where
   no_image : Complaint
   no_new_image : Complaint
+  nested : List ℕ → List ℕ → Complaint
   wrong : WordFault → List ℕ → Complaint
 
 -- between commas (44)
@@ -138,6 +140,7 @@ Gives complaint Is (Ok given) = (complaint ≡ None) × Is given
 Gives complaint Is (Err (Word fault word)) = complaint ≡ Some (wrong fault word.now)
 Gives complaint Is (Err NoImage) = complaint ≡ Some no_image
 Gives complaint Is (Err NoNewImage) = complaint ≡ Some no_new_image
+Gives complaint Is (Err (NestedFile path line)) = complaint ≡ Some (nested path.now line.now)
 Gives complaint Is (Err Memory) = ⊤
 
 -- ---- the wrong argument

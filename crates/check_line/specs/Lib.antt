@@ -1,2 +1,3 @@
 pub mod CheckWords
+pub mod OptionFiles
 pub mod Shown

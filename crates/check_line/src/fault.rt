@@ -1,7 +1,8 @@
 //! Errors of a command line.
 
 ghost use Rattle.std.specs.Prelude.{◌≡◌, ◌++◌, OnOk};
-ghost use Rattle.check_line.specs.Shown.{fault_text, mistake_text, word_text};
+ghost use Rattle.check_line.specs.Shown.{fault_text, mistake_text, nested_text};
+ghost use Rattle.check_line.specs.Shown.{word_text};
 ghost use Rattle.check_line.specs.declared.fault.LineFault.TheVariants.{Memory};
 
 use quoted_text::push_shown;
@@ -51,6 +52,8 @@ pub enum LineFault<'a> {
     NoImage,
     /// One path for an option which compares two images.
     NoNewImage,
+    /// A line of an option file that names another option file.
+    NestedFile { path: &'a str, line: &'a str },
     /// An allocation failure.
     Memory,
 }
@@ -73,6 +76,15 @@ fn push_word(out: &mut Vec<u8>, fault: WordFault, word: &str) -> Result<(), Allo
     out.extend_from_slice(b"'")
 }
 
+fn push_nested(out: &mut Vec<u8>, path: &str, line: &str) -> Result<(), AllocError>
+    ensures { OnOk result (out.new.items ≡ out.old.items ++ nested_text path.now line.now) }
+{
+    push_shown(out, path)?;
+    out.extend_from_slice(b": option files do not nest: '")?;
+    push_shown(out, line)?;
+    out.extend_from_slice(b"'")
+}
+
 impl LineFault<'_> {
     /// Appends the text of an error.
     pub fn push_text(&self, out: &mut Vec<u8>) -> Result<(), AllocError>
@@ -84,6 +96,7 @@ impl LineFault<'_> {
             LineFault::NoNewImage => {
                 out.extend_from_slice(b"--flash, --keep and --keep-preserved need two images")
             }
+            LineFault::NestedFile { path, line } => push_nested(out, path, line),
             LineFault::Memory => out.extend_from_slice(b"out of memory"),
         }
     }

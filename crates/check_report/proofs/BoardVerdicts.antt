@@ -1,5 +1,5 @@
 -- A row of a board's structure is bad if its finding is bad.
-use Rattle.std.proofs.Common.{◌≡◌, ℕ, zero, suc, Bool, true, false, List, [], ◌∷◌, map, refl}
+use Rattle.std.proofs.Common.{◌≡◌, zero, suc, Bool, true, false, List, [], ◌∷◌, map, refl}
 use Rattle.std.specs.List.{list_any}
 use Rattle.board_structures.specs.declared.descriptor.Descriptor.{Descriptor}
 use Rattle.board_structures.specs.declared.descriptor.Descriptor.TheVariants as descriptors
@@ -25,7 +25,6 @@ use Rattle.board_structures.specs.ResetVectors as of_vector
 use Rattle.board_structures.specs.SignedSlots as of_slot
 use Rattle.board_findings.specs.declared.finding.BoardFinding.{BoardFinding}
 use Rattle.board_findings.specs.declared.finding.BoardFinding.TheVariants as found
-use Rattle.board_findings.specs.declared.finding.HeaderFinding.{HeaderFinding}
 use Rattle.board_findings.specs.Verdicts.{is_bad}
 use Rattle.check_report.specs.declared.rows.row.Verdict.TheVariants.{Bad}
 use Rattle.check_report.specs.Rows.{has_verdict}

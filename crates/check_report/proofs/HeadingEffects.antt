@@ -6,7 +6,7 @@ use Rattle.json.specs.Token.{begin_array, end_array, key}
 use Rattle.flash_device.specs.declared.sink.Sink.{Ghosts as SinkOf}
 use Rattle.check_report.specs.declared.fault.WriteFault.{WriteFault}
 use Rattle.check_report.specs.declared.request.Files.{Files}
-use Rattle.check_report.specs.declared.rows.form.Form.{Form}
+use Rattle.check_report.specs.declared.rows.form.LineForm.{LineForm}
 use Rattle.check_report.specs.declared.rows.printer.Printer.{Printer}
 use Rattle.check_report.specs.Fields.{Line}
 use Rattle.check_report.specs.Reports.{first_fields, follows_after, heading, part, parts, start_tokens}
@@ -15,11 +15,11 @@ use Rattle.check_report.proofs.PrinterEffects.{prints_after, prints_before}
 use Rattle.check_report.proofs.ReportParts.{opening}
 
 -- lines after a printer's state
-lines_from : {W : Type 0} (sink : SinkOf W) (result : Result (Unit {0}) WriteFault) (start new : Printer W) (lines : List Line) (f : Form) (b : Bool) → f ≡ start.form → b ≡ start.follows
+lines_from : {W : Type 0} (sink : SinkOf W) (result : Result (Unit {0}) WriteFault) (start new : Printer W) (lines : List Line) (f : LineForm) (b : Bool) → f ≡ start.form → b ≡ start.follows
     → PrintsLines sink result start new lines → Prints sink result start new (parts f b lines) (follows_after b lines)
-lines_from sink result start new lines f b form follows list = rw (form, follows) list
+lines_from sink result start new lines f b form follows list = rw (form, follows) list.prints
 
-between_from : {W : Type 0} (sink : SinkOf W) (result : Result (Unit {0}) WriteFault) (listed new : Printer W) (f : Form) → f ≡ listed.form
+between_from : {W : Type 0} (sink : SinkOf W) (result : Result (Unit {0}) WriteFault) (listed new : Printer W) (f : LineForm) → f ≡ listed.form
     → Prints sink result listed new (part listed.form false [] (end_array ∷ key (codes "rows") ∷ begin_array ∷ [])) false
     → Prints sink result listed new (part f false [] (end_array ∷ key (codes "rows") ∷ begin_array ∷ [])) false
 between_from sink result listed new f form between = rw form between
@@ -44,4 +44,4 @@ module _ {W : Type 0} (sink : SinkOf W) (files : Files) (lines : List Line) (old
       → Prints sink (Ok tt) old start (part old.form false [] (start_tokens (first_fields files None) (codes "components"))) false → PrintsLines sink (Ok tt) start listed lines
       → Prints sink result listed new (part listed.form false [] (end_array ∷ key (codes "rows") ∷ begin_array ∷ [])) false → Prints sink result old new (heading old.form files (Some lines)) false
   heading_whole result listed new begun list between = rw (← opening old.form files lines)
-      (prints_after sink result old listed new _ false _ _ (listed_after (Ok tt) listed begun list) (between_from sink result listed new old.form (sym (list.printed.form ∙ begun.printed.form)) between))
+      (prints_after sink result old listed new _ false _ _ (listed_after (Ok tt) listed begun list) (between_from sink result listed new old.form (sym (list.prints.printed.form ∙ begun.printed.form)) between))

@@ -8,3 +8,7 @@ mod BoardVerdicts
 mod PrinterEffects
 mod HeadingEffects
 mod StructureVerdicts
+mod TableEffects
+mod TableLines
+mod TableLaws
+mod VerdictRows

@@ -15,11 +15,14 @@ use Rattle.json.proofs.Printed.Tokens.{print_from-append}
 use Rattle.flash_format.specs.Texts.{line_feed}
 use Rattle.check_report.specs.declared.request.Files.{Files}
 use Rattle.check_report.specs.declared.rows.conclusion.Conclusion.{Conclusion}
-use Rattle.check_report.specs.declared.rows.form.Form.{Form}
-use Rattle.check_report.specs.declared.rows.form.Form.TheVariants as forms
+use Rattle.check_report.specs.declared.rows.form.LineForm.{LineForm}
+use Rattle.check_report.specs.declared.rows.form.LineForm.TheVariants as forms
 use Rattle.check_report.specs.Fields.{Line, SeenField, field, line_json, line_text, members}
-use Rattle.check_report.specs.Reports.{conclusion_fields, document, ending, first_fields, follows_after, heading, in_form, json_report, lines_value, member_tokens, part, parts, start_tokens, text_report}
+use Rattle.check_report.specs.Reports.{closing, conclusion_fields, conclusion_style, hidden_remarks, document, ending, first_fields, follows_after, heading, in_form, json_report, lines_value, member_tokens, part, parts, start_tokens, text_of_line, text_report, widths_after}
 use Rattle.check_report.specs.Rows.{summary}
+use Rattle.check_report.specs.Tables.{cells, painted, widened}
+use Rattle.check_report.specs.declared.rows.form.Colours.{Colours}
+use Rattle.check_report.specs.declared.request.Asked.{Asked}
 use Rattle.check_report.proofs.Tokens.{fields_tokens, object_tokens}
 
 -- a value just ended after these tokens
@@ -48,17 +51,21 @@ ended_lines b (line ∷ lines) = fold-append (λ _ t. ends t) b (json_tokens (li
     ∙ ap (λ c. ended c (lines_tokens lines)) (ended_members false (members line.fields)) ∙ ended_lines true lines ∙ still_follows lines
 
 -- lines after lines
-pub parts_append : (form : Form) (b : Bool) (xs ys : List Line) → parts form b (xs ++ ys) ≡ parts form b xs ++ parts form (follows_after b xs) ys
+pub parts_append : (form : LineForm) (b : Bool) (xs ys : List Line) → parts form b (xs ++ ys) ≡ parts form b xs ++ parts form (follows_after b xs) ys
 parts_append forms.Text b xs ys = flat_map-append line_text xs ys
+parts_append forms.Ruler b xs ys = flat_map-append (λ line. []) xs ys
+parts_append (forms.Table columns) b xs ys = flat_map-append (text_of_line (forms.Table columns)) xs ys
 parts_append forms.Json b xs ys =
     ap (λ js. print_from b (flat_map json_tokens js)) (map-append line_json xs ys)
     ∙ ap (print_from b) (flat_map-append json_tokens (map line_json xs) (map line_json ys))
     ∙ print_from-append b (lines_tokens xs) (lines_tokens ys)
     ∙ ap (λ c. print_from b (lines_tokens xs) ++ print_from c (lines_tokens ys)) (ended_lines b xs)
 
-pub no_parts : (form : Form) (b : Bool) → parts form b [] ≡ []
+pub no_parts : (form : LineForm) (b : Bool) → parts form b [] ≡ []
 unfolding print_from
 no_parts forms.Text b = refl
+no_parts forms.Ruler b = refl
+no_parts (forms.Table columns) b = refl
 no_parts forms.Json b = refl
 
 -- an object after a value
@@ -89,20 +96,28 @@ array_text fields name lines rest =
     (after _ rest)
 
 -- the part before the rows
-pub opening : (form : Form) (files : Files) (lines : List Line)
+pub opening : (form : LineForm) (files : Files) (lines : List Line)
     → (part form false [] (start_tokens (first_fields files None) (codes "components")) ++ parts form false lines) ++ part form false [] (end_array ∷ key (codes "rows") ∷ begin_array ∷ [])
     ≡ heading form files (Some lines)
 opening forms.Text files lines = append-nil (flat_map line_text lines)
+opening forms.Ruler files lines = append-nil (flat_map (text_of_line forms.Ruler) lines)
+opening (forms.Table columns) files lines = append-nil (flat_map (text_of_line (forms.Table columns)) lines)
 opening forms.Json files lines = let rest : List Token = key (codes "rows") ∷ begin_array ∷ [] in
     sym (array_text (first_fields files None) (codes "components") lines rest) ∙ sym (ap print (fields_tokens (first_fields files None) [] (codes "components") lines rest))
 
 regroup : (a b c d : List ℕ) → a ++ (b ++ (c ++ d)) ≡ ((a ++ b) ++ c) ++ d
 regroup a b c d = simp append_assoc
 
-pub whole : (form : Form) (files : Files) (list : Option (List Line)) (rows : List Line) (end : Conclusion)
+text_whole : (form : LineForm) (list : Option (List Line)) (rows : List Line) (end : Conclusion)
+    → option_map_or (flat_map (text_of_line form)) list [] ++ (flat_map (text_of_line form) rows ++ (summary end ++ line_feed)) ≡ text_report (text_of_line form) list rows end ++ line_feed
+text_whole form list rows end = regroup (option_map_or (flat_map (text_of_line form)) list []) (flat_map (text_of_line form) rows) (summary end) line_feed
+
+pub whole : (form : LineForm) (files : Files) (list : Option (List Line)) (rows : List Line) (end : Conclusion)
     → heading form files list ++ (parts form false rows ++ ending form end)
-    ≡ in_form form (text_report list rows end) (json_report files list rows end) ++ line_feed
-whole forms.Text files list rows end = regroup (option_map_or (flat_map line_text) list []) (flat_map line_text rows) (summary end) line_feed
+    ≡ in_form form (text_report (text_of_line form) list rows end) (json_report files list rows end) ++ line_feed
+whole forms.Text files list rows end = text_whole forms.Text list rows end
+whole forms.Ruler files list rows end = text_whole forms.Ruler list rows end
+whole (forms.Table columns) files list rows end = text_whole (forms.Table columns) list rows end
 whole forms.Json files list rows end =
     let first : List SeenField = first_fields files list in
     let rest : List Token = flat_map member_tokens (conclusion_fields end) ++ end_object ∷ [] in
@@ -111,6 +126,22 @@ whole forms.Json files list rows end =
     regroup (print (start_tokens first (codes "rows"))) (parts forms.Json false rows) (print (end_array ∷ rest)) line_feed
     ∙ ap (λ l. l ++ line_feed) (sym (array_text first (codes "rows") rows rest) ∙ sym (ap print tokens))
 
+-- the measured widths after lines and further lines
+pub widths_after-append : (form : LineForm) (ws : List ℕ) (xs ys : List Line) → widths_after form ws (xs ++ ys) ≡ widths_after form (widths_after form ws xs) ys
+widths_after-append forms.Text ws xs ys = refl
+widths_after-append forms.Json ws xs ys = refl
+widths_after-append (forms.Table columns) ws xs ys = refl
+widths_after-append forms.Ruler ws xs ys = fold-append (λ ws line. widened ws (cells line)) ws xs ys
+
+pub no_widths_after : (form : LineForm) (ws : List ℕ) → widths_after form ws [] ≡ ws
+no_widths_after forms.Text ws = refl
+no_widths_after forms.Json ws = refl
+no_widths_after (forms.Table columns) ws = refl
+no_widths_after forms.Ruler ws = refl
+
 -- an ending has bytes
-pub some_ending : (form : Form) (end : Conclusion) → 0 < length (ending form end)
+pub some_ending : (form : LineForm) (end : Conclusion) → 0 < length (ending form end)
 some_ending form end = omega (arith, length-append (part form false (summary end) (end_array ∷ flat_map member_tokens (conclusion_fields end) ++ end_object ∷ [])) line_feed)
+
+pub some_closing : (colours : Colours) (asked : Asked) (end : Conclusion) → 0 < length (closing colours asked end)
+some_closing colours asked end = omega (arith, length-append (hidden_remarks (if asked.is_verbose then 0 else end.counts.remarks) ++ painted colours (conclusion_style end) (summary end)) line_feed)

@@ -1,5 +1,5 @@
 -- The effects of printers and writers of rows.
-use Rattle.std.specs.Prelude.{◌≡◌, ℕ, ◌+◌, ◌≤◌, Bool, false, List, ◌++◌, Option, take}
+use Rattle.std.specs.Prelude.{◌≡◌, ℕ, ◌+◌, ◌≤◌, Bool, List, ◌++◌, Option, take}
 use Rattle.std.specs.Prelude.{Result, IfOk, OnErr, OnOk, map}
 use Rattle.std.specs.Io.KnownBytes.{Appends}
 use Rattle.std.specs.declared.alloc.AllocError.{AllocError}
@@ -13,10 +13,10 @@ use Rattle.check_report.specs.declared.rows.writer.RowWriter.{RowWriter}
 use Rattle.check_report.specs.declared.rows.conclusion.Subject.{Subject}
 use Rattle.check_report.specs.declared.rows.printer.Printer.{Printer}
 use Rattle.check_report.specs.Fields.{Line}
-use Rattle.check_report.specs.Rows.{SeenRow, conclusion_of, counts_of, kinds_of, report_lines}
-use Rattle.check_report.specs.Rows.{has_bad}
-use Rattle.check_report.specs.Rows.{row_line, seen_kind, shown_rows}
-use Rattle.check_report.specs.Reports.{ending, follows_after, parts}
+use Rattle.check_report.specs.Rows.{SeenRow, conclusion_of, counts_of, kinds_of, has_bad}
+use Rattle.check_report.specs.Rows.{seen_kind, selected_lines, shown_lines}
+use Rattle.check_report.specs.Reports.{ending, follows_after, parts, widths_after}
+use Rattle.check_report.specs.declared.rows.writer.Selection.{Selection}
 
 -- the number of failed sink calls in a fault
 abbrev pub by_sink : WriteFault → ℕ
@@ -39,34 +39,39 @@ module _ {W : Type 0} (sink : SinkOf W) where
     pub form : new.form ≡ old.form
     pub follows : new.follows ≡ is_next
 
+  -- The lines have been printed, and measured if the form is a ruler.
+  pub record HasLines (old new : Printer W) (lines : List Line) : Type 0 where
+    pub printed : HasPrinted old new
+        (parts old.form old.follows lines) (follows_after old.follows lines)
+    pub widths : new.widths.items ≡ widths_after old.form old.widths.items lines
+
   -- The writer's kinds, counts and printed lines since the start are correct for these rows.
-  pub record HasWritten (start : Printer W) (verbose : Bool) (rows : List SeenRow)
+  pub record HasWritten (start : Printer W) (selection : Selection) (rows : List SeenRow)
       (writer : RowWriter W) : Type 0 where
-    pub is_verbose : writer.is_verbose ≡ verbose
+    pub same : writer.selection ≡ selection
     pub kinds : map seen_kind writer.kinds.items ≡ kinds_of rows
     pub counts : writer.counts ≡ counts_of rows
-    pub printed : let lines = map row_line (shown_rows verbose rows) in HasPrinted start
-        writer.printer (parts start.form false lines) (follows_after false lines)
+    pub lines : HasLines start writer.printer (shown_lines selection rows)
 
   -- Since the start, a prefix of the shown rows has been printed, perhaps all of them.
-  abbrev pub HasPartOf : Printer W → Bool → List SeenRow → RowWriter W → Type 0
-  HasPartOf start verbose rows writer =
+  abbrev pub HasPartOf : Printer W → Selection → List SeenRow → RowWriter W → Type 0
+  HasPartOf start selection rows writer =
       AppendsPrefix (sink.contents start.out) (sink.contents writer.printer.out)
-      (parts start.form false (map row_line (shown_rows verbose rows)))
+      (parts start.form start.follows (shown_lines selection rows))
 
   -- A successful call prints the ending, and tells whether a row is bad. After a fault, the rows
   -- and the ending are incomplete.
   pub record Ends (subject : Subject) (result : Result Bool WriteFault) (old new : RowWriter W)
       : Type 0 where
-    pub ended : IfOk result (λ bad. (start : Printer W) (verbose : Bool) (rows : List SeenRow)
-        → HasWritten start verbose rows old → (bad ≡ has_bad rows)
+    pub ended : IfOk result (λ bad. (start : Printer W) (selection : Selection)
+        (rows : List SeenRow) → HasWritten start selection rows old → (bad ≡ has_bad rows)
         × Appends (sink.contents start.out) (sink.contents new.printer.out)
-        (parts start.form false (report_lines verbose rows)
+        (parts start.form start.follows (selected_lines selection rows)
         ++ ending start.form (conclusion_of subject rows)))
-    pub stopped : OnErr result ((start : Printer W) (verbose : Bool) (rows : List SeenRow)
-        → HasWritten start verbose rows old
+    pub stopped : OnErr result ((start : Printer W) (selection : Selection) (rows : List SeenRow)
+        → HasWritten start selection rows old
         → AppendsPart (sink.contents start.out) (sink.contents new.printer.out)
-        (parts start.form false (report_lines verbose rows)
+        (parts start.form start.follows (selected_lines selection rows)
         ++ ending start.form (conclusion_of subject rows)))
     pub cause : sink.faults old.printer.out + fault_count by_sink result
         ≤ sink.faults new.printer.out
@@ -80,16 +85,25 @@ module _ {W : Type 0} (sink : SinkOf W) where
           OnErr result (AppendsPrefix (sink.contents old.out) (sink.contents new.out) bytes)
       pub cause : sink.faults old.out + fault_count by_sink result ≤ sink.faults new.out
 
-    abbrev pub PrintsLines : Printer W → Printer W → List Line → Type 0
-    PrintsLines old new lines =
-        Prints old new (parts old.form old.follows lines) (follows_after old.follows lines)
+    -- a successful call puts the bytes into the sink, any other call a prefix
+    pub record Puts (old new : W) (bytes : List ℕ) : Type 0 where
+      pub put : OnOk result (Appends (sink.contents old) (sink.contents new) bytes)
+      pub stopped : OnErr result (AppendsPrefix (sink.contents old) (sink.contents new) bytes)
+      pub cause : sink.faults old + fault_count by_sink result ≤ sink.faults new
+
+    -- a successful call also measures the lines, if the form is a ruler
+    pub record PrintsLines (old new : Printer W) (lines : List Line) : Type 0 where
+      pub prints :
+          Prints old new (parts old.form old.follows lines) (follows_after old.follows lines)
+      pub widths : OnOk result (new.widths.items ≡ widths_after old.form old.widths.items lines)
 
     -- A successful call adds the rows to any rows, and any other call prints a prefix of them; a
     -- reported fault of the sink occurred.
     pub record Adds (old new : RowWriter W) (more : List SeenRow) : Type 0 where
-      pub added : OnOk result ((start : Printer W) (verbose : Bool) (rows : List SeenRow)
-          → HasWritten start verbose rows old → HasWritten start verbose (rows ++ more) new)
-      pub stopped : OnErr result ((start : Printer W) (verbose : Bool) (rows : List SeenRow)
-          → HasWritten start verbose rows old → HasPartOf start verbose (rows ++ more) new)
+      pub added : OnOk result ((start : Printer W) (selection : Selection) (rows : List SeenRow)
+          → HasWritten start selection rows old → HasWritten start selection (rows ++ more) new)
+      pub stopped : OnErr result ((start : Printer W) (selection : Selection)
+          (rows : List SeenRow) → HasWritten start selection rows old
+          → HasPartOf start selection (rows ++ more) new)
       pub cause : sink.faults old.printer.out + fault_count by_sink result
           ≤ sink.faults new.printer.out

@@ -1,9 +1,9 @@
 -- Fields as text and JSON. This project defines the text.
 use Rattle.std.specs.Prelude.{ℕ, List, [], ◌∷◌, ◌++◌, Option, Some, None, map}
-use Rattle.std.specs.Prelude.{if◌then◌else◌}
+use Rattle.std.specs.Prelude.{if◌then◌else◌, ◌-◌, false, length, replicate}
 use Rattle.std.specs.List.{flat_map}
 use Rattle.std.specs.Option.{option_map_or}
-use Rattle.std.specs.Fmt.{decimal}
+use Rattle.std.specs.Fmt.{decimal, digits}
 use Rattle.std.specs.Str.{is_utf8}
 use lib.Chars.{codes}
 use Prim.Native.String.{String}
@@ -40,6 +40,11 @@ name_json name = if is_utf8 name then string name else array (items (map number_
 abbrev pub name_value : List ℕ → SeenValue
 name_value name = record { text = Some (printed_name name); json = Some (name_json name) }
 
+-- eight hexadecimal digits, or more for a number from 2^32 on
+abbrev pub place_text : ℕ → List ℕ
+place_text n = let number = digits 16 false n in
+    codes "0x" ++ replicate (8 - length number) 0x30 ++ number
+
 abbrev pub seen_value : Value → SeenValue
 seen_value values.Absent = record { text = None; json = None }
 seen_value values.Dash = record { text = Some (codes "-"); json = None }
@@ -49,6 +54,7 @@ seen_value (values.Name name) = name_value name.now
 seen_value (values.Count n) = record { text = Some (decimal n); json = Some (number_json n) }
 seen_value (values.Offset n) = record { text = Some (hexadecimal n); json = Some (number_json n) }
 seen_value (values.Hexadecimal n) = text_value (hexadecimal n)
+seen_value (values.Place n) = record { text = Some (place_text n); json = Some (number_json n) }
 
 -- ---- fields
 

@@ -25,6 +25,7 @@ use Rattle.check_findings.specs.declared.region.finding.RegionFinding.TheVariant
 use Rattle.check_findings.specs.declared.region.finding.RegionFinding.TheVariants.{Tail}
 use Rattle.check_findings.specs.declared.region.finding.RegionFinding.TheVariants.{TailEntry}
 use Rattle.check_findings.specs.declared.region.finding.RegionFinding.TheVariants.{TailFilled}
+use Rattle.check_findings.specs.declared.region.finding.RegionFinding.TheVariants.{UnalignedSize}
 use Rattle.check_findings.specs.declared.map.finding.MapFinding.{MapFinding}
 use Rattle.check_findings.specs.declared.map.finding.MapFinding.TheVariants as of_map
 use Rattle.check_findings.specs.declared.image.finding.ImageFinding.{ImageFinding}
@@ -122,7 +123,8 @@ damage_text kinds.AttrLength = codes "damaged entry: attribute length"
 -- the row of a finding that isn't a component
 abbrev pub plain_row : RegionFinding → Option SeenRow
 plain_row (Component at name shadowed content) = None
-plain_row BadSize = Some (row Bad "region-size" "size is 0 or no multiple of 64")
+plain_row BadSize = Some (row Bad "region-size" "size is less than 64")
+plain_row UnalignedSize = Some (row Remark "region-unaligned" "size is no multiple of 64")
 plain_row NotCbfs = Some (row Bad "no-cbfs" "no CBFS")
 plain_row (Deleted at) = Some (row_at at (row Remark "component-deleted" "deleted component"))
 plain_row Complete = Some (row Remark "complete" "complete")

@@ -1,10 +1,13 @@
 pub mod Fields
+pub mod Tables
 pub mod Rows
 pub mod AnchorRows
 pub mod AttributeRows
 pub mod FindingRows
 pub mod BoardRows
 pub mod StructureRows
+pub mod SlotChanges
 pub mod ChangeRows
+pub mod AreaLines
 pub mod Reports
 pub mod Effects

@@ -1,10 +1,11 @@
 -- A report: a list of components on request, rows, and a conclusion. JSON is one document
--- (RFC 8259).
+-- (RFC 8259). A report for a terminal has tables, and begins with the areas of the flash map.
 -- This project defines the choice and order of components and rows.
 use Rattle.std.specs.Prelude.{ℕ, List, [], ◌∷◌, ◌++◌, map, is_none, if◌then◌else◌, Option, false}
-use Rattle.std.specs.Prelude.{◌&&◌, ◌%◌, ◌==◌, filter, nat_le, not, Bool, true, ◌≡◌, None}
+use Rattle.std.specs.Prelude.{◌&&◌, ◌==◌, filter, not, Bool, true, ◌≡◌, None}
 use Rattle.std.specs.Prelude.{IsSomeAnd}
-use Rattle.std.specs.Prelude.{MatchOption, length}
+use Rattle.std.specs.Prelude.{MatchOption, length, suc, zero}
+use Rattle.std.specs.Fmt.{decimal}
 use Rattle.std.specs.List.{flat_map, list_any}
 use Rattle.std.specs.Option.{option_map, option_map_or, option_copied, option_to_list}
 use lib.Chars.{codes}
@@ -21,10 +22,11 @@ use Rattle.check_report.specs.Fields.{text_value}
 use Rattle.check_report.specs.Fields.{line_text, items, json_value, line_json, members}
 use Rattle.check_report.specs.Rows.{SeenRow, area_name, conclusion_of, report_lines, summary}
 use Rattle.check_report.specs.Rows.{verdict_text}
-use Rattle.check_report.specs.Rows.{names_in, row}
+use Rattle.check_report.specs.Rows.{names_in, row, row_line, rows_by_verdict}
 use Rattle.check_report.specs.declared.rows.row.Verdict.TheVariants.{Bad, Remark}
 use Rattle.check_report.specs.FindingRows.{finding_rows, hash_words, missing_row, need_rows}
 use Rattle.check_report.specs.BoardRows.{board_rows}
+use Rattle.check_report.specs.SlotChanges.{mapped, outdated_row, outdated_slots}
 use Rattle.check_report.specs.StructureRows.{structure_row}
 use Rattle.board_findings.specs.BoardFindings.{board_findings}
 use Rattle.board_findings.specs.Structures.{lost_structures}
@@ -35,6 +37,7 @@ use Rattle.check_report.specs.ChangeRows.{anchor_change_row, area_change_rows, i
 use Rattle.check_report.specs.ChangeRows.{region_change_rows}
 use Rattle.check_report.specs.declared.request.Request.{Request}
 use Rattle.check_report.specs.declared.inspection.Changes.{Changes}
+use Rattle.check_report.specs.declared.inspection.Comparison.{Comparison}
 use Rattle.check_report.specs.declared.inspection.Inspection.{Inspection}
 use Rattle.check_report.specs.declared.inspection.OldImage.{OldImage}
 use Rattle.std.specs.Bool.{then_some}
@@ -46,8 +49,17 @@ use Rattle.check_report.specs.declared.request.Files.{Files}
 use Rattle.check_report.specs.declared.rows.conclusion.Conclusion.{Conclusion}
 use Rattle.check_report.specs.declared.rows.conclusion.Subject.{Subject}
 use Rattle.check_report.specs.declared.rows.conclusion.Subject.TheVariants as subjects
+use Rattle.check_report.specs.declared.rows.form.Colours.{Colours}
 use Rattle.check_report.specs.declared.rows.form.Form.{Form}
 use Rattle.check_report.specs.declared.rows.form.Form.TheVariants as forms
+use Rattle.check_report.specs.declared.rows.form.LineForm.{LineForm}
+use Rattle.check_report.specs.declared.rows.form.LineForm.TheVariants as lines
+use Rattle.check_report.specs.declared.rows.style.Style.{Style}
+use Rattle.check_report.specs.declared.rows.style.Style.TheVariants as styles
+use Rattle.check_report.specs.declared.request.Asked.{Asked}
+use Rattle.check_report.specs.Tables.{painted, table, table_line, widened_all}
+use Rattle.check_report.specs.AreaLines.{area_lines}
+pub use Rattle.check_report.specs.AreaLines.{is_preserved}
 use Rattle.flash_map.specs.Fmap.{found_in}
 use Rattle.check_findings.specs.Areas.{image_areas}
 use Rattle.check_findings.specs.ImageFindings.{cbfs_areas, image_findings}
@@ -85,23 +97,39 @@ abbrev pub document : Files → Option (List Line) → List Line → Conclusion 
 document files list rows end = object (members
     (first_fields files list ++ field "rows" (lines_value rows) ∷ conclusion_fields end))
 
--- the report as text: the list on request, the rows and the conclusion
-abbrev pub text_report : Option (List Line) → List Line → Conclusion → List ℕ
-text_report list rows end =
-    option_map_or (flat_map line_text) list [] ++ flat_map line_text rows ++ summary end
+-- the report as text: the list on request, the rows and the conclusion, by the text of a line
+abbrev pub text_report : (Line → List ℕ) → Option (List Line) → List Line → Conclusion → List ℕ
+text_report text list rows end =
+    option_map_or (flat_map text) list [] ++ flat_map text rows ++ summary end
 
 -- the report as JSON: one document
 abbrev pub json_report : Files → Option (List Line) → List Line → Conclusion → List ℕ
 json_report files list rows end = print (json_tokens (document files list rows end))
 
--- the bytes of a form
-abbrev pub in_form : Form → List ℕ → List ℕ → List ℕ
-in_form forms.Text text json = text
-in_form forms.Json text json = json
+-- the bytes of a form of lines
+abbrev pub in_form : LineForm → List ℕ → List ℕ → List ℕ
+in_form lines.Json text json = json
+in_form lines.Text text json = text
+in_form lines.Ruler text json = text
+in_form (lines.Table columns) text json = text
 
--- a part of a report in either form: text, or tokens after another value or not
-abbrev pub part : Form → Bool → List ℕ → List Token → List ℕ
+-- a part of a report in any form: text, or tokens after another value or not
+abbrev pub part : LineForm → Bool → List ℕ → List Token → List ℕ
 part form follows text tokens = in_form form text (print_from follows tokens)
+
+-- the text of a line, which a ruler only measures
+abbrev pub text_of_line : LineForm → Line → List ℕ
+text_of_line (lines.Table columns) line = table_line columns.colours columns.widths.items line
+text_of_line lines.Ruler line = []
+text_of_line lines.Text line = line_text line
+text_of_line lines.Json line = line_text line
+
+-- the widths of the measured columns after lines, which change by a ruler only
+abbrev pub widths_after : LineForm → List ℕ → List Line → List ℕ
+widths_after lines.Ruler ws lines = widened_all ws lines
+widths_after lines.Text ws lines = ws
+widths_after lines.Json ws lines = ws
+widths_after (lines.Table columns) ws lines = ws
 
 -- ---- its parts
 
@@ -116,20 +144,20 @@ start_tokens fields name =
     begin_object ∷ flat_map member_tokens fields ++ key name ∷ begin_array ∷ []
 
 -- the part before the rows
-abbrev pub heading : Form → Files → Option (List Line) → List ℕ
-heading form files list = part form false (option_map_or (flat_map line_text) list [])
+abbrev pub heading : LineForm → Files → Option (List Line) → List ℕ
+heading form files list = part form false (option_map_or (flat_map (text_of_line form)) list [])
     (start_tokens (first_fields files list) (codes "rows"))
 
-abbrev pub parts : Form → Bool → List Line → List ℕ
-parts form follows lines =
-    part form follows (flat_map line_text lines) (flat_map json_tokens (map line_json lines))
+abbrev pub parts : LineForm → Bool → List Line → List ℕ
+parts form follows lines = part form follows (flat_map (text_of_line form) lines)
+    (flat_map json_tokens (map line_json lines))
 
 -- after a line, the next line follows another line
 abbrev pub follows_after : Bool → List Line → Bool
 follows_after follows [] = follows
 follows_after follows (line ∷ lines) = true
 
-abbrev pub ending : Form → Conclusion → List ℕ
+abbrev pub ending : LineForm → Conclusion → List ℕ
 ending form c = part form false (summary c)
     (end_array ∷ flat_map member_tokens (conclusion_fields c) ++ end_object ∷ []) ++ line_feed
 
@@ -165,13 +193,13 @@ listed request i = then_some request.asked.lists (flat_map components_in i.findi
 abbrev pub areas_or : OldImage → List NumberedArea → List NumberedArea
 areas_or old news = if is_none old.map.found then news else old.map.areas.items
 
--- the area has the flag PRESERVE, bit 3
-abbrev pub is_preserved : NumberedArea → Bool
-is_preserved a = nat_le 8 (a.area.flags % 16)
+-- of the structures that are lost, and of the slots with outdated signatures
+abbrev pub structure_rows : Comparison → List SeenRow
+structure_rows c = map structure_row c.structures.items ++ map outdated_row c.outdated.items
 
-module _ (request : Request) (c : Changes) where
+module _ (request : Request) (news : List NumberedArea) (c : Changes) where
   abbrev pub both_areas : List NumberedArea
-  both_areas = areas_or c.old c.new_areas.items ++ c.new_areas.items
+  both_areas = areas_or c.old news ++ news
 
   -- the given names and, on request, names of areas with the flag PRESERVE
   abbrev pub kept_names : List (List ℕ)
@@ -201,7 +229,7 @@ module _ (request : Request) (c : Changes) where
       (((((image_rows new.old_len new.new_len new.blocks
       ++ map (map_change_row request.is_strict) new.map.items)
       ++ option_to_list (option_map anchor_change_row new.anchor))
-      ++ map structure_row new.structures.items)
+      ++ structure_rows new)
       ++ flat_map (area_change_rows kept_names vital) new.areas.items)
       ++ flat_map (region_change_rows kept_names) new.regions.items) ++ absent_rows
 
@@ -209,43 +237,87 @@ module _ (request : Request) (c : Changes) where
 abbrev pub inspection_rows : Request → Inspection → List SeenRow
 inspection_rows request i = ((finding_rows request.asked request.areas.now i.findings.items
     ++ need_rows i.findings.items request.needs.now) ++ board_rows i.board.items)
-    ++ option_map_or (change_rows request) i.changes []
+    ++ option_map_or (change_rows request i.areas.items) i.changes []
 
--- the report in the form of the request, and a line feed
-unfoldable pub report : Request → Inspection → List ℕ
-report request i = let list = listed request i in let rows = inspection_rows request i in
+-- the report by lines, as text or JSON, and a line feed
+unfoldable pub lines_report : LineForm → Request → Inspection → List ℕ
+lines_report form request i = let list = listed request i in
+    let rows = inspection_rows request i in
     let lines = report_lines request.asked.is_verbose rows in
     let end = conclusion_of (subject_of request) rows in
-    in_form request.form (text_report list lines end) (json_report request.files list lines end)
-    ++ line_feed
+    in_form form (text_report (text_of_line form) list lines end)
+    (json_report request.files list lines end) ++ line_feed
+
+-- ---- the report for a terminal
+
+-- the numbers of aligned columns: word, place, size, flags and name of an area; word, area, name,
+-- position, type, length and compression of a component; verdict, area, component and position of
+-- a row
+abbrev pub area_columns : ℕ
+area_columns = 5
+
+abbrev pub component_columns : ℕ
+component_columns = 7
+
+abbrev pub row_columns : ℕ
+row_columns = 4
+
+-- how many remarks a report without -v hides
+abbrev pub hidden_remarks : ℕ → List ℕ
+hidden_remarks zero = []
+hidden_remarks (suc zero) = codes "1 remark is not shown: -v shows it\n"
+hidden_remarks n = decimal n ++ codes " remarks are not shown: -v shows them\n"
+
+abbrev pub conclusion_style : Conclusion → Style
+conclusion_style c = if c.counts.bad == 0 then styles.Good else styles.Bad
+
+-- the lines after the tables
+abbrev pub closing : Colours → Asked → Conclusion → List ℕ
+closing colours asked c = hidden_remarks (if asked.is_verbose then 0 else c.counts.remarks)
+    ++ painted colours (conclusion_style c) (summary c) ++ line_feed
+
+-- the areas, the components on request, and the rows by verdict
+abbrev pub tables : Colours → Request → Inspection → List ℕ
+tables colours request i = let rows = inspection_rows request i in
+    (table colours area_columns (area_lines i)
+    ++ option_map_or (table colours component_columns) (listed request i) [])
+    ++ table colours row_columns (map row_line (rows_by_verdict request.asked.is_verbose rows))
+
+-- the tables, the number of hidden remarks, and the conclusion
+unfoldable pub terminal_report : Colours → Request → Inspection → List ℕ
+terminal_report colours request i =
+    let end = conclusion_of (subject_of request) (inspection_rows request i) in
+    tables colours request i ++ closing colours request.asked end
+
+-- the report in the form of the request
+abbrev pub report_in : Form → Request → Inspection → List ℕ
+report_in forms.Text request i = lines_report lines.Text request i
+report_in forms.Json request i = lines_report lines.Json request i
+report_in (forms.Terminal colours) request i = terminal_report colours request i
+
+unfoldable pub report : Request → Inspection → List ℕ
+report request i = report_in request.form request i
 
 -- ---- the result of a check, on honest devices
 
--- the structures of an image's board, by the findings of the image
-abbrev pub board_of : List ℕ → List ImageFinding → List BoardFinding
-board_of image findings = board_findings (record {
-  image = image;
-  areas = image_areas image;
-  findings = findings;
-})
-
--- of an old image, whose check is asked for no area and expects none
-abbrev pub old_board : List ℕ → List BoardFinding
-old_board x = board_of x (image_findings x [] [])
+-- about the structures of an image's board
+abbrev pub board_of : List ℕ → List BoardFinding
+board_of image = board_findings (record { image = image; areas = image_areas image })
 
 -- the changes from x to y, by the findings of y
 pub record AreChanges (x y : List ℕ) (findings : List ImageFinding) (c : Changes) : Type 0 where
   pub old_map : c.old.map.found ≡ found_in x
   pub old_areas : c.old.map.areas.items ≡ image_areas x
   pub old_regions : c.old.regions.items ≡ cbfs_areas x (image_areas x)
-  pub new_areas : c.new_areas.items ≡ image_areas y
   pub old_len : c.comparison.old_len ≡ length x
   pub new_len : c.comparison.new_len ≡ length y
   pub blocks : c.comparison.blocks ≡ different_blocks x y
   pub map : c.comparison.map.items ≡ map_changes (found_in x) (found_in y)
   pub anchor : c.comparison.anchor ≡ anchor_change (image_anchor x) (image_anchor y)
   pub structures : c.comparison.structures.items
-      ≡ lost_structures (old_board x) (board_of y findings)
+      ≡ lost_structures (board_of x) (board_of y)
+  pub outdated : c.comparison.outdated.items ≡ outdated_slots
+      (mapped x (areas_or c.old (image_areas y))) (mapped y (image_areas y)) (board_of y)
   pub areas : c.comparison.areas.items
       ≡ area_changes x (areas_or c.old (image_areas y)) y (image_areas y)
   pub regions : c.comparison.regions.items
@@ -256,6 +328,7 @@ pub record Checks (r : Request) (old : Option (List ℕ)) (y : List ℕ) (i : In
   pub findings : i.findings.items ≡ image_findings y (names_in r.areas.now)
       (map (λ need. need.area.now) r.needs.now
       ++ option_map_or (λ x. map area_name (cbfs_areas x (image_areas x))) old [])
-  pub board : i.board.items ≡ board_of y i.findings.items
+  pub areas : i.areas.items ≡ image_areas y
+  pub board : i.board.items ≡ board_of y
   pub changes : MatchOption old (i.changes ≡ None)
       (λ x. IsSomeAnd i.changes (AreChanges x y i.findings.items))

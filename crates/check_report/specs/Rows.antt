@@ -1,6 +1,6 @@
 -- Rows, their lines and their limits.
 use Rattle.std.specs.Prelude.{ℕ, ◌-◌, ◌==◌, nat_lt, List, [], ◌∷◌, ◌++◌, Bool, true, false, ◌&&◌, ◌||◌}
-use Rattle.std.specs.Prelude.{count_by, map, if◌then◌else◌}
+use Rattle.std.specs.Prelude.{count_by, filter, map, if◌then◌else◌, Option, Some, None}
 use Rattle.flash_format.specs.Flashmap.{text_of}
 use Rattle.check_findings.specs.declared.areas.NumberedArea.{NumberedArea}
 use Rattle.std.specs.List.{flat_map, list_any}
@@ -16,6 +16,7 @@ use Rattle.check_report.specs.declared.rows.kinds.Kind.{Kind}
 use Rattle.check_report.specs.declared.rows.row.Verdict.{Verdict}
 use Rattle.check_report.specs.declared.rows.row.Verdict.TheVariants as verdicts
 use Rattle.check_report.specs.declared.rows.row.Row.{Row}
+use Rattle.check_report.specs.declared.rows.writer.Selection.{Selection}
 use Rattle.check_report.specs.declared.rows.kinds.Counts.{Counts}
 use Rattle.check_report.specs.declared.rows.conclusion.Conclusion.{Conclusion}
 use Rattle.check_report.specs.declared.rows.conclusion.Subject.{Subject}
@@ -187,6 +188,34 @@ abbrev pub more_of : SeenKind → List SeenRow
 more_of kind = only_if (nat_lt 16 kind.count)
     (with_count (kind.count - 16) (row_of kind.verdict kind.code (codes "more of these")))
 
+-- the rows of a report: the shown rows, and a row for the hidden rows of each kind
+abbrev pub report_rows : Bool → List SeenRow → List SeenRow
+report_rows is_verbose rows =
+    shown_rows is_verbose rows ++ flat_map more_of (if is_verbose then [] else kinds_of rows)
+
 abbrev pub report_lines : Bool → List SeenRow → List Line
-report_lines is_verbose rows = map row_line
-    (shown_rows is_verbose rows ++ flat_map more_of (if is_verbose then [] else kinds_of rows))
+report_lines is_verbose rows = map row_line (report_rows is_verbose rows)
+
+-- ---- rows by verdict
+
+-- the row has the verdict, if one is selected
+abbrev pub is_selected : Option Verdict → SeenRow → Bool
+is_selected None row = true
+is_selected (Some verdict) row = has_verdict verdict row
+
+abbrev pub selected : Option Verdict → List SeenRow → List SeenRow
+selected only rows = filter (is_selected only) rows
+
+-- the lines of the selected rows that are shown
+abbrev pub shown_lines : Selection → List SeenRow → List Line
+shown_lines s rows = map row_line (selected s.only (shown_rows s.is_verbose rows))
+
+-- the lines of the selected rows of a report
+abbrev pub selected_lines : Selection → List SeenRow → List Line
+selected_lines s rows = map row_line (selected s.only (report_rows s.is_verbose rows))
+
+-- the rows of a report by verdict: bad rows, then changes, then remarks on request
+abbrev pub rows_by_verdict : Bool → List SeenRow → List SeenRow
+rows_by_verdict is_verbose rows = let all = report_rows is_verbose rows in
+    (selected (Some verdicts.Bad) all ++ selected (Some verdicts.Change) all)
+    ++ (if is_verbose then selected (Some verdicts.Remark) all else [])

@@ -8,17 +8,18 @@ ghost use Rattle.check_findings.specs.Faults.{by_device};
 ghost use Rattle.check_findings.specs.ImageFindings as of;
 ghost use Rattle.check_findings.specs.Lists.{GivesPart};
 ghost use Rattle.check_changes.specs.Images.{HasReadFor, OnBoth, lengths};
-ghost use Rattle.check_report.specs.Reports.{Checks, old_board};
+ghost use Rattle.check_report.specs.Reports.{Checks, board_of};
 
 use crate::inspection::{Changes, Comparison, Inspection, OldImage};
 use crate::names::{need_areas, with_areas};
 use crate::request::Request;
+use crate::slot_changes::outdated_slots;
 use board_findings::{BoardFinding, check_board, lost_structures};
 use cbfs_anchor::Anchor;
 use check_changes::{
     Areas, ChangeFault, Images, anchor_change, image_changes, map_changes, region_changes,
 };
-use check_findings::{CheckFault, ImageMap, cbfs_areas, check_image};
+use check_findings::{CheckFault, cbfs_areas, check_anchor, check_image, image_map};
 use flash_device::{Flash, Paged};
 use std::alloc::Global;
 use std::hash::RandomState;
@@ -31,16 +32,12 @@ pub struct OldFindings {
     pub board: Vec<BoardFinding>,
 }
 
-/// Checks the structures of an old image. The hash keys don't change the result. Returns `Device`
-/// exactly if the device refused a read.
-fn old_findings<F: Flash>(
-    alloc: Global,
-    keys: RandomState,
-    paged: &mut Paged<F>,
-) -> Result<OldFindings, CheckFault>
+/// Reads the flash map, the anchor and the structures of an old image. No digest of a content is
+/// computed. Returns `Device` exactly if the device refused a read.
+fn old_findings<F: Flash>(alloc: Global, paged: &mut Paged<F>) -> Result<OldFindings, CheckFault>
     // On any device.
-    ensures after { HasReadBy by_device (2 * length paged.old.device.content
-        + length paged.old.device.content / 32 + 60) paged.old paged.new result }
+    ensures after { HasReadBy by_device (length paged.old.device.content + 56)
+        paged.old paged.new result }
 
     // On an honest device.
     ensures map { GivesPart paged.old result (λ old. old.image.map.found) found_in }
@@ -48,18 +45,15 @@ fn old_findings<F: Flash>(
     ensures regions { GivesPart paged.old result (λ old. old.image.regions.items)
         (λ x. of.cbfs_areas x (image_areas x)) }
     ensures anchor { GivesPart paged.old result (λ old. old.anchor) image_anchor }
-    ensures board { GivesPart paged.old result (λ old. old.board.items) old_board }
+    ensures board { GivesPart paged.old result (λ old. old.board.items) board_of }
 {
-    let checked = check_image(alloc, keys, paged, &[], &[])?;
-    let board = check_board(alloc, paged, &checked.areas, &checked.findings)?;
-    let regions = cbfs_areas(alloc, paged, &checked.areas)?;
-    let map = ImageMap {
-        found: checked.found,
-        areas: checked.areas,
-    };
+    let map = image_map(alloc, paged)?;
+    let anchor = check_anchor(alloc, paged, map.found)?.anchor;
+    let board = check_board(alloc, paged, &map.areas)?;
+    let regions = cbfs_areas(alloc, paged, &map.areas)?;
     Ok(OldFindings {
         image: OldImage { map, regions },
-        anchor: checked.anchor,
+        anchor,
         board,
     })
 }
@@ -73,13 +67,13 @@ pub fn inspect_change<F: Flash, G: Flash>(
     request: Request<'_>,
 ) -> Result<Inspection, ChangeFault>
     // On any devices.
-    ensures after { HasReadFor (3 * (lengths images.old).old + (lengths images.old).new / 2 + 64)
+    ensures after { HasReadFor (2 * (lengths images.old).old + (lengths images.old).new / 2 + 64)
         (3 * (lengths images.old).new + 72) images.old images.new result }
 
     // On honest devices.
     ensures checked { OnBoth images.old (λ x y. IfOk result (Checks request.entry (Some x) y)) }
 {
-    let old = old_findings(alloc, keys, &mut images.old_image).map_err(ChangeFault::of_old)?;
+    let old = old_findings(alloc, &mut images.old_image).map_err(ChangeFault::of_old)?;
 
     let needed = need_areas(alloc, request.needs)?;
     let expected = with_areas(alloc, &needed, &old.image.regions)?;
@@ -87,7 +81,7 @@ pub fn inspect_change<F: Flash, G: Flash>(
     let checked = checked.map_err(ChangeFault::of_new)?;
     drop(expected);
     let new_image = &mut images.new_image;
-    let board = check_board(alloc, new_image, &checked.areas, &checked.findings);
+    let board = check_board(alloc, new_image, &checked.areas);
     let board = board.map_err(ChangeFault::of_new)?;
     let structures = lost_structures(alloc, &old.board, &board)?;
 
@@ -98,6 +92,7 @@ pub fn inspect_change<F: Flash, G: Flash>(
     };
     let map = map_changes(alloc, old.image.map.found, checked.found)?;
     let changes = image_changes(alloc, images, areas)?;
+    let outdated = outdated_slots(alloc, images, areas, &board)?;
     let regions = region_changes(alloc, keys, images, old_areas, &checked.findings)?;
     let comparison = Comparison {
         old_len: images.old_image.len(),
@@ -106,16 +101,17 @@ pub fn inspect_change<F: Flash, G: Flash>(
         map,
         anchor: anchor_change(old.anchor, checked.anchor),
         structures,
+        outdated,
         areas: changes.areas,
         regions,
     };
     Ok(Inspection {
+        areas: checked.areas,
         findings: checked.findings,
         board,
         changes: Some(Changes {
             comparison,
             old: old.image,
-            new_areas: checked.areas,
         }),
     })
 }

@@ -33,9 +33,10 @@ pub fn inspect_image<F: Flash>(
     let expected = need_areas(alloc, request.needs)?;
     let checked = check_image(alloc, keys, paged, request.areas, &expected);
     let checked = checked.map_err(ChangeFault::of_new)?;
-    let board = check_board(alloc, paged, &checked.areas, &checked.findings);
+    let board = check_board(alloc, paged, &checked.areas);
     let board = board.map_err(ChangeFault::of_new)?;
     Ok(Inspection {
+        areas: checked.areas,
         findings: checked.findings,
         board,
         changes: None,

@@ -3,7 +3,7 @@ ghost use Rattle.std.specs.Prelude.{◌≡◌, ◌+◌, ◌≤◌, false, OnErr,
 ghost use Rattle.std.specs.Io.KnownBytes.{Appends};
 ghost use Rattle.flash_device.specs.Device.{AppendsPart, fault_count};
 ghost use Rattle.check_report.specs.Reports.{areas_or, change_rows, inspection_rows, listed};
-ghost use Rattle.check_report.specs.Reports.{report};
+ghost use Rattle.check_report.specs.Reports.{lines_report, report, structure_rows};
 ghost use Rattle.flash_device.specs.Pages.{Returns};
 ghost use Rattle.check_report.specs.Reports.{heading};
 ghost use Rattle.check_report.specs.Rows.{has_bad};
@@ -19,9 +19,10 @@ use crate::findings::{add_findings, add_needs};
 use crate::kept::add_absent;
 use crate::names::{KnownNames, kept_names, with_areas};
 use crate::request::Request;
-use crate::rows::{Printer, RowWriter};
+use crate::rows::{Form, LineForm, Printer, RowWriter};
+use crate::slot_changes::add_outdated_slots;
 use crate::structures::add_lost_structures;
-use board_findings::{BoardFinding, Structure};
+use board_findings::{BoardFinding, Slot, Structure};
 use check_changes::{AnchorChange, AreaChange, MapChange, RegionChange};
 use check_findings::{ImageFinding, ImageMap, NumberedArea};
 use flash_device::Sink;
@@ -38,6 +39,8 @@ pub struct Comparison {
     pub anchor: Option<AnchorChange>,
     /// The structures of the board that the old image has, and the new one has not.
     pub structures: Vec<Structure>,
+    /// The slots whose signed bytes changed, but not their signatures.
+    pub outdated: Vec<Slot>,
     pub areas: Vec<AreaChange>,
     pub regions: Vec<RegionChange>,
 }
@@ -62,41 +65,55 @@ impl OldImage {
     }
 }
 
-/// The changes from an old image, and the areas of the new image.
+/// The changes from an old image.
 #[derive(Drop)]
 pub struct Changes {
     pub comparison: Comparison,
     pub old: OldImage,
-    pub new_areas: Vec<NumberedArea>,
 }
 
 /// The findings of an image and of its board's structures, and its changes, if any.
 #[derive(Drop)]
 pub struct Inspection {
+    /// The areas of the image's flash map.
+    pub areas: Vec<NumberedArea>,
     pub findings: Vec<ImageFinding>,
     pub board: Vec<BoardFinding>,
     pub changes: Option<Changes>,
+}
+
+/// Adds the rows of the structures that are lost, and of the slots with outdated signatures.
+fn add_structure_changes<W: Sink + Drop>(
+    rows: &mut RowWriter<W>,
+    found: &Comparison,
+) -> Result<(), WriteFault>
+    ensures { Adds W.Sink result rows.old rows.new (structure_rows found.now) }
+{
+    add_lost_structures(rows, &found.structures)?;
+    add_outdated_slots(rows, &found.outdated)
 }
 
 fn add_changes<W: Sink + Drop>(
     alloc: Global,
     rows: &mut RowWriter<W>,
     request: Request<'_>,
+    new_areas: &[NumberedArea],
     changes: &Changes,
 ) -> Result<(), WriteFault>
-    ensures { Adds W.Sink result rows.old rows.new (change_rows request.entry changes.now) }
+    ensures { Adds W.Sink result rows.old rows.new
+        (change_rows request.entry new_areas.now changes.now) }
 {
-    let kept = KnownNames::of(alloc, kept_names(alloc, request, changes)?)?;
+    let kept = KnownNames::of(alloc, kept_names(alloc, request, new_areas, changes)?)?;
     let vital = with_areas(alloc, &kept.names, &changes.old.regions)?;
     let vital = KnownNames::of(alloc, vital)?;
     let found = &changes.comparison;
     add_image_changes(rows, found.old_len, found.new_len, found.blocks)?;
     add_map_changes(rows, request.is_strict, &found.map)?;
     add_anchor_change(rows, found.anchor)?;
-    add_lost_structures(rows, &found.structures)?;
+    add_structure_changes(rows, found)?;
     add_area_changes(rows, &kept, &vital, &found.areas)?;
     add_region_changes(rows, &kept, &found.regions)?;
-    add_absent(rows, request, changes)
+    add_absent(rows, request, new_areas, changes)
 }
 
 /// A sink after a report, and the result.
@@ -108,7 +125,8 @@ pub struct WrittenReport<W> {
 }
 
 impl Inspection {
-    fn add_rows<W: Sink + Drop>(
+    /// Adds the rows of findings, needs, structures and changes, in order.
+    pub(crate) fn add_rows<W: Sink + Drop>(
         &self,
         alloc: Global,
         request: Request<'_>,
@@ -120,7 +138,7 @@ impl Inspection {
         add_needs(rows, &self.findings, request.needs)?;
         add_board(rows, &self.board)?;
         match &self.changes {
-            Some(changes) => add_changes(alloc, rows, request, changes),
+            Some(changes) => add_changes(alloc, rows, request, &self.areas, changes),
             None => Ok(()),
         }
     }
@@ -142,9 +160,9 @@ impl Inspection {
         }
     }
 
-    /// Writes the report row by row, after the list of components on request. Returns the sink, and
-    /// whether a row is bad, or a fault: `Output` only if the sink failed, `Memory` if an
-    /// allocation failed. After a fault, the sink received a proper prefix of the report.
+    /// Writes the report in the form of the request, row by row. Returns the sink, and whether a
+    /// row is bad, or a fault: `Output` only if the sink failed, `Memory` if an allocation failed.
+    /// After a fault, the sink received a proper prefix of the report.
     pub fn write<W: Sink + Drop>(
         &self,
         alloc: Global,
@@ -158,7 +176,29 @@ impl Inspection {
             (report request.entry self.now)) }
         ensures cause { W.faults out + fault_count by_sink result.is_bad ≤ W.faults result.out }
     {
-        let mut printer = Printer::new(alloc, request.form, out);
+        match request.form {
+            Form::Text => self.write_lines(alloc, LineForm::Text, request, out),
+            Form::Json => self.write_lines(alloc, LineForm::Json, request, out),
+            Form::Terminal(colours) => self.write_tables(alloc, colours, request, out),
+        }
+    }
+
+    /// Writes the report line by line, after the list of components on request.
+    fn write_lines<W: Sink + Drop>(
+        &self,
+        alloc: Global,
+        form: LineForm,
+        request: Request<'_>,
+        out: W,
+    ) -> WrittenReport<W>
+        ensures bad { Returns result.is_bad (has_bad (inspection_rows request.entry self.now)) }
+        ensures text { OnOk result.is_bad (Appends (W.contents out) (W.contents result.out)
+            (lines_report form request.entry self.now)) }
+        ensures part { OnErr result.is_bad (AppendsPart (W.contents out) (W.contents result.out)
+            (lines_report form request.entry self.now)) }
+        ensures cause { W.faults out + fault_count by_sink result.is_bad ≤ W.faults result.out }
+    {
+        let mut printer = Printer::new(alloc, form, out);
         if let Err(fault) = self.print_heading(request, &mut printer) {
             return WrittenReport {
                 out: printer.out,
@@ -171,7 +211,7 @@ impl Inspection {
             Err(fault) => Err(fault),
         };
         WrittenReport {
-            out: rows.printer.out,
+            out: rows.into_inner(),
             is_bad,
         }
     }

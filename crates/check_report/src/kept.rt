@@ -37,11 +37,12 @@ fn is_there(old_areas: &[NumberedArea], new_areas: &[NumberedArea], name: &[u8])
 fn add_missing<W: Sink + Drop>(
     rows: &mut RowWriter<W>,
     request: Request<'_>,
+    new_areas: &[NumberedArea],
     changes: &Changes,
 ) -> Result<(), WriteFault>
-    ensures { Adds W.Sink result rows.old rows.new (missing_rows request.entry changes.now) }
+    ensures { Adds W.Sink result rows.old rows.new
+        (missing_rows request.entry new_areas.now changes.now) }
 {
-    let new_areas = changes.new_areas.as_slice();
     let old_areas = changes.old.areas_or(new_areas);
     for name in request.kept {
         let missing = missing_row(Value::Name(name));
@@ -58,11 +59,10 @@ fn has_preserved(old_areas: &[NumberedArea], new_areas: &[NumberedArea]) -> bool
 }
 
 /// Returns whether areas with the flag PRESERVE must not change, and neither image has one.
-fn lacks_preserved(request: Request<'_>, changes: &Changes) -> bool
+fn lacks_preserved(request: Request<'_>, new_areas: &[NumberedArea], changes: &Changes) -> bool
     ensures { result ≡ (request.entry.keeps_preserved
-        && not (list_any is_preserved (both_areas request.entry changes.now))) }
+        && not (list_any is_preserved (both_areas request.entry new_areas.now changes.now))) }
 {
-    let new_areas = changes.new_areas.as_slice();
     let has_some = has_preserved(changes.old.areas_or(new_areas), new_areas);
     request.keeps_preserved && !has_some
 }
@@ -79,12 +79,14 @@ fn is_strict_without_names(request: Request<'_>) -> bool
 pub fn add_absent<W: Sink + Drop>(
     rows: &mut RowWriter<W>,
     request: Request<'_>,
+    new_areas: &[NumberedArea],
     changes: &Changes,
 ) -> Result<(), WriteFault>
-    ensures { Adds W.Sink result rows.old rows.new (absent_rows request.entry changes.now) }
+    ensures { Adds W.Sink result rows.old rows.new
+        (absent_rows request.entry new_areas.now changes.now) }
 {
-    add_missing(rows, request, changes)?;
+    add_missing(rows, request, new_areas, changes)?;
     let verdict = Verdict::of_finding(is_strict_without_names(request));
     let none = verdict.row("none-preserved", "no area has the flag PRESERVE");
-    rows.add_if(lacks_preserved(request, changes), none)
+    rows.add_if(lacks_preserved(request, new_areas, changes), none)
 }

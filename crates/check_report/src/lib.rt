@@ -5,6 +5,7 @@
 #![tactic(auto)]
 
 mod anchor;
+mod area_lines;
 mod areas;
 mod attributes;
 mod board;
@@ -21,7 +22,9 @@ mod names;
 mod region;
 mod request;
 mod rows;
+mod slot_changes;
 mod structures;
+mod tables;
 
 pub use change_inspection::inspect_change;
 pub use check_changes::Images;
@@ -29,6 +32,6 @@ pub use check_findings::{Need, NeededPlace};
 pub use fault::{ReportFault, WriteFault};
 pub use image_inspection::inspect_image;
 pub use inspection::{Changes, Comparison, Inspection, OldImage, WrittenReport};
-pub use laws::rows_tell_what_is_bad;
+pub use laws::{columns_are_aligned, rows_tell_what_is_bad, terminals_show_the_rows_of_the_text};
 pub use request::{Asked, Files, Request};
-pub use rows::Form;
+pub use rows::{Colours, Form};

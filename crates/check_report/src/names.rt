@@ -78,11 +78,12 @@ fn is_preserved_if(keeps_preserved: bool, area: &NumberedArea) -> bool
 pub fn kept_names<'a>(
     alloc: Global,
     request: Request<'a>,
+    new_areas: &'a [NumberedArea],
     changes: &'a Changes,
 ) -> Result<Vec<&'a [u8]>, AllocError>
-    ensures { IfOk result (λ names. names_in names.items ≡ kept_names request.entry changes.now) }
+    ensures { IfOk result (λ names. names_in names.items
+        ≡ kept_names request.entry new_areas.now changes.now) }
 {
-    let new_areas = changes.new_areas.as_slice();
     let areas = changes.old.areas_or(new_areas).iter().chain(new_areas);
     let areas = areas.filter(|area| is_preserved_if(request.keeps_preserved, area));
     let names = areas.map(|area| area.area.text());

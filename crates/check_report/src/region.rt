@@ -121,7 +121,8 @@ fn plain_row<'a>(finding: &RegionFinding) -> Option<Row<'a>>
     let (bad, remark) = (Verdict::Bad, Verdict::Remark);
     let row = match finding {
         RegionFinding::Component { .. } => return None,
-        RegionFinding::BadSize => bad.row("region-size", "size is 0 or no multiple of 64"),
+        RegionFinding::BadSize => bad.row("region-size", "size is less than 64"),
+        RegionFinding::UnalignedSize => remark.row("region-unaligned", "size is no multiple of 64"),
         RegionFinding::NotCbfs => bad.row("no-cbfs", "no CBFS"),
         RegionFinding::Deleted { at } => {
             remark.row("component-deleted", "deleted component").at(*at)

@@ -405,6 +405,7 @@ const REPORT: &[u8] = b"sound: 0 bad, 0 remarks, 0 changes\n";
 
 fn reports_once(rt: &(impl Abort + AllocGlobal), manner: Manner) -> bool {
     let inspection = Inspection {
+        areas: Vec::new(rt.alloc()),
         findings: Vec::new(rt.alloc()),
         board: Vec::new(rt.alloc()),
         changes: None,
@@ -444,6 +445,7 @@ fn reports_text(rt: &(impl Abort + AllocGlobal), text: &[u8], manner: Manner) ->
     let end = text.len().saturating_sub(AFTER_PATH.len());
     let path = text.get(BEFORE_PATH.len()..end).unwrap_or(&[]);
     let inspection = Inspection {
+        areas: Vec::new(rt.alloc()),
         findings: Vec::new(rt.alloc()),
         board: Vec::new(rt.alloc()),
         changes: None,

@@ -97,7 +97,9 @@ fn same_range<F: Flash, G: Flash>(
     same_bytes(images, RegionPair { old, new })
 }
 
-fn same_bytes<F: Flash, G: Flash>(
+/// Returns whether two regions of one size have the same bytes. It ends at the first different
+/// block. Returns `OldDevice` or `NewDevice` exactly if that device refused a read.
+pub fn same_bytes<F: Flash, G: Flash>(
     images: &mut Images<F, G>,
     regions: RegionPair,
 ) -> Result<bool, ChangeFault>

@@ -7,4 +7,5 @@ mod listing;
 mod region_comparison;
 
 pub use change::{ComponentChange, ComponentDifference};
+pub use comparison::same_bytes;
 pub use region_comparison::component_changes;

@@ -1,20 +1,33 @@
 //! The changes of each region's components.
-ghost use Rattle.std.specs.Prelude.{◌≡◌, ◌-◌, ◌*◌, ◌≤◌, ◌++◌, List, length, OnOk};
+ghost use Rattle.std.specs.Prelude.{◌≡◌, ◌+◌, ◌-◌, ◌*◌, ◌^◌, ◌<◌, ◌≤◌, ◌++◌, List, length, OnOk};
 ghost use Rattle.check_findings.specs.ImageFindings.{region_area, region_areas, sum_sizes};
 ghost use Rattle.check_findings.specs.declared.areas.NumberedArea.{NumberedArea};
 ghost use Rattle.check_changes.specs.Images.{OnBoth, lengths};
-ghost use Rattle.check_changes.specs.Regions.{HasReadAreas, region_changes, region_changes_in};
+ghost use Rattle.check_changes.specs.Regions.{HasReadAreas, entry_ranges, region_changes, region_changes_in};
 ghost use Rattle.flash_device.specs.Pages.{Lists};
 
 use crate::areas::{AreaPair, NamedAreas};
 use crate::components::component_changes;
 use crate::fault::ChangeFault;
-use crate::images::{Images, taken};
+use crate::images::{Images, RegionPair, taken};
 use crate::regions::change::{ComponentChanges, RegionChange};
-use check_findings::{ImageFinding, NumberedArea, push, push_if};
+use check_findings::{ImageFinding, NumberedArea, entry_region, push, push_if};
 use flash_device::Flash;
 use std::alloc::Global;
 use std::hash::RandomState;
+
+/// Returns the parts of two regions that entries can fill.
+fn entry_regions(regions: RegionPair) -> RegionPair
+    requires old { regions.old.start + regions.old.size < 2 ^ 64 }
+    requires new { regions.new.start + regions.new.size < 2 ^ 64 }
+
+    ensures { result ≡ entry_ranges regions }
+{
+    RegionPair {
+        old: entry_region(regions.old),
+        new: entry_region(regions.new),
+    }
+}
 
 /// Pushes the changes of a region's components from the first old area of its name, if any. A
 /// comparison subtracts the old area's size from `left`.
@@ -48,7 +61,7 @@ fn push_changes<'a, F: Flash, G: Flash>(
         let change = RegionChange::NotCompared(*area);
         return Ok(push_if(changes, pair.old.is_some(), change)?);
     };
-    let found = component_changes(alloc, keys, images, regions)?;
+    let found = component_changes(alloc, keys, images, entry_regions(regions))?;
     let change = RegionChange::Compared {
         area: *area,
         changes: ComponentChanges::new(found),

@@ -24,8 +24,8 @@ use Rattle.check_findings.proofs.MapLemmas.Sound.{named, none_of}
 use Rattle.check_findings.specs.declared.image.finding.ImageFinding.{ImageFinding}
 use Rattle.check_findings.specs.declared.image.finding.ImageFinding.TheVariants.{Anchor as OfAnchor, Map, NotChecked}
 use Rattle.check_findings.specs.declared.anchor.finding.AnchorFinding.{AnchorFinding}
-use Rattle.check_findings.specs.RegionFindings.{region_findings}
-use Rattle.check_findings.specs.ImageFindings.{areas_findings, has_smaller, bytes_of, covering, has_one_of, image_findings, is_wanted, left_after, range_of}
+use Rattle.check_findings.specs.RegionFindings.{range_findings, region_findings}
+use Rattle.check_findings.specs.ImageFindings.{areas_findings, has_smaller, covering, entry_bytes, has_one_of, image_findings, is_wanted, left_after, range_of}
 use Rattle.check_findings.specs.Laws.{InFitImages, IsFit}
 use Rattle.check_findings.specs.ImageFindings.{region_areas}
 use Rattle.check_findings.specs.Verdicts.{is_bad, is_bad_anchor, is_bad_map, is_bad_region, rules_of}
@@ -73,13 +73,15 @@ module _ (needs : Bool) (image : List ℕ) (expects : NumberedArea → Bool) whe
       rest : List ImageFinding
       rest = areas_findings image (image_anchor image) expects (left_after left a) areas
 
-      go : (checked : Bool) → region_of image (text_of a.area.name) ≡ Ok (range_of a) → list_any (is_bad needs) (cond checked (Region a (covering (image_anchor image) a) (region_findings (bytes_of image a))) (NotChecked a (expects a)) ∷ rest) ≡ false
-          → (list_any (is_bad needs) rest ≡ false → All (IsFit image) (region_areas rest)) → All (IsFit image) (region_areas (cond checked (Region a (covering (image_anchor image) a) (region_findings (bytes_of image a))) (NotChecked a (expects a)) ∷ rest))
+      go : (checked : Bool) → region_of image (text_of a.area.name) ≡ Ok (range_of a) → list_any (is_bad needs) (cond checked (Region a (covering (image_anchor image) a) (range_findings image (range_of a))) (NotChecked a (expects a)) ∷ rest) ≡ false
+          → (list_any (is_bad needs) rest ≡ false → All (IsFit image) (region_areas rest)) → All (IsFit image) (region_areas (cond checked (Region a (covering (image_anchor image) a) (range_findings image (range_of a))) (NotChecked a (expects a)) ∷ rest))
       go false is fit later = later (or_parts (expects a) _ fit).1
       go true is fit later =
-          let x = bytes_of image a in
-          let good = or_parts (list_any (is_bad_region (rules_of needs (covering (image_anchor image) a))) (region_findings x)) _ fit in
-          All-cons (IsFit image) a (region_areas rest) (is, fit_region needs (covering (image_anchor image) a) x good.0) (later good.1)
+          let x = entry_bytes image a in
+          let bad = is_bad_region (rules_of needs (covering (image_anchor image) a)) in
+          let good = or_parts (list_any bad (range_findings image (range_of a))) _ fit in
+          let entries = none_of bad (region_findings x) _ good.0 in
+          All-cons (IsFit image) a (region_areas rest) (is, fit_region needs (covering (image_anchor image) a) x entries.0) (later good.1)
 
 -- ---- the image
 

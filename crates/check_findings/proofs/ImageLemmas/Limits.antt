@@ -13,10 +13,10 @@ use Rattle.check_findings.specs.declared.image.finding.ImageFinding.TheVariants.
 use Rattle.check_findings.specs.declared.map.finding.MapFinding.{MapFinding}
 use Rattle.check_findings.specs.Anchors.{anchor_findings, image_anchor}
 use Rattle.check_findings.specs.Areas.{has_name, image_areas}
-use Rattle.check_findings.specs.ImageFindings.{areas_findings, areas_to_check, bytes_of, covering, expects, image_findings, left_after, missing_name, region_areas, sum_sizes}
+use Rattle.check_findings.specs.ImageFindings.{areas_findings, areas_to_check, covering, expects, image_findings, left_after, missing_name, range_of, region_areas, sum_sizes}
 use Rattle.check_findings.specs.Lists.{only_if}
 use Rattle.check_findings.specs.MapFindings.{map_findings}
-use Rattle.check_findings.specs.RegionFindings.{region_findings}
+use Rattle.check_findings.specs.RegionFindings.{range_findings}
 use Rattle.check_findings.proofs.ImageLemmas.Regions.{head_findings, regions_of}
 
 sum_sizes-cons : (a : NumberedArea) (areas : List NumberedArea) → sum_sizes (a ∷ areas) ≡ a.area.size + sum_sizes areas
@@ -36,7 +36,7 @@ module _ (image : List ℕ) (anchor : Option Anchor) (named : NumberedArea → B
 
   -- of an area, by whether it fits
   abbrev first : NumberedArea → Bool → ImageFinding
-  first b fits = cond fits (Region b (covering anchor b) (region_findings (bytes_of image b))) (NotChecked b (named b))
+  first b fits = cond fits (Region b (covering anchor b) (range_findings image (range_of b))) (NotChecked b (named b))
 
   -- more than the remaining bytes
   abbrev IsOver : ℕ → List NumberedArea → NumberedArea → Type 0

@@ -2,8 +2,9 @@
 use lib.Chars.{codes}
 use Rattle.std.proofs.Common.{◌≡◌, ℕ, ◌+◌, Bool, true, false, cond, List, [], ◌∷◌, ◌++◌, length, Option, Some, None, Ok, refl, sym, ap, subst, ◌∙◌, append_assoc, append-nil, arith}
 use Rattle.std.specs.Prelude.{◌*◌, nat_le, All}
-use Rattle.std.proofs.lemmas.List.Elements.{All-head, All-tail, All-weaker}
-use Rattle.std.specs.List.{enumerate_from, flat_map}
+use Rattle.std.proofs.lemmas.List.Elements.{All-head, All-tail, All-weaker, filter_map-append}
+use Rattle.std.specs.List.{enumerate_from, filter_map, flat_map}
+use Rattle.check_findings.specs.Lists.{only_if}
 use Rattle.std.specs.Option.{option_map}
 use Rattle.std.proofs.lemmas.Grind.{common_steps}
 use Rattle.flash_format.specs.Cut.{cut}
@@ -13,20 +14,18 @@ use Rattle.cbfs_walk.specs.Shapes.{shape_fault}
 use Rattle.cbfs_walk.specs.CellReadings.{place_after}
 use Rattle.cbfs_walk.specs.declared.walk.WalkFault.{WalkFault}
 use Rattle.cbfs_walk.specs.declared.walk.WalkFault.TheVariants as walk
-use Rattle.check_findings.specs.RegionFindings.{cells_findings, component_content, content_named, count_findings, end_findings, first_content, marked, entry_counts, region_findings, shape_findings, walk_findings}
+use Rattle.check_findings.specs.RegionFindings.{cells_findings, component_content, content_named, count_findings, end_findings, first_content, marked, entry_counts, is_unaligned, range_findings, region_findings, shape_findings, walk_findings}
 use Rattle.check_findings.proofs.RegionLemmas.PartNames.{all_marked}
 use Rattle.flash_format.specs.Flashmap.{is_area}
 use Rattle.check_findings.specs.Needs.{is_met, unmet, unmet_by_content}
 use Rattle.check_findings.specs.declared.image.needs.Need.{Need}
-use Rattle.check_findings.specs.declared.image.needs.NeedFinding.TheVariants.{Missing, Elsewhere}
-use Rattle.std.specs.Bool.{then_some}
+use Rattle.check_findings.specs.declared.image.needs.NeedFinding.TheVariants.{Missing}
 use Rattle.std.specs.Option.{option_map_or}
-use Rattle.std.specs.Prelude.{not}
 use Rattle.std.specs.Prelude.{IsOkAnd, IsSomeAnd}
 use Rattle.std.specs.List.{find}
 use Rattle.check_findings.specs.Areas.{has_name}
 use Rattle.check_findings.specs.Anchors.{anchor_findings, image_anchor}
-use Rattle.check_findings.specs.ImageFindings.{areas_findings, bytes_of, covering, has_one_of, image_findings, left_after, missing_name, wanted_areas}
+use Rattle.check_findings.specs.ImageFindings.{areas_findings, covering, entry_bytes, has_one_of, image_findings, left_after, missing_name, range_of, wanted_areas}
 use Rattle.check_findings.specs.ImageFindings.{region_areas}
 use Rattle.check_findings.specs.MapFindings.{map_findings}
 use Rattle.check_findings.specs.Areas.{image_areas}
@@ -36,14 +35,14 @@ use Rattle.check_findings.specs.declared.image.finding.ImageFinding.TheVariants.
 use Rattle.check_findings.specs.declared.image.needs.NeedFinding.TheVariants.{Missing}
 use Rattle.check_findings.specs.declared.region.finding.Content.{Content}
 use Rattle.check_findings.specs.declared.region.finding.RegionFinding.{RegionFinding}
-use Rattle.check_findings.specs.declared.region.finding.RegionFinding.TheVariants.{Component as OfComponent}
+use Rattle.check_findings.specs.declared.region.finding.RegionFinding.TheVariants.{Component as OfComponent, UnalignedSize}
 use Rattle.check_findings.proofs.RegionLemmas.Parts.{Part, IsIn, cell_part, end_part, of_end}
 use Rattle.check_findings.proofs.ImageLemmas.Regions.{head_findings, no_head_areas, no_name_areas, regions_of}
 
 -- a search in the first checked area of the name finds the component at the position
 abbrev IsMet : List ℕ → List NumberedArea → Need → Type 0
 IsMet image areas need = IsSomeAnd (find (has_name need.area.now) areas)
-    (λ a. IsOkAnd (component_in (bytes_of image a) need.name.now) (λ found. IsSomeAnd found
+    (λ a. IsOkAnd (component_in (entry_bytes image a) need.name.now) (λ found. IsSomeAnd found
     (λ c. is_met need.place (component_content c) a.area.size ≡ true)))
 
 -- ---- a region
@@ -102,14 +101,24 @@ has_content x name content is = go (shape_fault x) refl (sym (of_marks name [] (
     go (Some other) bad e = absurd cc
     go None good e = listed (first_named name (components x)) (sym (of_cells name 0 cells _ none) ∙ e) refl good
 
+no_size : (name : List ℕ) (unaligned : Bool) → filter_map (content_named name) (only_if unaligned UnalignedSize) ≡ []
+no_size name true = refl
+no_size name false = refl
+
+-- the finding of the size has no content
+entry_contents : (name : List ℕ) (entries : List RegionFinding) (unaligned : Bool)
+    → first_content name (entries ++ only_if unaligned UnalignedSize) ≡ first_content name entries
+entry_contents name entries unaligned = rw (filter_map-append (content_named name) entries (only_if unaligned UnalignedSize), no_size name unaligned, append-nil (filter_map (content_named name) entries)) refl
+
 -- ---- an image
 
 module _ (image : List ℕ) (need : Need) where
   met_here : (a : NumberedArea) (areas : List NumberedArea) (o : Option Content) → is_area need.area.now a.area ≡ true
-      → first_content need.name.now (region_findings (bytes_of image a)) ≡ o → option_map_or (unmet_by_content need.place a.area.size) o (Some Missing) ≡ None → IsMet image (a ∷ areas) need
+      → first_content need.name.now (range_findings image (range_of a)) ≡ o → option_map_or (unmet_by_content need.place a.area.size) o (Some Missing) ≡ None → IsMet image (a ∷ areas) need
   met_here a areas None named first none = absurd cc
   met_here a areas (Some content) named first none =
-      let has = has_content (bytes_of image a) need.name.now content first in
+      let entries = entry_contents need.name.now (region_findings (entry_bytes image a)) (is_unaligned (range_of a)) in
+      let has = has_content (entry_bytes image a) need.name.now content (sym entries ∙ first) in
       rw (named, has.1, has.2) (grind (arith, common_steps, none))
 
   -- the first area with the name meets the need
@@ -121,10 +130,10 @@ module _ (image : List ℕ) (need : Need) where
       rest : List ImageFinding
       rest = areas_findings image (image_anchor image) expects (left_after left a) areas
 
-      go : (checked named : Bool) → is_area need.area.now a.area ≡ named → unmet (cond checked (Region a (covering (image_anchor image) a) (region_findings (bytes_of image a))) (NotChecked a (expects a)) ∷ (rest ++ last)) need ≡ None
-          → (unmet (rest ++ last) need ≡ None → IsMet image (region_areas rest) need) → IsMet image (region_areas (cond checked (Region a (covering (image_anchor image) a) (region_findings (bytes_of image a))) (NotChecked a (expects a)) ∷ rest)) need
+      go : (checked named : Bool) → is_area need.area.now a.area ≡ named → unmet (cond checked (Region a (covering (image_anchor image) a) (range_findings image (range_of a))) (NotChecked a (expects a)) ∷ (rest ++ last)) need ≡ None
+          → (unmet (rest ++ last) need ≡ None → IsMet image (region_areas rest) need) → IsMet image (region_areas (cond checked (Region a (covering (image_anchor image) a) (range_findings image (range_of a))) (NotChecked a (expects a)) ∷ rest)) need
       go false named is e later = later e
-      go true true is e later = met_here a (region_areas rest) (first_content need.name.now (region_findings (bytes_of image a))) is refl (rw is at e)
+      go true true is e later = met_here a (region_areas rest) (first_content need.name.now (range_findings image (range_of a))) is refl (rw is at e)
       go true false is e later = rw is (later (rw is at e))
 
 -- findings without a region meet no need

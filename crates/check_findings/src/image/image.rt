@@ -22,7 +22,7 @@ use crate::image::choice::wanted_areas;
 use crate::image::finding::{ImageFinding, RegionFindings};
 use crate::image::names::{NameSet, push_missing};
 use crate::map::{MapFinding, check_map};
-use crate::region::check_region;
+use crate::region::check_range;
 use cbfs_anchor::Anchor;
 use flash_device::{Flash, Paged, Region};
 use flash_map::FoundMap;
@@ -74,7 +74,7 @@ fn area_finding<F: Flash>(
     match Region::within(start, size, paged.len()) {
         Some(region) if size <= *left => {
             *left -= size;
-            let findings = RegionFindings::new(check_region(alloc, keys, paged, region)?);
+            let findings = RegionFindings::new(check_range(alloc, keys, paged, region)?);
             let anchor = covering(anchor, &area);
             Ok(ImageFinding::Region {
                 area,
@@ -97,7 +97,7 @@ fn areas_findings<F: Flash>(
     requires { All (λ a. area_end a.area ≤ length paged.old.device.content) areas.now }
 
     ensures calls { HasReadBy by_device
-        (length paged.old.device.content / 2 + 2 * length areas.now) paged.old paged.new result }
+        (length paged.old.device.content / 5 + 2 * length areas.now) paged.old paged.new result }
     ensures checked { IfOk result (λ all. AreChecked (length paged.old.device.content)
         (length areas.now) 0 (region_areas all.items)) }
     ensures found { OnHonest paged.old.device (λ image. Lists result
@@ -160,7 +160,7 @@ pub fn check_image<F: Flash>(
 ) -> Result<CheckedImage, CheckFault>
     // On any device.
     ensures calls { HasReadBy by_device (call_limit paged.old.device) paged.old paged.new result }
-    ensures few { HasReadBy by_device (9 * length paged.old.device.content / 5 + 32)
+    ensures few { HasReadBy by_device (3 * length paged.old.device.content / 2 + 32)
         paged.old paged.new result }
     ensures count { IfOk result (λ checked.
         area_len * length checked.areas.items ≤ length paged.old.device.content) }

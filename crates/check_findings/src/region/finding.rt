@@ -184,4 +184,7 @@ pub enum RegionFinding {
     /// The longest content, in bytes, that `add` takes without `-A`, `-a` and `-b`, with a name of
     /// at most 3 bytes; `None`: even an empty content has no room.
     LargestContent(Option<u64>),
+    /// The size of the area is no multiple of 64, so the bytes after the last multiple have no
+    /// entry. coreboot's tools read such an area, and `cbfstool` of this project refuses it.
+    UnalignedSize,
 }

@@ -6,7 +6,7 @@ ghost use Rattle.json.specs.Print.{IsPrintable, print};
 ghost use Rattle.json.specs.Reads.{token_of};
 ghost use Rattle.json.specs.Token.{string};
 ghost use Rattle.json.specs.Tree.{json_tokens};
-ghost use Rattle.check_report.specs.declared.rows.form.Form.TheVariants as forms;
+ghost use Rattle.check_report.specs.declared.rows.form.LineForm.TheVariants as forms;
 ghost use Rattle.check_report.specs.Fields.{name_json, seen_field, seen_line};
 ghost use Rattle.check_report.specs.Reports.{ending, first_fields, member_tokens};
 ghost use Rattle.check_report.specs.Reports.{parts, start_tokens};
@@ -63,6 +63,7 @@ fn put_member(writer: &mut Writer, field: Field<'_>) -> Result<(), AllocError>
         Value::Code(text) | Value::Text(text) => put(writer, Token::String(text)),
         Value::Name(name) => put_name(writer, name),
         Value::Count(n) | Value::Offset(n) => writer.u64(n),
+        Value::Place(n) => writer.u64(u64::from(n)),
         Value::Hexadecimal(n) => put_hexadecimal(writer, n),
     }
 }

@@ -1,6 +1,7 @@
 //! The fields of a line.
-ghost use Rattle.std.specs.Prelude.{◌≡◌};
+ghost use Rattle.std.specs.Prelude.{◌≡◌, is_some};
 ghost use Rattle.std.specs.Option.{option_map_or};
+ghost use Rattle.check_report.specs.Fields.{seen_value};
 ghost use Rattle.check_report.specs.declared.rows.field.Value.TheVariants as values;
 
 /// The value of a field, with its text and its JSON.
@@ -22,6 +23,8 @@ pub enum Value<'a> {
     Offset(u64),
     /// A hexadecimal number; a JSON string.
     Hexadecimal(u64),
+    /// An offset with eight hexadecimal digits; a JSON number.
+    Place(u32),
 }
 
 /// A field of a line: its JSON key and its value.
@@ -36,5 +39,12 @@ impl<'a> Value<'a> {
             Some(name) => Value::Text(name),
             None => Value::Hexadecimal(u64::from(number)),
         }
+    }
+
+    /// Returns whether the value has a text.
+    pub fn has_text(self) -> bool
+        ensures { result ≡ is_some (seen_value self.entry).text }
+    {
+        !matches!(self, Value::Absent | Value::Code(_))
     }
 }

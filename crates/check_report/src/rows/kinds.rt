@@ -59,6 +59,13 @@ pub fn count_by_kind(kinds: &mut Vec<Kind>, row: &Row) -> Result<u64, AllocError
 }
 
 impl Counts {
+    /// The numbers before the first row.
+    pub const ZERO: Counts = Counts {
+        bad: 0,
+        remarks: 0,
+        changes: 0,
+    };
+
     /// Returns the numbers after another row, or an error above 2^64 - 1 rows.
     pub fn with(mut self, row: &Row) -> Result<Counts, AllocError>
         ensures { IfOk result (λ counts. (rows : List SeenRow) → self ≡ counts_of rows

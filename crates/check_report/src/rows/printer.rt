@@ -1,34 +1,42 @@
 //! A report, printed line by line.
-ghost use Rattle.std.specs.Prelude.{◌≡◌, ◌∷◌, [], None, OnErr, false};
+ghost use Rattle.std.specs.Prelude.{◌≡◌, ◌∷◌, [], None, OnErr, OnOk, false, replicate};
 ghost use lib.Chars.{codes};
 ghost use Rattle.json.specs.Token.{begin_array, end_array, key};
 ghost use Rattle.flash_device.specs.Device.{AppendsPart};
+ghost use Rattle.flash_device.specs.Pages.{Lists};
 ghost use Rattle.check_report.specs.Fields.{seen_line};
-ghost use Rattle.check_report.specs.Reports.{ending, first_fields, part, start_tokens};
+ghost use Rattle.check_report.specs.Reports.{closing, ending, first_fields, part, parts};
+ghost use Rattle.check_report.specs.Reports.{start_tokens, widths_after};
 ghost use Rattle.check_report.specs.Effects.{Prints, PrintsLines};
+ghost use Rattle.check_report.specs.declared.rows.form.LineForm.TheVariants as forms;
 
 use crate::fault::WriteFault;
-use crate::request::Files;
+use crate::request::{Asked, Files};
+use crate::rows::closing::closing;
 use crate::rows::conclusion::Conclusion;
 use crate::rows::document::{json_end, json_start, line_object};
 use crate::rows::field::Field;
-use crate::rows::form::Form;
-use crate::rows::text::{line, summary};
+use crate::rows::form::{Colours, Columns, LineForm};
+use crate::rows::table::{cells, widen};
+use crate::rows::text::{line, summary_line};
 use flash_device::{Sink, put_all};
-use std::alloc::Global;
+use std::alloc::{AllocError, Global};
+use std::mem;
 
 /// A printer of lines, without a buffer.
 #[derive(Drop)]
 pub struct Printer<W: Sink + Drop> {
     alloc: Global,
-    form: Form,
+    form: LineForm,
     pub out: W,
     follows: bool,
+    /// The widths of the measured columns.
+    widths: Vec<usize>,
 }
 
 impl<W: Sink + Drop> Printer<W> {
     /// Returns a printer that has printed nothing.
-    pub fn new(alloc: Global, form: Form, out: W) -> Printer<W>
+    pub fn new(alloc: Global, form: LineForm, out: W) -> Printer<W>
         ensures out { result.out ≡ out }
         ensures form { result.form ≡ form }
     {
@@ -37,7 +45,16 @@ impl<W: Sink + Drop> Printer<W> {
             form,
             out,
             follows: false,
+            widths: Vec::new(alloc),
         }
+    }
+
+    /// Returns the sink.
+    pub fn into_inner(self) -> W
+        ensures { result ≡ self.out }
+    {
+        let Printer { out, .. } = self;
+        out
     }
 
     /// Prints the report up to this array's first item.
@@ -47,20 +64,70 @@ impl<W: Sink + Drop> Printer<W> {
     {
         self.follows = false;
         match self.form {
-            Form::Text => Ok(()),
-            Form::Json => self.put(&json_start(self.alloc, files, array)?),
+            LineForm::Json => self.put(&json_start(self.alloc, files, array)?),
+            LineForm::Text | LineForm::Ruler | LineForm::Table(_) => Ok(()),
         }
     }
 
-    /// Prints a line: in text `head` and the fields, in JSON an object of the fields. After an
-    /// error, a prefix of the line is printed.
+    /// Measures the columns of the following lines, which are not printed. Returns an error if an
+    /// allocation failed.
+    pub fn measure(&mut self, columns: usize) -> Result<(), AllocError>
+        ensures form { OnOk result (self.new.form ≡ forms.Ruler) }
+        ensures widths { OnOk result (self.new.widths.items ≡ replicate columns 0) }
+        ensures out { self.new.out ≡ self.old.out }
+    {
+        let mut widths = Vec::new(self.alloc);
+        for _ in 0..columns {
+            widths.push(0)?;
+        }
+        self.widths = widths;
+        self.form = LineForm::Ruler;
+        Ok(())
+    }
+
+    /// Prints the following lines in columns of the measured widths.
+    pub fn draw(&mut self, colours: Colours)
+        ensures form { self.new.form
+            ≡ forms.Table (record { colours = colours; widths = self.old.widths }) }
+        ensures out { self.new.out ≡ self.old.out }
+    {
+        let widths = mem::replace(&mut self.widths, Vec::new(self.alloc));
+        self.form = LineForm::Table(Columns { colours, widths });
+    }
+
+    /// Measures the cells of a line, if the columns are to be measured.
+    fn measure_line(&mut self, head: &str, fields: &[Field<'_>]) -> Result<(), AllocError>
+        ensures widths { OnOk result (self.new.widths.items ≡ widths_after self.old.form
+            self.old.widths.items (seen_line head.now fields.now ∷ [])) }
+        ensures rest { self.new ≡ record self.old { widths = self.new.widths } }
+    {
+        if let LineForm::Ruler = self.form {
+            let cells = cells(self.alloc, head, fields)?;
+            widen(&mut self.widths, &cells);
+        }
+        Ok(())
+    }
+
+    /// Returns a line in the form of the printer.
+    fn part(&self, head: &str, fields: &[Field<'_>]) -> Result<Vec<u8>, AllocError>
+        ensures { Lists result (parts self.now.form self.now.follows
+            (seen_line head.now fields.now ∷ [])) }
+    {
+        match &self.form {
+            LineForm::Text => line(self.alloc, head, fields),
+            LineForm::Json => line_object(self.alloc, self.follows, fields),
+            LineForm::Ruler => Ok(Vec::new(self.alloc)),
+            LineForm::Table(columns) => columns.line(self.alloc, head, fields),
+        }
+    }
+
+    /// Prints a line: in text `head` and the fields, in JSON an object of the fields, and in a
+    /// table the cells in columns. After an error, a prefix of the line is printed.
     pub fn line(&mut self, head: &str, fields: &[Field<'_>]) -> Result<(), WriteFault>
         ensures { PrintsLines W.Sink result self.old self.new (seen_line head.now fields.now ∷ []) }
     {
-        let part = match self.form {
-            Form::Text => line(self.alloc, head, fields)?,
-            Form::Json => line_object(self.alloc, self.follows, fields)?,
-        };
+        self.measure_line(head, fields)?;
+        let part = self.part(head, fields)?;
         self.follows = true;
         self.put(&part)
     }
@@ -73,8 +140,20 @@ impl<W: Sink + Drop> Printer<W> {
     {
         self.follows = false;
         match self.form {
-            Form::Text => Ok(()),
-            Form::Json => self.put(b"],\"rows\":["),
+            LineForm::Json => self.put(b"],\"rows\":["),
+            LineForm::Text | LineForm::Ruler | LineForm::Table(_) => Ok(()),
+        }
+    }
+
+    /// Returns the end of the report.
+    fn ending(&self, conclusion: Conclusion) -> Result<Vec<u8>, AllocError>
+        ensures { Lists result (ending self.now.form conclusion) }
+    {
+        match &self.form {
+            LineForm::Text => summary_line(self.alloc, conclusion),
+            LineForm::Json => json_end(self.alloc, conclusion),
+            LineForm::Ruler => summary_line(self.alloc, conclusion),
+            LineForm::Table(_) => summary_line(self.alloc, conclusion),
         }
     }
 
@@ -85,10 +164,23 @@ impl<W: Sink + Drop> Printer<W> {
         ensures part { OnErr result (AppendsPart (W.contents self.old.out)
             (W.contents self.new.out) (ending self.old.form conclusion)) }
     {
-        let end = match self.form {
-            Form::Text => summary(self.alloc, conclusion)?,
-            Form::Json => json_end(self.alloc, conclusion)?,
-        };
+        let end = self.ending(conclusion)?;
+        self.put(&end)
+    }
+
+    /// Prints the end of a report for a terminal. After an error, a part of the end is missing.
+    pub fn close(
+        &mut self,
+        colours: Colours,
+        asked: Asked,
+        conclusion: Conclusion,
+    ) -> Result<(), WriteFault>
+        ensures prints { Prints W.Sink result self.old self.new
+            (closing colours asked conclusion) self.old.follows }
+        ensures part { OnErr result (AppendsPart (W.contents self.old.out)
+            (W.contents self.new.out) (closing colours asked conclusion)) }
+    {
+        let end = closing(self.alloc, colours, asked, conclusion)?;
         self.put(&end)
     }
 
@@ -96,6 +188,7 @@ impl<W: Sink + Drop> Printer<W> {
         ensures prints { Prints W.Sink result self.old self.new part.now self.old.follows }
         ensures part { OnErr result
             (AppendsPart (W.contents self.old.out) (W.contents self.new.out) part.now) }
+        ensures rest { self.new ≡ record self.old { out = self.new.out } }
     {
         put_all(&mut self.out, part)?;
         Ok(())

@@ -43,6 +43,7 @@ pub fn text_of(
     areas: &[&[u8]],
 ) -> Vec<u8> {
     let inspection = Inspection {
+        areas: Vec::new(rt.alloc()),
         findings,
         board: Vec::new(rt.alloc()),
         changes: None,

@@ -5,7 +5,7 @@ use Rattle.board_findings.proofs.board.check_board.Goals as goal
 
 pub returns-clause-found : goal.returns-clause-found
 returns-clause-found g c = λ h.
-    let b : Board = record { image = c.args.paged.now.device.content; areas = c.args.areas.now; findings = c.args.checked.now } in
+    let b : Board = record { image = c.args.paged.now.device.content; areas = c.args.areas.now } in
     let one = c.push_descriptor.ensures.after.device in
     let h1 = honest_still one.calls.same_honesty h in
     let two = c.push_partition_table.ensures.after.device in

@@ -1,7 +1,6 @@
-use Rattle.std.proofs.Common.{◌≡◌, ◌∙◌, ap, subst, sym}
+use Rattle.std.proofs.Common.{subst}
 use Rattle.flash_device.specs.Regions.{bytes_in}
 use Rattle.board_structures.specs.Descriptors.{descriptor_in}
-use Rattle.board_structures.specs.GoogleBinaryBlocks.{gbb_in}
 use Rattle.board_findings.specs.BoardFindings.{areas_in, differences, slot_body}
 use Rattle.board_findings.proofs.SoundParts.{AreFine, descriptor_fine, either_slot, gbb_fine, firmware_fine, header_fine, no_difference, parts_fine, slot_fine, table_fine, usable_table, vector_fine}
 use Rattle.board_findings.proofs.laws.sound_boards_have_sound_structures.Goals as goal

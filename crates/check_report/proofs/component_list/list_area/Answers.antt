@@ -1,6 +1,6 @@
 use Rattle.std.proofs.Common.{◌≡◌, [], rules}
 use Rattle.check_report.specs.Reports.{component_lines}
-use Rattle.check_report.proofs.PrinterEffects.{prints_failed, prints_none, prints_stopped, prints_then}
+use Rattle.check_report.proofs.PrinterEffects.{lines_failed, prints_none, prints_stopped, prints_then}
 use Rattle.check_report.proofs.component_list.list_area.Goals as goal
 use Rattle.check_report.proofs.component_list.list_area.Goals.{in-Component+in_ok-line, in_default}
 
@@ -23,6 +23,6 @@ loop-finding-preserved g c =
 pub returns-in_err-line : goal.returns-in_err-line
 returns-in_err-line g c =
     let fields = rw c.as_slice.ensures at c.component_fields-fields.ensures in
-    prints_failed g.W.Sink _ _ _ _ _ _ c.from_residual.ensures.1
+    lines_failed g.W.Sink _ _ _ _ _ c.from_residual.ensures.1
     (prints_stopped g.W.Sink _ _ _ _ (component_lines c.args.area.now) c.args.findings.now c.loop-finding.finding-index
     _ c.finding-item.result c.loop-finding-test.true c.finding-item.is c.loop-finding.invariant (rw c.in-Component.is (rw fields at c.in_err-line.ensures)))

@@ -1,6 +1,6 @@
 use Rattle.std.proofs.Common.{◌≡◌, [], rules}
 use Rattle.check_report.specs.Reports.{components_in}
-use Rattle.check_report.proofs.PrinterEffects.{prints_failed, prints_none, prints_stopped, prints_then}
+use Rattle.check_report.proofs.PrinterEffects.{lines_failed, prints_none, prints_stopped, prints_then}
 use Rattle.check_report.proofs.component_list.list_components.Goals as goal
 use Rattle.check_report.proofs.component_list.list_components.Goals.{in-Region+in_ok-list_area, in_default}
 
@@ -19,6 +19,6 @@ loop-finding-preserved g c =
     ]
 
 pub returns-in_err-list_area : goal.returns-in_err-list_area
-returns-in_err-list_area g c = prints_failed g.W.Sink _ _ _ _ _ _ c.from_residual.ensures.1
+returns-in_err-list_area g c = lines_failed g.W.Sink _ _ _ _ _ c.from_residual.ensures.1
     (prints_stopped g.W.Sink _ _ _ _ components_in c.args.findings.now c.loop-finding.finding-index
     _ c.finding-item.result c.loop-finding-test.true c.finding-item.is c.loop-finding.invariant (rw c.in-Region.is (rw (c.text.ensures.value, c.as_slice.ensures) at c.in_err-list_area.ensures)))

@@ -1,4 +1,3 @@
-use Rattle.std.proofs.Common.{refl}
 use Rattle.check_report.proofs.SoundRows.{adds_after, adds_before, adds_failed}
 use Rattle.check_report.proofs.kept.add_absent.Goals as goal
 

@@ -15,6 +15,6 @@ returns g c = rw (take_all _ c.args.request.kept.now c.loop-name-test.false) at 
 
 pub returns-in_err-add_if : goal.returns-in_err-add_if
 returns-in_err-add_if g c = adds_failed c.from_residual.ensures.1 (adds_stopped_over (λ n. n.now)
-    (λ name. only_if (not (list_any (has_name name) (both_areas c.args.request c.args.changes.now))) (missing_row (name_value name))) c.args.request.kept.now c.loop-name.name-index
+    (λ name. only_if (not (list_any (has_name name) (both_areas c.args.request c.args.new_areas.now c.args.changes.now))) (missing_row (name_value name))) c.args.request.kept.now c.loop-name.name-index
     _ _ c.loop-name-test.true refl c.loop-name.invariant
-    (rw (c.is_there.ensures, c.areas_or-old_areas.ensures, c.as_slice-new_areas.ensures.value, c.missing_row-missing.ensures) at c.in_err-add_if.ensures))
+    (rw (c.is_there.ensures, c.areas_or-old_areas.ensures, c.missing_row-missing.ensures) at c.in_err-add_if.ensures))

@@ -11,5 +11,5 @@ use Rattle.check_report.proofs.kept.add_missing.Given as goal
 
 abbrev pub invariant-loop-name : goal.invariant-loop-name
 invariant-loop-name g l = Adds g.W.Sink (Ok tt) l.initial.rows l.rows
-    (flat_map (λ name. only_if (not (list_any (has_name name) (both_areas l.request l.changes)))
+    (flat_map (λ name. only_if (not (list_any (has_name name) (both_areas l.request l.new_areas l.changes)))
     (missing_row (name_value name))) (map (λ n. n.now) (take l.name-index l.request.kept.now)))

@@ -39,7 +39,7 @@ use Rattle.check_report.specs.BoardRows.{board_rows}
 use Rattle.check_report.specs.FindingRows.{finding_rows, need_rows}
 use Rattle.check_report.specs.Reports.{change_rows}
 use Rattle.check_report.proofs.BoardVerdicts.{bad_board}
-use Rattle.check_report.proofs.StructureVerdicts.{both_fine, none_lost_by}
+use Rattle.check_report.proofs.StructureVerdicts.{both_fine, unharmed_by}
 use Rattle.check_report.proofs.laws.rows_tell_what_is_bad.Goals as goal
 
 -- the same for all findings
@@ -175,7 +175,7 @@ pub returns : goal.returns
 returns c = record {
   findings = λ asked names. bad_rows (rows_of asked names) (is_bad asked.needs_hashes) (bad_finding asked names);
   board = bad_board;
-  structures = λ request i fine. none_lost_by request i.changes
-      (both_fine ((finding_rows request.asked request.areas.now i.findings.items ++ need_rows i.findings.items request.needs.now) ++ board_rows i.board.items) (option_map_or (change_rows request) i.changes []) fine).1;
+  structures = λ request i fine. unharmed_by request i.areas.items i.changes
+      (both_fine ((finding_rows request.asked request.areas.now i.findings.items ++ need_rows i.findings.items request.needs.now) ++ board_rows i.board.items) (option_map_or (change_rows request i.areas.items) i.changes []) fine).1;
   limits = bad_after [];
 }

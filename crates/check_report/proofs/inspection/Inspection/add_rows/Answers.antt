@@ -6,7 +6,7 @@ pub returns-in-Some : goal.returns-in-Some
 returns-in-Some g c =
     let found = adds_after (rw c.deref.ensures.value at c.in_ok-add_findings.ensures) (rw c.deref-2.ensures.value at c.in_ok-add_needs.ensures) in
     let all = adds_after found (rw c.deref-3.ensures.value at c.in_ok-add_board.ensures) in
-    rw c.in-Some.is (adds_after all c.add_changes.ensures)
+    rw c.in-Some.is (adds_after all (rw c.deref-in-Some.ensures.value at c.add_changes.ensures))
 
 pub returns-in-None : goal.returns-in-None
 returns-in-None g c =

@@ -16,3 +16,6 @@ pub returns-in_err-list_components : goal.returns-in_err-list_components
 returns-in_err-list_components g c = rw c.if-request.true (prints_failed g.W.Sink _ _ _ _ _ _ c.from_residual-in_err-list_components.ensures.1
     (heading_listed g.W.Sink c.args.request.files (flat_map components_in c.args.self.now.findings.items) _ _ _ _
     c.in_ok-start.ensures (rw c.deref.ensures.value at c.in_err-list_components.ensures)))
+
+pub returns-else-request : goal.returns-else-request
+returns-else-request g c = rw c.if-request.false c.start-else-request.ensures

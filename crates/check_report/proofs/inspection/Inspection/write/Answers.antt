@@ -1,56 +1,26 @@
-use Rattle.std.proofs.Common.{arith}
-use Rattle.check_report.proofs.SoundRows.{report_text, stopped_heading, stopped_rows}
-use Rattle.check_report.proofs.inspection.Inspection.write.Goals.{in-Ok, in-Err-add_rows}
+use Rattle.check_report.specs.Reports.{lines_report, report, terminal_report}
 use Rattle.check_report.proofs.inspection.Inspection.write.Goals as goal
 
-pub returns-clause-part : goal.returns-clause-part
-returns-clause-part g c =
-    let begun = c.in_default.ensures in
-    let made = c.new-rows.ensures in
-    rw (← c.new-printer.ensures.out) (elim c.match-add_rows.branch [
-      | in-Ok w ↦
-          let written = report_text g.W.Sink w.finish-is_bad.result c.new-printer.result c.print_heading.new.printer c.add_rows.new.rows w.finish-is_bad.new.self
-          c.args.request c.args.self.now c.new-printer.ensures.form begun.printed (w.in-Ok.ensures.added _ _ _ (made.sound begun.printed.follows)) (rw w.subject.ensures at w.finish-is_bad.ensures) in
-          rw (w.rows-is, w.is_bad-is) written.2
-      | in-Err-add_rows w ↦ rw (w.rows-is, w.is_bad-is)
-          (stopped_rows g.W.Sink c.new-printer.result c.print_heading.new.printer c.add_rows.new.rows c.args.request c.args.self.now c.new-printer.ensures.form begun.printed
-          (w.in-Err-add_rows.ensures.stopped _ _ _ (made.sound begun.printed.follows)))
-    ])
+pub returns-in-Text-clause-text : goal.returns-in-Text-clause-text
+unfolding report lines_report
+returns-in-Text-clause-text g c = rw c.in-Text.is c.write_lines.ensures.text
 
-pub returns-clause-bad : goal.returns-clause-bad
-returns-clause-bad g c =
-    let begun = c.in_default.ensures in
-    let made = c.new-rows.ensures in
-    elim c.match-add_rows.branch [
-      | in-Ok w ↦
-          let written = report_text g.W.Sink w.finish-is_bad.result c.new-printer.result c.print_heading.new.printer c.add_rows.new.rows w.finish-is_bad.new.self
-          c.args.request c.args.self.now c.new-printer.ensures.form begun.printed (w.in-Ok.ensures.added _ _ _ (made.sound begun.printed.follows)) (rw w.subject.ensures at w.finish-is_bad.ensures) in
-          rw w.is_bad-is written.0
-      | in-Err-add_rows w ↦ rw w.is_bad-is tt
-    ]
+pub returns-in-Text-clause-part : goal.returns-in-Text-clause-part
+unfolding report lines_report
+returns-in-Text-clause-part g c = rw c.in-Text.is c.write_lines.ensures.part
 
-pub returns-clause-text : goal.returns-clause-text
-returns-clause-text g c =
-    let begun = c.in_default.ensures in
-    let made = c.new-rows.ensures in
-    rw (← c.new-printer.ensures.out) (elim c.match-add_rows.branch [
-      | in-Ok w ↦
-          let written = report_text g.W.Sink w.finish-is_bad.result c.new-printer.result c.print_heading.new.printer c.add_rows.new.rows w.finish-is_bad.new.self
-          c.args.request c.args.self.now c.new-printer.ensures.form begun.printed (w.in-Ok.ensures.added _ _ _ (made.sound begun.printed.follows)) (rw w.subject.ensures at w.finish-is_bad.ensures) in
-          rw (w.rows-is, w.is_bad-is) written.1
-      | in-Err-add_rows w ↦ rw w.is_bad-is tt
-    ])
+pub returns-in-Json-clause-text : goal.returns-in-Json-clause-text
+unfolding report lines_report
+returns-in-Json-clause-text g c = rw c.in-Json.is c.write_lines-in-Json.ensures.text
 
-pub returns-clause-cause : goal.returns-clause-cause
-returns-clause-cause g c =
-    let begun = c.in_default.ensures in
-    let made = c.new-rows.ensures in
-    rw (← c.new-printer.ensures.out) (elim c.match-add_rows.branch [
-      | in-Ok w ↦ rw (w.rows-is, w.is_bad-is) (omega (arith, begun.cause, rw made.printer at w.in-Ok.ensures.cause, w.finish-is_bad.ensures.cause))
-      | in-Err-add_rows w ↦ rw (w.rows-is, w.is_bad-is) (omega (arith, begun.cause, rw (made.printer, w.in-Err-add_rows.is) at c.add_rows.ensures.cause))
-    ])
+pub returns-in-Json-clause-part : goal.returns-in-Json-clause-part
+unfolding report lines_report
+returns-in-Json-clause-part g c = rw c.in-Json.is c.write_lines-in-Json.ensures.part
 
-pub returns-in-Err-clause-part : goal.returns-in-Err-clause-part
-returns-in-Err-clause-part g c =
-    let stopped = rw (c.in-Err.is, c.new-printer.ensures.out, c.new-printer.ensures.form) at c.print_heading.ensures.stopped in
-    stopped_heading (g.W.Sink.contents c.args.out) (g.W.Sink.contents c.print_heading.new.printer.out) c.args.request c.args.self.now stopped
+pub returns-in-Terminal-clause-text : goal.returns-in-Terminal-clause-text
+unfolding report terminal_report
+returns-in-Terminal-clause-text g c = rw c.in-Terminal.is c.write_tables.ensures.text
+
+pub returns-in-Terminal-clause-part : goal.returns-in-Terminal-clause-part
+unfolding report terminal_report
+returns-in-Terminal-clause-part g c = rw c.in-Terminal.is c.write_tables.ensures.part
