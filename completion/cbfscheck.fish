@@ -85,7 +85,7 @@ complete -c cbfscheck -n "__cbfscheck_lacks '-r.*'" -s r -x -a '(__cbfscheck_are
 complete -c cbfscheck -n '__cbfscheck_lacks -v' -s v -d 'all rows, and components without a digest'
 complete -c cbfscheck -n "__cbfscheck_lacks '--need(=.*)?'" -l need -x -a '(__cbfscheck_needs)' -d 'required components'
 complete -c cbfscheck -n '__cbfscheck_lacks --all-hashed' -l all-hashed -d 'require a digest for each component'
-complete -c cbfscheck -n '__cbfscheck_lacks --list' -l list -d 'list the components of the checked areas'
+complete -c cbfscheck -n '__cbfscheck_lacks --list' -l list -d 'list all areas, and the components of checked areas'
 complete -c cbfscheck -n '__cbfscheck_lacks --json' -l json -d 'report as one JSON document'
 complete -c cbfscheck -n "__cbfscheck_lacks '--keep(=.*)?'" -l keep -x -a '(__cbfscheck_areas ,)' -d 'areas that the new image must not change'
 complete -c cbfscheck -n '__cbfscheck_lacks --flash' -l flash -d 'check before the new image is flashed over the old one'

@@ -54,7 +54,8 @@ OPTIONS = {
 CHECK_OPTIONS = {
     "-r": "areas that are checked as a CBFS", "-v": "all rows, and components without a digest",
     "--need": "required components", "--all-hashed": "require a digest for each component",
-    "--list": "list the components of the checked areas", "--json": "report as one JSON document",
+    "--list": "list all areas, and the components of checked areas",
+    "--json": "report as one JSON document",
     "--flash": "check before the new image is flashed over the old one",
     "--keep": "areas that the new image must not change",
     "--keep-preserved": "areas with the flag PRESERVE must not change",

@@ -270,14 +270,14 @@ class Trial:
         """Compares the report on the image, or on two, as a text and as a document."""
         wishes, words = self.maker.options(new, old is not None)
         rows = model.report(old, new, wishes)
-        listed = model.components(old, new, wishes)
+        listing = model.listing(old, new, wishes)
         for row in rows:
             self.tally["rows of cbfscheck"][f"{row.verdict} {row.code}"] += 1
         status = int(any(row.verdict == "bad" for row in rows))
         texts = [
-            ([], model.text(rows, (), wishes.is_verbose, wishes.is_flash)),
+            ([], model.text(rows, None, wishes.is_verbose, wishes.is_flash)),
             (["--json"], model.document(paths, rows, None, wishes.is_verbose, wishes.is_flash)),
-            (["--list"], model.text(rows, listed, wishes.is_verbose, wishes.is_flash)),
+            (["--list"], model.text(rows, listing, wishes.is_verbose, wishes.is_flash)),
         ]
         for more, printed in texts:
             done = self.run(["cbfscheck", *more, *words, *paths], "cbfscheck")

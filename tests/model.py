@@ -160,8 +160,17 @@ class Row(NamedTuple):
     other: Optional[bytes] = None
 
 
+class ListedArea(NamedTuple):
+    """An area as --list shows it."""
+
+    area: bytes
+    offset: int
+    size: int
+    flags: int
+
+
 class Listed(NamedTuple):
-    """A component as --list shows it."""
+    """A component as --list shows it: `content` is the offset of its content in the area."""
 
     area: bytes
     component: bytes
@@ -170,6 +179,14 @@ class Listed(NamedTuple):
     length: int
     compression: str
     hash: str
+    content: int
+
+
+class Listing(NamedTuple):
+    """What --list shows: the areas of the flash map, and the components of the checked areas."""
+
+    areas: list
+    components: list
 
 
 def finding(code, area=None, component=None, position=None, word="", **others):
@@ -203,11 +220,22 @@ def line(row):
     return "\t".join(fields) + "\n"
 
 
-def listed_line(row):
-    """Returns a row of --list as a line of text."""
+def area_line(row):
+    """Returns an area of --list as a line of text."""
+    fields = [shown(row.area), f"{row.offset:#x}", str(row.size), f"{row.flags:#x}"]
+    return "\t".join(["area", *fields]) + "\n"
+
+
+def component_line(row):
+    """Returns a component of --list as a line of text."""
     fields = [shown(row.area), shown(row.component), f"{row.position:#x}", row.type,
-              str(row.length), row.compression, row.hash]
+              str(row.length), row.compression, row.hash, f"{row.content:#x}"]
     return "\t".join(["component", *fields]) + "\n"
+
+
+def listed_lines(listing):
+    """Returns what --list shows as lines of text."""
+    return [*map(area_line, listing.areas), *map(component_line, listing.components)]
 
 
 def counts(rows):
@@ -234,10 +262,10 @@ def shortened(rows):
                    for (verdict, code), number in count.items() if number > MOST_OF_A_KIND]
 
 
-def text(rows, listed=(), is_verbose=True, is_flash=False):
-    """Returns what cbfscheck prints: the rows of --list, the rows, and the conclusion."""
+def text(rows, listing=None, is_verbose=True, is_flash=False):
+    """Returns what cbfscheck prints: what --list shows, the rows, and the conclusion."""
     printed = rows if is_verbose else shortened(rows)
-    lines = [*map(listed_line, listed), *map(line, printed)]
+    lines = [*([] if listing is None else listed_lines(listing)), *map(line, printed)]
     last = "{}: {} bad, {} remarks, {} changes\n".format(conclusion(rows, is_flash), *counts(rows))
     return "".join(lines) + last
 
@@ -250,8 +278,13 @@ def member(row):
     return {**fields, **names}
 
 
-def document(images, rows, listed=None, is_verbose=True, is_flash=False):
-    """Returns what cbfscheck prints with --json, and with --list for components.
+def members(rows):
+    """Returns rows, areas or components as members of a document."""
+    return [member(row) for row in rows]
+
+
+def document(images, rows, listing=None, is_verbose=True, is_flash=False):
+    """Returns what cbfscheck prints with --json, and with --list for a listing.
 
     `images` are the paths as they were given, the old one first.
     """
@@ -260,8 +293,9 @@ def document(images, rows, listed=None, is_verbose=True, is_flash=False):
     bad, remarks, changes = counts(rows)
     whole = {
         "format": 1, "image": new, **({"old": old[0]} if old else {}),
-        **({} if listed is None else {"components": [member(one) for one in listed]}),
-        "rows": [member(row) for row in printed],
+        **({} if listing is None else {"areas": members(listing.areas),
+                                       "components": members(listing.components)}),
+        "rows": members(printed),
         "verdict": conclusion(rows, is_flash), "bad": bad, "remarks": remarks,
         "changes": changes,
     }
@@ -772,6 +806,12 @@ def first_difference(old, new):
 # ---- The report
 
 
+def listing(old, new, wishes):
+    """Returns the areas of the map and the components of all areas that are checked."""
+    areas = [ListedArea(area.name, area.offset, area.size, area.flags) for area in new.areas]
+    return Listing(areas, components(old, new, wishes))
+
+
 def components(old, new, wishes):
     """Returns the components of all areas that are checked, as --list shows them."""
     rows = []
@@ -781,7 +821,8 @@ def components(old, new, wishes):
             kind = TYPES.get(cell.type, hex(cell.type))
             texts = {"absent": "no hash", "unsupported": "hash unsupported"}
             rows.append(Listed(area.name, cell.name, cell.position, kind, len(cell.content),
-                               COMPRESSIONS.get(packing, hex(packing)), texts.get(state, state)))
+                               COMPRESSIONS.get(packing, hex(packing)), texts.get(state, state),
+                               cell.start))
     return rows
 
 

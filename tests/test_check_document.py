@@ -24,13 +24,15 @@ def row(verdict, code, what, **members):
 
 
 class DocumentTest(CheckTest):
-    def document(self, status, files, options, rows, counts, components=None):
-        """Checks the document of one image or of two."""
+    def document(self, status, files, options, rows, counts, components=None, areas=None):
+        """Checks the document of one image or of two, with --list also its areas and components.
+        """
         paths = list(files)
         expected = {"format": 1, "image": paths[-1]}
         if len(paths) == 2:
             expected["old"] = paths[0]
         if components is not None:
+            expected["areas"] = areas
             expected["components"] = components
         expected["rows"] = rows
         expected["verdict"] = verdict(counts[0])
@@ -124,17 +126,24 @@ class Samples(DocumentTest):
 
 
 class Lists(DocumentTest):
-    """The components of --list, before the rows."""
+    """The areas and the components of --list, before the rows."""
 
-    def listed(self, component, position, type, length, compressed="none", state="no hash"):
+    def areas(self, size):
+        """Returns the objects of the areas FMAP and A of an image with a region of this size."""
+        return [{"area": "FMAP", "offset": 0, "size": 0x100, "flags": 0},
+                {"area": "A", "offset": 0x100, "size": size, "flags": 0}]
+
+    def listed(self, component, position, type, length, content, compressed="none",
+               state="no hash"):
         """Returns the object of a component of the area A."""
         return {"area": "A", "component": component, "position": position, "type": type,
-                "length": length, "compression": compressed, "hash": state}
+                "length": length, "compression": compressed, "hash": state, "content": content}
 
     def test_three_components(self):
-        components = [self.listed("a", 0x40, "raw", 10),
-                      self.listed("u", 0xC0, "raw", 0, state="hash unsupported"),
-                      self.listed("h", 0x100, "raw", 3, state="sha256 valid")]
+        components = [self.listed("a", 0x40, "raw", 10, 0x68),
+                      self.listed("u", 0xC0, "raw", 0, 0xF4, state="hash unsupported"),
+                      self.listed("h", 0x100, "raw", 3, 0x154, state="sha256 valid")]
+        areas = self.areas(384)
         deleted = row("remark", "component-deleted", "deleted component", area="A", position=0)
         no_hash = hash_row("remark", "hash-missing", "a", 0x40, "no hash", "A")
         rest = [hash_row("remark", "hash-unsupported", "u", 0xC0, "hash unsupported", "A"),
@@ -143,8 +152,9 @@ class Lists(DocumentTest):
                 hash_row("remark", "hash-valid", "h", 0x100, "sha256 valid", "A"),
                 COMPLETE, *of_region("A", 3, 128, 36)]
         files = {"image.rom": region(384, [DELETED_64, A, NULL_64, U, H])}
-        self.document(1, files, "--list", [MAP, deleted, *rest], (1, 8, 0), components)
-        self.document(1, files, "--list -v", [MAP, deleted, no_hash, *rest], (1, 9, 0), components)
+        self.document(1, files, "--list", [MAP, deleted, *rest], (1, 8, 0), components, areas)
+        self.document(1, files, "--list -v", [MAP, deleted, no_hash, *rest], (1, 9, 0), components,
+                      areas)
 
     def test_compressed_components(self):
         packed = [Component(b"p", b"abcd", attributes=[compression(n, 100)]) for n in (1, 2, 9)]
@@ -152,13 +162,14 @@ class Lists(DocumentTest):
                          "has the name of an earlier component", "A") for at in (0x40, 0x80)]
         self.document(1, {"image.rom": region(192, packed)}, "--list",
                       [MAP, *rows, COMPLETE, *of_region("A", 3, 0)], (2, 5, 0),
-                      [self.listed("p", 0, "raw", 4, "LZMA"),
-                       self.listed("p", 0x40, "raw", 4, "LZ4"),
-                       self.listed("p", 0x80, "raw", 4, "0x9")])
+                      [self.listed("p", 0, "raw", 4, 0x2C, "LZMA"),
+                       self.listed("p", 0x40, "raw", 4, 0x6C, "LZ4"),
+                       self.listed("p", 0x80, "raw", 4, 0xAC, "0x9")], self.areas(192))
 
     def test_no_components(self):
         self.document(0, {"image.rom": region(128, [NULL_128])}, "--list",
-                      [MAP, COMPLETE, *of_region("A", 0, 128, 96)], (0, 5, 0), [])
+                      [MAP, COMPLETE, *of_region("A", 0, 128, 96)], (0, 5, 0), [],
+                      self.areas(128))
 
 
 class RowsOfAKind(DocumentTest):
@@ -321,11 +332,15 @@ class Names(DocumentTest):
         '{"verdict":"remark","code":"no-room","area":[255,49],"what":"no room for a component"}],'
         '"verdict":"not sound","bad":2,"remarks":14,"changes":0}\n'
     )
-    COMPONENTS = (
+    LIST = (
+        '"areas":[{"area":"FMAP","offset":0,"size":256,"flags":0},'
+        '{"area":"a\\t\\"\\\\\\u0001\x7f\\n","offset":256,"size":64,"flags":0},'
+        '{"area":[255,49],"offset":320,"size":64,"flags":0},'
+        '{"area":[255,50],"offset":352,"size":64,"flags":0}],'
         '"components":[{"area":"a\\t\\"\\\\\\u0001\x7f\\n","component":"é","position":0,'
-        '"type":"0x1234","length":10,"compression":"none","hash":"no hash"},'
+        '"type":"0x1234","length":10,"compression":"none","hash":"no hash","content":40},'
         '{"area":[255,49],"component":"","position":0,"type":"raw","length":10,'
-        '"compression":"none","hash":"no hash"}],'
+        '"compression":"none","hash":"no hash","content":40}],'
     )
 
     def test_the_report(self):
@@ -355,7 +370,7 @@ class Names(DocumentTest):
 
     def test_the_list(self):
         self.check("cbfscheck --json image.rom -v --list", {"image.rom": self.IMAGE}, 1,
-                   '{"format":1,"image":"image.rom",' + self.COMPONENTS + self.ROWS)
+                   '{"format":1,"image":"image.rom",' + self.LIST + self.ROWS)
 
     def test_a_path_of_any_characters(self):
         path = 'a"\\\té.rom'

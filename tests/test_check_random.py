@@ -29,7 +29,7 @@ class Trial:
         self.new, self.old = Reading(new), Reading(old) if number % 2 else None
         self.wishes, self.words = maker.options(self.new, self.old is not None)
         self.rows = model.report(self.old, self.new, self.wishes)
-        self.listed = model.components(self.old, self.new, self.wishes)
+        self.listing = model.listing(self.old, self.new, self.wishes)
         self.images = [*["old.rom"] * bool(self.old), "new.rom"]
 
     @property
@@ -38,12 +38,12 @@ class Trial:
 
     def text(self):
         """Returns the lines of the report."""
-        return model.text(self.rows, (), self.wishes.is_verbose, self.wishes.is_flash)
+        return model.text(self.rows, None, self.wishes.is_verbose, self.wishes.is_flash)
 
     def document(self):
-        """Returns the document of the report, with the list of components."""
+        """Returns the document of the report, with the list of areas and components."""
         wishes = self.wishes
-        return model.document(self.images, self.rows, self.listed, wishes.is_verbose,
+        return model.document(self.images, self.rows, self.listing, wishes.is_verbose,
                               wishes.is_flash)
 
 
@@ -60,7 +60,7 @@ class Reports(ProgramTest):
         self.check_rows(self.compare_reports, [(number,) for number in TRIALS])
 
     def compare_reports(self, number):
-        """Compares the text of a trial, and its document with the list of components."""
+        """Compares the text of a trial, and its document with the list of areas and components."""
         one = trial(number)
         folder, words = self.folder(one.files), [*one.words, *one.images]
         self.check(["cbfscheck", *words], folder, one.status, one.text())

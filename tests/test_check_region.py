@@ -426,9 +426,11 @@ class Components(CheckTest):
             not sound: 1 bad, 9 remarks, 0 changes
         """)
         self.reports(1, image, r"""
-            component|A|\xff|0x0|0x77|10|none|no hash
-            component|A|\xff|0x40|0x77|10|none|no hash
-            component|A|\xc3\xa9|0x80|raw|10|none|no hash
+            area|FMAP|0x0|256|0x0
+            area|A|0x100|192|0x0
+            component|A|\xff|0x0|0x77|10|none|no hash|0x28
+            component|A|\xff|0x40|0x77|10|none|no hash|0x68
+            component|A|\xc3\xa9|0x80|raw|10|none|no hash|0xa8
             remark|-|-|0x0|flashmap
             remark|A|\xff|0x0|name isn't UTF-8
             remark|A|\xff|0x0|type without a name|0x77

@@ -243,7 +243,8 @@ class Documents(CheckTest):
         found = json.loads(run.output)
         self.assertEqual(found["image"], paths[-1])
         self.assertEqual(found.get("old"), paths[0] if images[1:] else None)
-        self.assertEqual("components" in found, "--list" in options)
+        for member in "areas", "components":
+            self.assertEqual(member in found, "--list" in options)
         return found
 
     def test_each_document_and_each_code(self):
@@ -277,8 +278,9 @@ class Codes(unittest.TestCase):
 
 VALID = {
     "format": 1, "image": "new.rom", "old": "old.rom",
+    "areas": [{"area": "A", "offset": 0, "size": 64, "flags": 8}],
     "components": [{"area": "A", "component": "a", "position": 0, "type": "raw", "length": 10,
-                    "compression": "none", "hash": "no hash"}],
+                    "compression": "none", "hash": "no hash", "content": 40}],
     "rows": [{"verdict": "remark", "code": "hash-missing", "area": "A", "component": [255],
               "position": 0, "what": "no hash"}],
     "verdict": "sound", "bad": 0, "remarks": 1, "changes": 0,
@@ -307,6 +309,7 @@ class Faults(unittest.TestCase):
             ("another verdict", {"verdict": "may not be flashed"}),
             ("rows that are no array", {"rows": {}}),
             ("an image that is a number", {"image": 1}), ("an old image of bytes", {"old": [97]}),
+            ("areas that are no array", {"areas": {}}),
             ("components that are no array", {"components": {}}),
         ]:
             self.refuses(title, lambda document: document.update(members))
@@ -330,14 +333,15 @@ class Faults(unittest.TestCase):
         for member in "verdict", "code", "what":
             self.refuses(f"no {member}", lambda document: document["rows"][0].pop(member))
 
-    def test_a_component(self):
-        for member in VALID["components"][0]:
-            self.refuses(f"no {member}", lambda document: document["components"][0].pop(member))
-            self.refuses(f"another {member}",
-                         lambda document: document["components"][0].update({member: -1}))
-        self.refuses("a further member",
-                     lambda document: document["components"][0].update(code="map"))
-        self.refuses("a row", lambda document: document["components"].append(VALID["rows"][0]))
+    def test_an_area_and_a_component(self):
+        for list_ in "areas", "components":
+            for member in VALID[list_][0]:
+                self.refuses(f"no {member}", lambda document: document[list_][0].pop(member))
+                self.refuses(f"another {member}",
+                             lambda document: document[list_][0].update({member: -1}))
+            self.refuses("a further member",
+                         lambda document: document[list_][0].update(code="map"))
+            self.refuses("a row", lambda document: document[list_].append(VALID["rows"][0]))
 
     def test_an_unknown_keyword(self):
         schema = copy.deepcopy(REPORTS.schema)

@@ -4,6 +4,7 @@ Standard output is a pseudo-terminal. In a pipe, the reports are those of the ot
 """
 
 import re
+import textwrap
 import unittest
 
 from tests.findings import A, FMAP, H, N, board, cell, free, region
@@ -21,9 +22,9 @@ BAD = region(256, [A, A, N, free(64)])
 
 
 def lines(text):
-    """Returns a report by its indented lines."""
-    kept = [line.strip(" ") for line in text.splitlines()]
-    return "".join(f"{line}\n" for line in kept if line)
+    """Returns a report by its lines, which are all indented equally."""
+    kept = textwrap.dedent(text).strip("\n").splitlines()
+    return "".join(f"{line}\n" for line in kept)
 
 
 class TerminalReports(ProgramTest):
@@ -46,102 +47,119 @@ class TerminalReports(ProgramTest):
 class OneImage(TerminalReports):
     def test_a_sound_image(self):
         self.shows(0, SOUND, """
-            area  0x00000000  0x100  0x0  FMAP
-            area  0x00000100  0xc0   0x0  A     cbfs
+                  IN IMAGE    SIZE   AREA
+            area  0x00000000  0x100  FMAP
+            area  0x00000100  0xc0   A     cbfs
             6 remarks are not shown: -v shows them
-            sound: 0 bad, 6 remarks, 0 changes
+            sound: 0 bad, 6 remarks
         """)
 
     def test_remarks_on_request(self):
         self.shows(0, SOUND, """
-            area  0x00000000  0x100  0x0  FMAP
-            area  0x00000100  0xc0   0x0  A     cbfs
-            remark  -  -  0x0  flashmap
-            remark  A  h  0x0  sha256 valid
-            remark  A  -  -    complete
-            remark  A  -  -    components 1
-            remark  A  -  -    free bytes 64
-            remark  A  -  -    largest content that add takes 32
-            sound: 0 bad, 6 remarks, 0 changes
+                  IN IMAGE    SIZE   AREA
+            area  0x00000000  0x100  FMAP
+            area  0x00000100  0xc0   A     cbfs
+                    AREA  COMPONENT  OFFSET
+            remark  -     -          0x0     flashmap
+            remark  A     h          0x0     sha256 valid
+            remark  A     -          -       complete
+            remark  A     -          -       components 1
+            remark  A     -          -       free bytes 64
+            remark  A     -          -       largest content that add takes 32
+            sound: 0 bad, 6 remarks
         """, "-v")
 
     def test_bad_rows_precede_remarks(self):
         self.shows(1, BAD, """
-            area  0x00000000  0x100  0x0  FMAP
-            area  0x00000100  0x100  0x0  A     cbfs
-            bad     A  a     0x40  has the name of an earlier component
-            remark  -  -     0x0   flashmap
-            remark  A  a     0x0   no hash
-            remark  A  a     0x40  no hash
-            remark  A  \\xff  0x80  name isn't UTF-8
-            remark  A  \\xff  0x80  type without a name 0x77
-            remark  A  \\xff  0x80  no hash
-            remark  A  -     -     complete
-            remark  A  -     -     components 3
-            remark  A  -     -     free bytes 64
-            remark  A  -     -     largest content that add takes 32
-            not sound: 1 bad, 10 remarks, 0 changes
+                  IN IMAGE    SIZE   AREA
+            area  0x00000000  0x100  FMAP
+            area  0x00000100  0x100  A     cbfs
+                    AREA  COMPONENT  OFFSET
+            bad     A     a          0x40    has the name of an earlier component
+            remark  -     -          0x0     flashmap
+            remark  A     a          0x0     no hash
+            remark  A     a          0x40    no hash
+            remark  A     \\xff       0x80    name isn't UTF-8
+            remark  A     \\xff       0x80    type without a name 0x77
+            remark  A     \\xff       0x80    no hash
+            remark  A     -          -       complete
+            remark  A     -          -       components 3
+            remark  A     -          -       free bytes 64
+            remark  A     -          -       largest content that add takes 32
+            not sound: 1 bad, 10 remarks
         """, "-v")
 
     def test_columns_are_those_of_the_shown_rows(self):
         self.shows(1, BAD, """
-            area  0x00000000  0x100  0x0  FMAP
-            area  0x00000100  0x100  0x0  A     cbfs
-            bad  A  a  0x40  has the name of an earlier component
+                  IN IMAGE    SIZE   AREA
+            area  0x00000000  0x100  FMAP
+            area  0x00000100  0x100  A     cbfs
+                 AREA  COMPONENT  OFFSET
+            bad  A     a          0x40    has the name of an earlier component
             7 remarks are not shown: -v shows them
-            not sound: 1 bad, 7 remarks, 0 changes
+            not sound: 1 bad, 7 remarks
         """)
 
     def test_components(self):
         self.shows(1, BAD, """
-            area  0x00000000  0x100  0x0  FMAP
-            area  0x00000100  0x100  0x0  A     cbfs
-            component  A  a     0x0   raw   10  none  no hash
-            component  A  a     0x40  raw   10  none  no hash
-            component  A  \\xff  0x80  0x77  10  none  no hash
-            bad  A  a  0x40  has the name of an earlier component
+                  IN IMAGE    SIZE   AREA
+            area  0x00000000  0x100  FMAP
+            area  0x00000100  0x100  A     cbfs
+                       AREA  COMPONENT  IN AREA  TYPE  LENGTH  COMPRESSION  HASH     CONTENT
+            component  A     a          0x0      raw   10      none         no hash  0x28
+            component  A     a          0x40     raw   10      none         no hash  0x68
+            component  A     \\xff       0x80     0x77  10      none         no hash  0xa8
+                 AREA  COMPONENT  OFFSET
+            bad  A     a          0x40    has the name of an earlier component
             7 remarks are not shown: -v shows them
-            not sound: 1 bad, 7 remarks, 0 changes
+            not sound: 1 bad, 7 remarks
         """, "--list")
 
     def test_no_map(self):
         self.shows(1, bytes(256), """
-            bad  -  -  -  no flashmap
-            not sound: 1 bad, 0 remarks, 0 changes
+                 AREA  COMPONENT  OFFSET
+            bad  -     -          -       no flashmap
+            not sound: 1 bad, 0 remarks
         """)
 
     def test_a_single_hidden_remark(self):
         self.shows(1, board(0x200, [FMAP, ("A", 0x100, 0x200)]), """
-            area  0x00000000  0x100  0x0  FMAP
-            area  0x00000100  0x200  0x0  A
-            bad  A  -  0x100  ends outside the image
+                  IN IMAGE    SIZE   AREA
+            area  0x00000000  0x100  FMAP
+            area  0x00000100  0x200  A
+                 AREA  COMPONENT  OFFSET
+            bad  A     -          0x100   ends outside the image
             1 remark is not shown: -v shows it
-            not sound: 1 bad, 1 remarks, 0 changes
+            not sound: 1 bad, 1 remark
         """)
 
     def test_names(self):
         """An empty name is a dash, and no byte of a name controls the terminal."""
         areas = [FMAP, ("", 0x100, 0x40), ("\x1b[31m", 0x140, 0x40, 8), ("a b", 0x180, 0x80, 0x17)]
         self.shows(0, board(0x200, areas), """
-            area  0x00000000  0x100  0x0   FMAP
-            area  0x00000100  0x40   0x0   -
-            area  0x00000140  0x40   0x8   \\x1b[31m  PRESERVE
-            area  0x00000180  0x80   0x17  a\\x20b
+                  IN IMAGE    SIZE   AREA
+            area  0x00000000  0x100  FMAP
+            area  0x00000100  0x40   -
+            area  0x00000140  0x40   \\x1b[31m  flag PRESERVE
+            area  0x00000180  0x80   a\\x20b
             1 remark is not shown: -v shows it
-            sound: 0 bad, 1 remarks, 0 changes
+            sound: 0 bad, 1 remark
         """)
 
     def test_many_rows_of_a_kind(self):
-        row = "            bad  A  a  0x{:x}  has the name of an earlier component\n"
-        rows = "".join(row.format(at).replace("0x40 ", "0x40 ").replace(
-            f"0x{at:x} ", f"0x{at:x}".ljust(5) + " ") for at in range(0x40, 0x440, 0x40))
-        self.shows(1, region(0x500, [A] * 18 + [free(128)]), f"""
-            area  0x00000000  0x100  0x0  FMAP
-            area  0x00000100  0x500  0x0  A     cbfs
-{rows}            bad  -  -  -      more of these 1
-            5 remarks are not shown: -v shows them
-            not sound: 17 bad, 5 remarks, 0 changes
+        table = lines("""
+                  IN IMAGE    SIZE   AREA
+            area  0x00000000  0x100  FMAP
+            area  0x00000100  0x500  A     cbfs
+                 AREA  COMPONENT  OFFSET
         """)
+        rows = "".join(f"bad  A     a          {place:<#6x}  has the name of an earlier component\n"
+                       for place in range(0x40, 0x440, 0x40))
+        self.shows(1, region(0x500, [A] * 18 + [free(128)]), table + rows + lines("""
+            bad  -     -          -       more of these 1
+            5 remarks are not shown: -v shows them
+            not sound: 17 bad, 5 remarks
+        """))
 
     def test_many_areas(self):
         """There is a table for up to 128 areas."""
@@ -149,13 +167,13 @@ class OneImage(TerminalReports):
             size = 0x2000 + 0x10 * count
             areas = [("FMAP", 0, 0x2000)]
             areas += [(f"A{n}", 0x2000 + 0x10 * n, 0x10) for n in range(1, count)]
-            table = "area  0x00000000  0x2000  0x0  FMAP\n" + "".join(
-                f"area  0x{place:08x}  0x10    0x0  {name}\n" for name, place, _ in areas[1:])
+            table = "      IN IMAGE    SIZE    AREA\narea  0x00000000  0x2000  FMAP\n" + "".join(
+                f"area  0x{place:08x}  0x10    {name}\n" for name, place, _ in areas[1:])
             with self.subTest(count):
-                self.shows(0, board(size, areas), (table if count == 128 else "") + """
+                self.shows(0, board(size, areas), (table if count == 128 else "") + lines("""
                     1 remark is not shown: -v shows it
-                    sound: 0 bad, 1 remarks, 0 changes
-                """)
+                    sound: 0 bad, 1 remark
+                """))
 
     def test_json(self):
         status, text = self.on_terminal({"image.rom": SOUND}, ["--json", "image.rom"], {})
@@ -164,11 +182,13 @@ class OneImage(TerminalReports):
 
 class Colours(TerminalReports):
     COLOURED = f"""
-        area  0x00000000  0x100  0x0  FMAP
-        area  0x00000100  0x100  0x0  A     cbfs
-        {RED}bad  A  a  0x40  has the name of an earlier component{RESET}
+              IN IMAGE    SIZE   AREA
+        area  0x00000000  0x100  FMAP
+        area  0x00000100  0x100  A     cbfs
+             AREA  COMPONENT  OFFSET
+        {RED}bad  A     a          0x40    has the name of an earlier component{RESET}
         7 remarks are not shown: -v shows them
-        {RED}not sound: 1 bad, 7 remarks, 0 changes{RESET}
+        {RED}not sound: 1 bad, 7 remarks{RESET}
     """
 
     def test_colours(self):
@@ -178,10 +198,11 @@ class Colours(TerminalReports):
 
     def test_a_sound_image(self):
         self.shows(0, bytes(SOUND), f"""
-            area  0x00000000  0x100  0x0  FMAP
-            area  0x00000100  0xc0   0x0  A     cbfs
+                  IN IMAGE    SIZE   AREA
+            area  0x00000000  0x100  FMAP
+            area  0x00000100  0xc0   A     cbfs
             6 remarks are not shown: -v shows them
-            {GREEN}sound: 0 bad, 6 remarks, 0 changes{RESET}
+            {GREEN}sound: 0 bad, 6 remarks{RESET}
         """, environment={"TERM": "xterm"})
 
     def test_no_colours(self):
@@ -206,37 +227,39 @@ class TwoImages(TerminalReports):
     def compares(self, text, options="", environment=None):
         files = {"old.rom": self.OLD, "new.rom": self.NEW}
         done = self.on_terminal(files, [*options.split(), "old.rom", "new.rom"], environment or {})
-        self.assertEqual(done, (1, lines(text)))
+        self.assertEqual(done, (1, lines(self.TABLE) + lines(text)))
 
     TABLE = """
-        area  0x00000000  0x200  0x0  FMAP   changed
-        area  0x00000300  0x40   0x0  SAME   unchanged
-        area  0x00000340  0x40   0x8  KEPT   changed PRESERVE
-        area  0x00000480  0x40   0x0  MOVED  moved
-        area  0x000003c0  0x20   0x0  SIZE   resized
-        area  0x00000400  0x40   0x2  FLAGS  other flags
-        area  0x00000440  0x40   0x0  ADDED  new
-        area  0x000007c0  0x80   0x0  OUT    not compared
-        area  0x00000600  0x100  0x0  A      changed cbfs
-        area  0x000004c0  0x40   0x0  SAME   not compared
+              IN IMAGE    SIZE   AREA
+        area  0x00000000  0x200  FMAP   changed
+        area  0x00000300  0x40   SAME   unchanged
+        area  0x00000340  0x40   KEPT   changed flag PRESERVE
+        area  0x00000480  0x40   MOVED  moved
+        area  0x000003c0  0x20   SIZE   resized
+        area  0x00000400  0x40   FLAGS  other flags
+        area  0x00000440  0x40   ADDED  new
+        area  0x000007c0  0x80   OUT    not compared
+        area  0x00000600  0x100  A      changed cbfs
+        area  0x000004c0  0x40   SAME   not compared
     """
 
     def test_changes(self):
-        self.compares(self.TABLE + f"""
-            {RED}bad     OUT    -  0x7c0  ends outside the image{RESET}
-            {RED}bad     SAME   -  0x4c0  has the name of an earlier area SAME{RESET}
-            {RED}bad     KEPT   -  0x340  erase blocks differ 1{RESET}
-            {YELLOW}change  -      -  -      erase blocks differ 1{RESET}
-            {YELLOW}change  FMAP   -  0x0    erase blocks differ 1{RESET}
-            {YELLOW}change  MOVED  -  0x480  area moved from 0x380{RESET}
-            {YELLOW}change  SIZE   -  0x3c0  area resized from 0x40{RESET}
-            {YELLOW}change  FLAGS  -  0x400  flags changed from 0x0{RESET}
-            {YELLOW}change  ADDED  -  0x440  area added{RESET}
-            {YELLOW}change  OUT    -  0x7c0  not compared{RESET}
-            {YELLOW}change  A      -  0x600  erase blocks differ 1{RESET}
-            {YELLOW}change  GONE   -  0x440  area gone{RESET}
-            {YELLOW}change  A      b  0x0    component added{RESET}
-            {YELLOW}change  A      a  0x0    component removed{RESET}
+        self.compares(f"""
+                    AREA   COMPONENT  OFFSET
+            {RED}bad     OUT    -          0x7c0   ends outside the image{RESET}
+            {RED}bad     SAME   -          0x4c0   has the name of an earlier area SAME{RESET}
+            {RED}bad     KEPT   -          0x340   erase blocks differ 1{RESET}
+            {YELLOW}change  -      -          -       erase blocks differ 1{RESET}
+            {YELLOW}change  FMAP   -          0x0     erase blocks differ 1{RESET}
+            {YELLOW}change  MOVED  -          0x480   area moved from 0x380{RESET}
+            {YELLOW}change  SIZE   -          0x3c0   area resized from 0x40{RESET}
+            {YELLOW}change  FLAGS  -          0x400   flags changed from 0x0{RESET}
+            {YELLOW}change  ADDED  -          0x440   area added{RESET}
+            {YELLOW}change  OUT    -          0x7c0   not compared{RESET}
+            {YELLOW}change  A      -          0x600   erase blocks differ 1{RESET}
+            {YELLOW}change  GONE   -          0x440   area gone{RESET}
+            {YELLOW}change  A      b          0x0     component added{RESET}
+            {YELLOW}change  A      a          0x0     component removed{RESET}
             5 remarks are not shown: -v shows them
             {RED}not sound: 3 bad, 5 remarks, 11 changes{RESET}
         """, "--keep-preserved", {"TERM": "xterm"})

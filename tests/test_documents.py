@@ -662,11 +662,12 @@ class Json(ProgramTest):
         return json.loads(folder.run("cbfscheck --json --list old.rom new.rom").output)
 
     def test_the_examples(self):
-        document, component, row = self.examples()
+        document, area, component, row = self.examples()
         document = document.replace("PATH", '"a"').replace("[..]", "[]")
         document = json.loads(re.sub(r":N\b", ":0", document))
         report = self.report()
         self.assertEqual(list(document), list(report))
+        self.assertEqual(list(json.loads(area)), list(report["areas"][0]))
         self.assertEqual(list(json.loads(component)), list(report["components"][0]))
         rows = [seen for seen in report["rows"] if seen["code"] == "hash-invalid"]
         self.assertEqual(list(json.loads(row)), list(rows[0]))

@@ -12,6 +12,7 @@ import unittest
 from tests.findings import CheckTest, board, conclusion, free, report
 from tests.image import Component, join
 from tests.programs import program
+from tests.reading import Reading
 
 # The most memory for each MiB of the images, and for any image, in bytes; the most seconds for an
 # image of 4 MiB, and for two images of 16 MiB with as many areas as a map can have.
@@ -454,11 +455,18 @@ def of_region(name, components, free_bytes=0):
              room if free_bytes else "no room for a component")]
 
 
+def of_areas(image):
+    """Returns the lines of --list for the areas of an image, whose names need no escapes."""
+    return [f"area|{area.name.decode()}|{area.offset:#x}|{area.size}|{area.flags:#x}"
+            for area in Reading(image).areas]
+
+
 class MemoryTest(CheckTest):
     """Checks reports of many rows, and the memory and the time that they take."""
 
-    def measure(self, files, options, rows, listed, seconds):
-        """Checks a report: all rows as text, or their numbers in the document."""
+    def measure(self, files, options, rows, areas, components, seconds):
+        """Checks a report: all rows as text, or their numbers in the document. `areas` and
+        `components` are the lines of --list."""
         folder = self.folder(files)
         command = [program("cbfscheck"), *options, *files]
         done = subprocess.run([sys.executable, "-IS", "-c", MEASURE, *command], cwd=folder.path,
@@ -469,12 +477,12 @@ class MemoryTest(CheckTest):
         counts = counts_of(rows)
         if "--json" in options:
             found = json.loads(printed)
-            seen = [len(found["rows"]), len(found.get("components", []))]
+            seen = [len(found.get(name, [])) for name in ("rows", "areas", "components")]
             self.assertEqual([*seen, found["bad"], found["remarks"], found["changes"]],
-                             [len(printed_rows), len(listed), *counts])
+                             [len(printed_rows), len(areas), len(components), *counts])
         else:
             last = conclusion(*counts)
-            expected = report("\n".join([*listed, *printed_rows, last]))
+            expected = report("\n".join([*areas, *components, *printed_rows, last]))
             self.assertTrue(printed == expected, printed[:2000])
         self.assertEqual(int(status), 1 if counts[0] else 0)
         most = sum(map(len, files.values())) * MEMORY_FOR_MIB // MIB + MEMORY_FOR_ANY
@@ -484,21 +492,21 @@ class MemoryTest(CheckTest):
     def one(self, image, rows, listed=()):
         """Checks the report of an image in each form, with and without the list and -v."""
         usual = [row for row in rows if not row.endswith("|no hash")]
-        for options, expected, components in [
-            ([], usual, []), (["-v"], rows, []), (["--json"], usual, []),
-            (["-v", "--json"], rows, []), (["--list"], usual, listed),
-            (["-v", "--list", "--json"], rows, listed),
+        for options, expected in [
+            ([], usual), (["-v"], rows), (["--json"], usual), (["-v", "--json"], rows),
+            (["--list"], usual), (["-v", "--list", "--json"], rows),
         ]:
+            areas, components = (of_areas(image), listed) if "--list" in options else ([], [])
             with self.subTest(options):
-                files = {"image.rom": image}
-                self.measure(files, options, [MAP, *expected], list(components), SECONDS)
+                self.measure({"image.rom": image}, options, [MAP, *expected], areas, components,
+                             SECONDS)
 
     def two(self, old, new, rows, *options):
         """Checks the report of two images in both forms."""
         files = {"old.rom": old, "image.rom": new}
         for form in ([], ["--json"]):
             with self.subTest(form):
-                self.measure(files, [*form, *options], [MAP, *rows], [], SECONDS_FOR_TWO)
+                self.measure(files, [*form, *options], [MAP, *rows], [], [], SECONDS_FOR_TWO)
 
 
 class ManyAreas(MemoryTest):
@@ -543,6 +551,8 @@ class ManyComponents(MemoryTest):
     """Regions of cells of 64 bytes, each with as many rows as a cell can have."""
 
     CELL = join(Component(b"\xff", b"x", type=0x77))
+    # The offset of the content in the cell.
+    CONTENT = 28
 
     def rows(self, name, count):
         """Returns the rows of a region of so many cells, and its list of components."""
@@ -553,7 +563,7 @@ class ManyComponents(MemoryTest):
             rows += [f"remark|{name}|\\xff|{at:#x}|name isn't UTF-8",
                      f"remark|{name}|\\xff|{at:#x}|type without a name|0x77",
                      f"remark|{name}|\\xff|{at:#x}|no hash"]
-        listed = [f"component|{name}|\\xff|{at:#x}|0x77|1|none|no hash"
+        listed = [f"component|{name}|\\xff|{at:#x}|0x77|1|none|no hash|{at + self.CONTENT:#x}"
                   for at in range(0, 64 * count, 64)]
         return [*rows, *of_region(name, count)], listed
 

@@ -543,8 +543,9 @@ class RegionFindings(ReportTest):
 
     def test_first_and_last_rows(self):
         files = {"image.rom": board(join(Component(b"x", self.CONTENT), empty_region(0x3C0)))}
-        listed = "component COREBOOT x 0x0 raw 10 none no_hash"
-        self.in_order("the list before the map", "cbfscheck image.rom --list", files, listed,
+        listed = ["area COREBOOT 0x400 1024 0x0",
+                  "component COREBOOT x 0x0 raw 10 none no_hash 0x1c"]
+        self.in_order("the list before the map", "cbfscheck image.rom --list", files, *listed,
                       MAP_ROW, status=0)
         files = {"image.rom": board(join(*(
             Component(b"c%d" % number, b"0", type=0x1234, attributes=self.WRONG)

@@ -186,13 +186,13 @@ class Components(ProgramTest):
         self.check("cbfscheck image.rom", self.files, output=self.report())
 
     def test_report_with_a_list(self):
-        lines = []
+        lines = ["area\tFMAP\t0x0\t4096\t0x0\n", "area\tCOREBOOT\t0x1000\t3670016\t0x0\n"]
         for number, place in enumerate(self.places, 1):
-            state = "no hash" if number % 1000 else "sha256 valid"
-            length = len(self.content(number))
-            lines.append(
-                f"component\tCOREBOOT\tc{number}\t{place:#x}\traw\t{length}\tnone\t{state}\n"
-            )
+            # (a header of 24 bytes, a name field of 8, and a hash attribute of 44)
+            state, metadata = ("no hash", 32) if number % 1000 else ("sha256 valid", 76)
+            fields = ["component", "COREBOOT", f"c{number}", f"{place:#x}", "raw",
+                      str(len(self.content(number))), "none", state, f"{place + metadata:#x}"]
+            lines.append("\t".join(fields) + "\n")
         self.check("cbfscheck image.rom --list", self.files, output="".join(lines) + self.report())
 
     def test_report_of_changes(self):

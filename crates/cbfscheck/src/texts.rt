@@ -24,7 +24,7 @@ what flashing NEW over OLD changes. Images are never written.
                         (decimal, 0x.., from the start of the area), or ends
                         with the area (end)
   --all-hashed          require a digest for each component
-  --list                also list the components of the checked areas
+  --list                also list all areas, and the components of checked areas
   -v                    also list components without a digest, and more than
                         16 rows of a kind
   --json                print the report as one JSON document

@@ -18,11 +18,11 @@ use Rattle.check_report.specs.declared.rows.conclusion.Conclusion.{Conclusion}
 use Rattle.check_report.specs.declared.rows.form.LineForm.{LineForm}
 use Rattle.check_report.specs.declared.rows.form.LineForm.TheVariants as forms
 use Rattle.check_report.specs.Fields.{Line, SeenField, field, line_json, line_text, members}
-use Rattle.check_report.specs.Reports.{closing, conclusion_fields, conclusion_style, hidden_remarks, document, ending, first_fields, follows_after, heading, in_form, json_report, lines_value, member_tokens, part, parts, start_tokens, text_of_line, text_report, widths_after}
+use Rattle.check_report.specs.Reports.{Listing, closing, conclusion_fields, conclusion_style, hidden_remarks, document, ending, first_fields, follows_after, heading, in_form, json_report, lines_value, listing_text, member_tokens, next_tokens, part, parts, sentence, start_tokens, text_of_line, text_report, widths_after}
 use Rattle.check_report.specs.Rows.{summary}
 use Rattle.check_report.specs.Tables.{cells, painted, widened}
 use Rattle.check_report.specs.declared.rows.form.Colours.{Colours}
-use Rattle.check_report.specs.declared.request.Asked.{Asked}
+use Rattle.check_report.specs.declared.request.Request.{Request}
 use Rattle.check_report.proofs.Tokens.{fields_tokens, object_tokens}
 
 -- a value just ended after these tokens
@@ -95,36 +95,44 @@ array_text fields name lines rest =
     ∙ ap (λ c. print (start_tokens fields name) ++ print_from c (lines_tokens lines)) (begun fields name))
     (after _ rest)
 
--- the part before the rows
-pub opening : (form : LineForm) (files : Files) (lines : List Line)
-    → (part form false [] (start_tokens (first_fields files None) (codes "components")) ++ parts form false lines) ++ part form false [] (end_array ∷ key (codes "rows") ∷ begin_array ∷ [])
-    ≡ heading form files (Some lines)
-opening forms.Text files lines = append-nil (flat_map line_text lines)
-opening forms.Ruler files lines = append-nil (flat_map (text_of_line forms.Ruler) lines)
-opening (forms.Table columns) files lines = append-nil (flat_map (text_of_line (forms.Table columns)) lines)
-opening forms.Json files lines = let rest : List Token = key (codes "rows") ∷ begin_array ∷ [] in
-    sym (array_text (first_fields files None) (codes "components") lines rest) ∙ sym (ap print (fields_tokens (first_fields files None) [] (codes "components") lines rest))
+-- a text and an array, from its start to that of the next one
+pub array_part : (form : LineForm) (text : List ℕ) (first : List SeenField) (name next : List ℕ) (lines : List Line)
+    → (part form false text (start_tokens first name) ++ parts form false lines) ++ part form false [] (next_tokens next)
+    ≡ part form false (text ++ flat_map (text_of_line form) lines) (start_tokens (first ++ record { key = name; value = lines_value lines } ∷ []) next)
+array_part forms.Text text first name next lines = append-nil (text ++ flat_map line_text lines)
+array_part forms.Ruler text first name next lines = append-nil (text ++ flat_map (text_of_line forms.Ruler) lines)
+array_part (forms.Table columns) text first name next lines = append-nil (text ++ flat_map (text_of_line (forms.Table columns)) lines)
+array_part forms.Json text first name next lines = let rest : List Token = key next ∷ begin_array ∷ [] in
+    sym (array_text first name lines rest) ∙ sym (ap print (fields_tokens first [] name lines rest))
 
 regroup : (a b c d : List ℕ) → a ++ (b ++ (c ++ d)) ≡ ((a ++ b) ++ c) ++ d
 regroup a b c d = simp append_assoc
 
-text_whole : (form : LineForm) (list : Option (List Line)) (rows : List Line) (end : Conclusion)
-    → option_map_or (flat_map (text_of_line form)) list [] ++ (flat_map (text_of_line form) rows ++ (summary end ++ line_feed)) ≡ text_report (text_of_line form) list rows end ++ line_feed
-text_whole form list rows end = regroup (option_map_or (flat_map (text_of_line form)) list []) (flat_map (text_of_line form) rows) (summary end) line_feed
+text_whole : (form : LineForm) (list : Option Listing) (rows : List Line) (end : Conclusion)
+    → option_map_or (listing_text (text_of_line form)) list [] ++ (flat_map (text_of_line form) rows ++ (summary end ++ line_feed)) ≡ text_report (text_of_line form) list rows end ++ line_feed
+text_whole form list rows end = regroup (option_map_or (listing_text (text_of_line form)) list []) (flat_map (text_of_line form) rows) (summary end) line_feed
 
-pub whole : (form : LineForm) (files : Files) (list : Option (List Line)) (rows : List Line) (end : Conclusion)
-    → heading form files list ++ (parts form false rows ++ ending form end)
-    ≡ in_form form (text_report (text_of_line form) list rows end) (json_report files list rows end) ++ line_feed
-whole forms.Text files list rows end = text_whole forms.Text list rows end
-whole forms.Ruler files list rows end = text_whole forms.Ruler list rows end
-whole (forms.Table columns) files list rows end = text_whole (forms.Table columns) list rows end
-whole forms.Json files list rows end =
+json_whole : (files : Files) (list : Option Listing) (rows : List Line) (end : Conclusion)
+    → print (start_tokens (first_fields files list) (codes "rows")) ++ (parts forms.Json false rows ++ ending forms.Json end) ≡ json_report files list rows end ++ line_feed
+json_whole files list rows end =
     let first : List SeenField = first_fields files list in
     let rest : List Token = flat_map member_tokens (conclusion_fields end) ++ end_object ∷ [] in
     let tokens : json_tokens (document files list rows end) ≡ (start_tokens first (codes "rows") ++ lines_tokens rows) ++ (end_array ∷ rest) =
     object_tokens (first ++ field "rows" (lines_value rows) ∷ conclusion_fields end) ∙ fields_tokens first (conclusion_fields end) (codes "rows") rows (end_object ∷ []) in
     regroup (print (start_tokens first (codes "rows"))) (parts forms.Json false rows) (print (end_array ∷ rest)) line_feed
     ∙ ap (λ l. l ++ line_feed) (sym (array_text first (codes "rows") rows rest) ∙ sym (ap print tokens))
+
+pub whole : (form : LineForm) (files : Files) (list : Option Listing) (rows : List Line) (end : Conclusion)
+    → heading form files list ++ (parts form false rows ++ ending form end)
+    ≡ in_form form (text_report (text_of_line form) list rows end) (json_report files list rows end) ++ line_feed
+whole forms.Text files None rows end = text_whole forms.Text None rows end
+whole forms.Text files (Some list) rows end = text_whole forms.Text (Some list) rows end
+whole forms.Ruler files None rows end = text_whole forms.Ruler None rows end
+whole forms.Ruler files (Some list) rows end = text_whole forms.Ruler (Some list) rows end
+whole (forms.Table columns) files None rows end = text_whole (forms.Table columns) None rows end
+whole (forms.Table columns) files (Some list) rows end = text_whole (forms.Table columns) (Some list) rows end
+whole forms.Json files None rows end = json_whole files None rows end
+whole forms.Json files (Some list) rows end = json_whole files (Some list) rows end
 
 -- the measured widths after lines and further lines
 pub widths_after-append : (form : LineForm) (ws : List ℕ) (xs ys : List Line) → widths_after form ws (xs ++ ys) ≡ widths_after form (widths_after form ws xs) ys
@@ -143,5 +151,5 @@ no_widths_after forms.Ruler ws = refl
 pub some_ending : (form : LineForm) (end : Conclusion) → 0 < length (ending form end)
 some_ending form end = omega (arith, length-append (part form false (summary end) (end_array ∷ flat_map member_tokens (conclusion_fields end) ++ end_object ∷ [])) line_feed)
 
-pub some_closing : (colours : Colours) (asked : Asked) (end : Conclusion) → 0 < length (closing colours asked end)
-some_closing colours asked end = omega (arith, length-append (hidden_remarks (if asked.is_verbose then 0 else end.counts.remarks) ++ painted colours (conclusion_style end) (summary end)) line_feed)
+pub some_closing : (colours : Colours) (request : Request) (end : Conclusion) → 0 < length (closing colours request end)
+some_closing colours request end = omega (arith, length-append (hidden_remarks (if request.asked.is_verbose then 0 else end.counts.remarks) ++ painted colours (conclusion_style end) (sentence request.files end)) line_feed)

@@ -1,5 +1,5 @@
 -- Tables that are measured, and then printed.
-use Rattle.std.proofs.Common.{◌≡◌, ◌∙◌, ℕ, ◌<◌, List, [], ◌∷◌, ◌++◌, Bool, true, false, length, Ok, Err, map, refl, ap, arith, replicate, subst}
+use Rattle.std.proofs.Common.{◌≡◌, ◌∙◌, ℕ, ◌<◌, List, [], ◌∷◌, ◌++◌, Bool, true, false, length, Ok, Err, map, refl, ap, arith, subst}
 use Rattle.std.specs.Prelude.{IsErrAnd, OnErr, OnOk, Result, Some, if◌then◌else◌}
 use Rattle.std.specs.Io.KnownBytes.{Appends}
 use Rattle.std.proofs.lemmas.List.{map-append}
@@ -17,9 +17,9 @@ use Rattle.check_report.specs.declared.rows.writer.RowWriter.{RowWriter}
 use Rattle.check_report.specs.declared.rows.writer.Selection.{Selection}
 use Rattle.check_report.specs.Effects.{Adds, HasWritten, PrintsLines, Puts}
 use Rattle.check_report.specs.Fields.{Line}
-use Rattle.check_report.specs.Reports.{text_of_line}
+use Rattle.check_report.specs.Reports.{follows_after, text_of_line}
 use Rattle.check_report.specs.Rows.{SeenRow, counts_of, report_rows, row_line, rows_by_verdict, selected, selected_lines, shown_lines}
-use Rattle.check_report.specs.Tables.{table, table_line, widened_all}
+use Rattle.check_report.specs.Tables.{has_lines, heading_if, table, table_line, widths}
 use Rattle.check_report.proofs.Prefixes.{part_after, part_of_more, prefix_after, prefix_none, prefix_of_more}
 use Rattle.check_report.proofs.PrinterEffects.{has_lines_both, lines_of, printed_prefix, prints_lines}
 use Rattle.check_report.proofs.SoundRows.{limited, more_lines, part_of_selected}
@@ -68,27 +68,51 @@ nothing : (lines : List Line) → flat_map (text_of_line forms.Ruler) lines ≡ 
 nothing [] = refl
 nothing (line ∷ lines) = nothing lines
 
-module _ {W : Type 0} (sink : SinkOf W) (colours : Colours) (columns : ℕ) (lines : List Line) (ruler measured : Printer W) where
+followed : (lines : List Line) → follows_after false lines ≡ has_lines lines
+followed [] = refl
+followed (line ∷ lines) = refl
+
+module _ {W : Type 0} (sink : SinkOf W) (colours : Colours) (heading : List (List ℕ)) (lines : List Line) (ruler measured : Printer W) where
   ruled : ruler.form ≡ forms.Ruler → PrintsLines sink (Ok tt) ruler measured lines → Puts sink (Ok tt) ruler.out measured.out []
   ruled form p = record { put = rw (form, nothing lines) at p.prints.printed.text; stopped = tt; cause = p.prints.cause }
 
-  pub table_unmeasured : (e : WriteFault) → ruler.form ≡ forms.Ruler → PrintsLines sink (Err e) ruler measured lines → Puts sink (Err e) ruler.out measured.out (table colours columns lines)
-  table_unmeasured e form p = puts_before sink e ruler.out measured.out [] (table colours columns lines)
+  pub table_unmeasured : (e : WriteFault) → ruler.form ≡ forms.Ruler → PrintsLines sink (Err e) ruler measured lines → Puts sink (Err e) ruler.out measured.out (table colours heading lines)
+  table_unmeasured e form p = puts_before sink e ruler.out measured.out [] (table colours heading lines)
       (record { put = tt; stopped = rw (form, nothing lines) at p.prints.stopped; cause = p.prints.cause })
 
-  module _ (drawn new : Printer W) where
-    drawn_lines : (result : Result (Unit {0}) WriteFault) → drawn.form ≡ forms.Table (record { colours = colours; widths = measured.widths })
-        → PrintsLines sink result drawn new lines → Puts sink result drawn.out new.out (flat_map (text_of_line (forms.Table (record { colours = colours; widths = measured.widths }))) lines)
-    drawn_lines (Ok u) form p = record { put = rw form at p.prints.printed.text; stopped = tt; cause = p.prints.cause }
-    drawn_lines (Err e) form p = record { put = tt; stopped = rw form at p.prints.stopped; cause = p.prints.cause }
+  -- the widths and the flag after the lines are measured
+  measured_widths : ruler.widths.items ≡ map length heading → ruler.form ≡ forms.Ruler → PrintsLines sink (Ok tt) ruler measured lines → measured.widths.items ≡ widths heading lines
+  measured_widths is form p = rw (form, is) at p.widths
 
-    pub table_puts : (result : Result (Unit {0}) WriteFault) → ruler.form ≡ forms.Ruler → ruler.widths.items ≡ replicate columns 0 → PrintsLines sink (Ok tt) ruler measured lines
-        → drawn.form ≡ forms.Table (record { colours = colours; widths = measured.widths }) → drawn.out ≡ measured.out → PrintsLines sink result drawn new lines
-        → Puts sink result ruler.out new.out (table colours columns lines)
-    table_puts result form widths first is out more =
-        let measures : measured.widths.items ≡ widened_all (replicate columns 0) lines = rw (form, widths) at first.widths in
-        subst (λ ws. Puts sink result ruler.out new.out (flat_map (table_line colours ws) lines)) measures
-        (puts_after sink result ruler.out measured.out new.out [] _ (ruled form first) (rw out at (drawn_lines result is more)))
+  measured_follows : ruler.follows ≡ false → PrintsLines sink (Ok tt) ruler measured lines → measured.follows ≡ has_lines lines
+  measured_follows is p = (rw is at p.prints.printed.follows) ∙ followed lines
+
+  module _ (drawn : Printer W) where
+    -- the heading after the measured lines
+    table_heading : (result : Result (Unit {0}) WriteFault) → ruler.form ≡ forms.Ruler → ruler.follows ≡ false → ruler.widths.items ≡ map length heading
+        → PrintsLines sink (Ok tt) ruler measured lines → Puts sink result measured.out drawn.out (heading_if measured.follows measured.widths.items heading)
+        → Puts sink result ruler.out drawn.out (heading_if (has_lines lines) (widths heading lines) heading)
+    table_heading result form follows is first drew =
+        puts_after sink result ruler.out measured.out drawn.out [] _ (ruled form first) (rw (measured_follows follows first, measured_widths is form first) at drew)
+
+    pub table_undrawn : (e : WriteFault) → ruler.form ≡ forms.Ruler → ruler.follows ≡ false → ruler.widths.items ≡ map length heading
+        → PrintsLines sink (Ok tt) ruler measured lines → Puts sink (Err e) measured.out drawn.out (heading_if measured.follows measured.widths.items heading)
+        → Puts sink (Err e) ruler.out drawn.out (table colours heading lines)
+    table_undrawn e form follows is first drew = puts_before sink e ruler.out drawn.out _ _ (table_heading (Err e) form follows is first drew)
+
+    module _ (new : Printer W) where
+      drawn_lines : (result : Result (Unit {0}) WriteFault) → drawn.form ≡ forms.Table (record { colours = colours; widths = measured.widths })
+          → PrintsLines sink result drawn new lines → Puts sink result drawn.out new.out (flat_map (text_of_line (forms.Table (record { colours = colours; widths = measured.widths }))) lines)
+      drawn_lines (Ok u) form p = record { put = rw form at p.prints.printed.text; stopped = tt; cause = p.prints.cause }
+      drawn_lines (Err e) form p = record { put = tt; stopped = rw form at p.prints.stopped; cause = p.prints.cause }
+
+      pub table_puts : (result : Result (Unit {0}) WriteFault) → ruler.form ≡ forms.Ruler → ruler.follows ≡ false → ruler.widths.items ≡ map length heading
+          → PrintsLines sink (Ok tt) ruler measured lines → Puts sink (Ok tt) measured.out drawn.out (heading_if measured.follows measured.widths.items heading)
+          → drawn.form ≡ forms.Table (record { colours = colours; widths = measured.widths }) → PrintsLines sink result drawn new lines
+          → Puts sink result ruler.out new.out (table colours heading lines)
+      table_puts result form follows is first drew drawn_form more =
+          puts_after sink result ruler.out drawn.out new.out _ _ (table_heading (Ok tt) form follows is first drew)
+          (subst (λ ws. Puts sink result drawn.out new.out (flat_map (table_line colours ws) lines)) (measured_widths is form first) (drawn_lines result drawn_form more))
 
 -- ---- the rows of a verdict
 

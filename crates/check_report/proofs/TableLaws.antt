@@ -1,5 +1,5 @@
 -- The columns of a table are aligned.
-use Rattle.std.proofs.Common.{◌≡◌, ◌∙◌, ℕ, zero, suc, ◌+◌, ◌-◌, ◌≤◌, length, take, drop, List, [], ◌∷◌, ◌++◌, refl, ap, sym, append_assoc, arith, length-append, replicate}
+use Rattle.std.proofs.Common.{◌≡◌, ◌∙◌, ℕ, zero, suc, ◌+◌, ◌-◌, ◌≤◌, length, take, drop, List, [], ◌∷◌, ◌++◌, refl, ap, sym, append_assoc, arith, length-append, map}
 use Rattle.std.specs.Prelude.{slice_get, Option, Some, None, IfSome, unwrap_or}
 use Rattle.std.specs.List.{All, AllByRecursion}
 use Rattle.std.proofs.lemmas.List.{take_at, length-replicate}
@@ -56,5 +56,14 @@ all_begin : (ws : List ℕ) (lines : List Line) → AllByRecursion (λ line. Fit
 all_begin ws [] fit = tt
 all_begin ws (line ∷ lines) fit = (λ n le. for_some (slice_get (cells line) n) _ (λ cell is. begins ws (cells line) n cell fit.0 le is), all_begin ws lines fit.1)
 
-pub aligned : (columns : ℕ) (lines : List Line) → All (λ line. BeginsInColumns (widths columns lines) (cells line)) lines
-aligned columns lines = All-from_recursion (λ line. BeginsInColumns (widths columns lines) (cells line)) lines (all_begin (widths columns lines) lines (each_fits (replicate columns 0) lines))
+pub aligned : (heading : List (List ℕ)) (lines : List Line) → All (λ line. BeginsInColumns (widths heading lines) (cells line)) lines
+aligned heading lines = All-from_recursion (λ line. BeginsInColumns (widths heading lines) (cells line)) lines (all_begin (widths heading lines) lines (each_fits (map length heading) lines))
+
+-- a heading fits into columns of its own widths
+own_fits : (heading : List (List ℕ)) → Fits (map length heading) heading
+own_fits [] = tt
+own_fits (cell ∷ cells) = (omega arith, own_fits cells)
+
+pub heading_aligned : (heading : List (List ℕ)) (lines : List Line) → BeginsInColumns (widths heading lines) heading
+heading_aligned heading lines = λ n le. for_some (slice_get heading n) _
+    (λ cell is. begins (widths heading lines) heading n cell (all_still_fit (map length heading) heading lines (own_fits heading)) le is)

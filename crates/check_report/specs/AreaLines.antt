@@ -75,15 +75,14 @@ change_value i a = option_map_or
     (λ c. text_value (change_word i.areas.items c.comparison.areas.items a))
     i.changes (seen_value Absent)
 
--- place, size, flags and name; with an old image, the change; then words for two properties
+-- place, size and name; with an old image, the change; then words for two properties
 abbrev pub area_fields : Inspection → NumberedArea → List SeenField
 area_fields i a =
     field "place" (seen_value (Place a.area.offset))
     ∷ field "size" (seen_value (Offset a.area.size))
-    ∷ field "flags" (seen_value (Offset a.area.flags))
     ∷ field "name" (name_value (area_name a))
     ∷ field "change" (change_value i a)
-    ∷ field "preserve" (word_if (is_preserved a) (codes "PRESERVE"))
+    ∷ field "preserve" (word_if (is_preserved a) (codes "flag PRESERVE"))
     ∷ field "cbfs" (word_if (is_checked i.findings.items a) (codes "cbfs"))
     ∷ []
 

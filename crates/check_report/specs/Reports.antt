@@ -3,7 +3,7 @@
 -- This project defines the choice and order of components and rows.
 use Rattle.std.specs.Prelude.{ℕ, List, [], ◌∷◌, ◌++◌, map, is_none, if◌then◌else◌, Option, false}
 use Rattle.std.specs.Prelude.{◌&&◌, ◌==◌, filter, not, Bool, true, ◌≡◌, None}
-use Rattle.std.specs.Prelude.{IsSomeAnd}
+use Rattle.std.specs.Prelude.{IsSomeAnd, is_some}
 use Rattle.std.specs.Prelude.{MatchOption, length, suc, zero}
 use Rattle.std.specs.Fmt.{decimal}
 use Rattle.std.specs.List.{flat_map, list_any}
@@ -56,7 +56,6 @@ use Rattle.check_report.specs.declared.rows.form.LineForm.{LineForm}
 use Rattle.check_report.specs.declared.rows.form.LineForm.TheVariants as lines
 use Rattle.check_report.specs.declared.rows.style.Style.{Style}
 use Rattle.check_report.specs.declared.rows.style.Style.TheVariants as styles
-use Rattle.check_report.specs.declared.request.Asked.{Asked}
 use Rattle.check_report.specs.Tables.{painted, table, table_line, widened_all}
 use Rattle.check_report.specs.AreaLines.{area_lines}
 pub use Rattle.check_report.specs.AreaLines.{is_preserved}
@@ -85,25 +84,45 @@ subject_of request = if request.is_strict then subjects.Flashing else subjects.I
 abbrev pub lines_value : List Line → SeenValue
 lines_value lines = json_value (array (items (map line_json lines)))
 
--- the fields before the rows
-abbrev pub first_fields : Files → Option (List Line) → List SeenField
-first_fields files list =
+-- what --list lists: the areas of the flash map, and the components of the checked areas
+abbrev pub Listing : Type 0
+Listing = record { areas : List Line; components : List Line }
+
+abbrev pub file_fields : Files → List SeenField
+file_fields files =
     field "format" (seen_value (Count 1))
     ∷ field "image" (text_value files.image.now)
     ∷ field "old" (option_map_or text_value (option_copied files.old) (seen_value Absent))
-    ∷ option_map_or (λ lines. field "components" (lines_value lines) ∷ []) list []
+    ∷ []
 
-abbrev pub document : Files → Option (List Line) → List Line → Conclusion → Json
+-- the fields before the components
+abbrev pub fields_to_areas : Files → List Line → List SeenField
+fields_to_areas files areas = file_fields files ++ field "areas" (lines_value areas) ∷ []
+
+-- the fields before the rows, with a list
+abbrev pub listed_fields : Files → Listing → List SeenField
+listed_fields files list =
+    fields_to_areas files list.areas ++ field "components" (lines_value list.components) ∷ []
+
+-- the fields before the rows
+abbrev pub first_fields : Files → Option Listing → List SeenField
+first_fields files list = option_map_or (listed_fields files) list (file_fields files)
+
+abbrev pub document : Files → Option Listing → List Line → Conclusion → Json
 document files list rows end = object (members
     (first_fields files list ++ field "rows" (lines_value rows) ∷ conclusion_fields end))
 
+-- the text of a list, by the text of a line
+abbrev pub listing_text : (Line → List ℕ) → Listing → List ℕ
+listing_text text list = flat_map text list.areas ++ flat_map text list.components
+
 -- the report as text: the list on request, the rows and the conclusion, by the text of a line
-abbrev pub text_report : (Line → List ℕ) → Option (List Line) → List Line → Conclusion → List ℕ
+abbrev pub text_report : (Line → List ℕ) → Option Listing → List Line → Conclusion → List ℕ
 text_report text list rows end =
-    option_map_or (flat_map text) list [] ++ flat_map text rows ++ summary end
+    option_map_or (listing_text text) list [] ++ flat_map text rows ++ summary end
 
 -- the report as JSON: one document
-abbrev pub json_report : Files → Option (List Line) → List Line → Conclusion → List ℕ
+abbrev pub json_report : Files → Option Listing → List Line → Conclusion → List ℕ
 json_report files list rows end = print (json_tokens (document files list rows end))
 
 -- the bytes of a form of lines
@@ -143,10 +162,24 @@ abbrev pub start_tokens : List SeenField → List ℕ → List Token
 start_tokens fields name =
     begin_object ∷ flat_map member_tokens fields ++ key name ∷ begin_array ∷ []
 
+-- the end of an array, and the start of the next one with this name
+abbrev pub next_tokens : List ℕ → List Token
+next_tokens name = end_array ∷ key name ∷ begin_array ∷ []
+
+-- the part before the components of a list
+abbrev pub area_heading : LineForm → Files → List Line → List ℕ
+area_heading form files areas = part form false (flat_map (text_of_line form) areas)
+    (start_tokens (fields_to_areas files areas) (codes "components"))
+
+-- the part before the rows, with a list
+abbrev pub listed_heading : LineForm → Files → Listing → List ℕ
+listed_heading form files list = part form false (listing_text (text_of_line form) list)
+    (start_tokens (listed_fields files list) (codes "rows"))
+
 -- the part before the rows
-abbrev pub heading : LineForm → Files → Option (List Line) → List ℕ
-heading form files list = part form false (option_map_or (flat_map (text_of_line form)) list [])
-    (start_tokens (first_fields files list) (codes "rows"))
+abbrev pub heading : LineForm → Files → Option Listing → List ℕ
+heading form files list = option_map_or (listed_heading form files) list
+    (part form false [] (start_tokens (file_fields files) (codes "rows")))
 
 abbrev pub parts : LineForm → Bool → List Line → List ℕ
 parts form follows lines = part form follows (flat_map (text_of_line form) lines)
@@ -161,8 +194,21 @@ abbrev pub ending : LineForm → Conclusion → List ℕ
 ending form c = part form false (summary c)
     (end_array ∷ flat_map member_tokens (conclusion_fields c) ++ end_object ∷ []) ++ line_feed
 
--- ---- the choice of components and rows
+-- ---- the choice of areas, components and rows
 
+-- name; offset in the image, size in bytes, and flags, in the numbers of `cbfstool layout`
+abbrev pub map_fields : NumberedArea → List SeenField
+map_fields a =
+    field "area" (name_value (area_name a))
+    ∷ field "offset" (seen_value (Offset a.area.offset))
+    ∷ field "size" (seen_value (Count a.area.size))
+    ∷ field "flags" (seen_value (Offset a.area.flags))
+    ∷ []
+
+abbrev pub map_line : NumberedArea → Line
+map_line a = record { head = codes "area"; fields = map_fields a }
+
+-- the position is that of the entry in the area, and `content` that of its content
 abbrev pub component_fields : List ℕ → ℕ → List ℕ → Content → List SeenField
 component_fields area at name content =
     field "area" (name_value area)
@@ -172,6 +218,7 @@ component_fields area at name content =
     ∷ field "length" (seen_value (Count content.len))
     ∷ field "compression" (text_value (printed_compression content.compression))
     ∷ field "hash" (text_value (hash_words content.hash).1)
+    ∷ field "content" (seen_value (Offset content.start))
     ∷ []
 
 abbrev pub component_lines : List ℕ → RegionFinding → List Line
@@ -183,9 +230,15 @@ abbrev pub components_in : ImageFinding → List Line
 components_in (Region a anchor findings) = flat_map (component_lines (area_name a)) findings
 components_in _ = []
 
--- the components of the checked areas in order, on request
-abbrev pub listed : Request → Inspection → Option (List Line)
-listed request i = then_some request.asked.lists (flat_map components_in i.findings.items)
+-- all areas of the flash map, and the components of the checked areas, in order
+abbrev pub listing : Inspection → Listing
+listing i = record {
+  areas = map map_line i.areas.items;
+  components = flat_map components_in i.findings.items;
+}
+
+abbrev pub listed : Request → Inspection → Option Listing
+listed request i = then_some request.asked.lists (listing i)
 
 -- ---- rows
 
@@ -250,17 +303,24 @@ lines_report form request i = let list = listed request i in
 
 -- ---- the report for a terminal
 
--- the numbers of aligned columns: word, place, size, flags and name of an area; word, area, name,
--- position, type, length and compression of a component; verdict, area, component and position of
--- a row
-abbrev pub area_columns : ℕ
-area_columns = 5
+-- the headings of the aligned columns; the first column has the word of the line
+abbrev pub area_columns : List (List ℕ)
+area_columns = [] ∷ codes "IN IMAGE" ∷ codes "SIZE" ∷ codes "AREA" ∷ []
 
-abbrev pub component_columns : ℕ
-component_columns = 7
+abbrev pub component_columns : List (List ℕ)
+component_columns =
+    [] ∷ codes "AREA"
+    ∷ codes "COMPONENT"
+    ∷ codes "IN AREA"
+    ∷ codes "TYPE"
+    ∷ codes "LENGTH"
+    ∷ codes "COMPRESSION"
+    ∷ codes "HASH"
+    ∷ codes "CONTENT"
+    ∷ []
 
-abbrev pub row_columns : ℕ
-row_columns = 4
+abbrev pub row_columns : List (List ℕ)
+row_columns = [] ∷ codes "AREA" ∷ codes "COMPONENT" ∷ codes "OFFSET" ∷ []
 
 -- how many remarks a report without -v hides
 abbrev pub hidden_remarks : ℕ → List ℕ
@@ -271,23 +331,39 @@ hidden_remarks n = decimal n ++ codes " remarks are not shown: -v shows them\n"
 abbrev pub conclusion_style : Conclusion → Style
 conclusion_style c = if c.counts.bad == 0 then styles.Good else styles.Bad
 
+-- a number and a noun, in the plural except for 1
+abbrev pub counted : ℕ → List ℕ → List ℕ
+counted n noun = decimal n ++ codes " " ++ noun ++ (if n == 1 then [] else codes "s")
+
+-- the number of changes, if there is an old image
+abbrev pub counted_changes : Files → Conclusion → List ℕ
+counted_changes files c =
+    if is_some files.old then codes ", " ++ counted c.counts.changes (codes "change") else []
+
+-- the conclusion for a reader
+abbrev pub sentence : Files → Conclusion → List ℕ
+sentence files c = verdict_text c ++ codes ": " ++ decimal c.counts.bad ++ codes " bad, "
+    ++ counted c.counts.remarks (codes "remark") ++ counted_changes files c
+
 -- the lines after the tables
-abbrev pub closing : Colours → Asked → Conclusion → List ℕ
-closing colours asked c = hidden_remarks (if asked.is_verbose then 0 else c.counts.remarks)
-    ++ painted colours (conclusion_style c) (summary c) ++ line_feed
+abbrev pub closing : Colours → Request → Conclusion → List ℕ
+closing colours request c =
+    hidden_remarks (if request.asked.is_verbose then 0 else c.counts.remarks)
+    ++ painted colours (conclusion_style c) (sentence request.files c) ++ line_feed
 
 -- the areas, the components on request, and the rows by verdict
 abbrev pub tables : Colours → Request → Inspection → List ℕ
 tables colours request i = let rows = inspection_rows request i in
     (table colours area_columns (area_lines i)
-    ++ option_map_or (table colours component_columns) (listed request i) [])
+    ++ option_map_or (λ list. table colours component_columns list.components)
+    (listed request i) [])
     ++ table colours row_columns (map row_line (rows_by_verdict request.asked.is_verbose rows))
 
 -- the tables, the number of hidden remarks, and the conclusion
 unfoldable pub terminal_report : Colours → Request → Inspection → List ℕ
 terminal_report colours request i =
     let end = conclusion_of (subject_of request) (inspection_rows request i) in
-    tables colours request i ++ closing colours request.asked end
+    tables colours request i ++ closing colours request end
 
 -- the report in the form of the request
 abbrev pub report_in : Form → Request → Inspection → List ℕ

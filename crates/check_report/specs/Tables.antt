@@ -1,9 +1,11 @@
 -- Tables for terminals: lines of cells in columns, and their colours. This project defines the
 -- layout; the colours are those of ECMA-48.
-use Rattle.std.specs.Prelude.{◌≡◌, ℕ, ◌+◌, ◌-◌, ◌≤◌, max, List, [], ◌∷◌, ◌++◌, length}
+use Rattle.std.specs.Prelude.{◌≡◌, ℕ, ◌+◌, ◌-◌, ◌≤◌, max, List, [], ◌∷◌, ◌++◌, length, map}
 use Rattle.std.specs.Prelude.{drop, replicate, take, IfSome}
 use Rattle.std.specs.Prelude.{Option, Some, None, fold, slice_get, if◌then◌else◌}
+use Rattle.std.specs.Prelude.{Bool, true, false}
 use Rattle.std.specs.List.{flat_map, sum_by}
+use Rattle.std.specs.Borrow.{Bor}
 use Rattle.std.specs.Option.{option_map_or}
 use Rattle.std.specs.Str.{bytes_eq}
 use lib.Chars.{codes}
@@ -28,6 +30,10 @@ field_cells field = option_map_or (λ text. shown_text text ∷ []) field.value.
 abbrev pub cells : Line → List (List ℕ)
 cells line = line.head ∷ flat_map field_cells line.fields
 
+-- the cells of a heading
+abbrev pub texts : List (Bor (List ℕ)) → List (List ℕ)
+texts heading = map (λ text. text.now) heading
+
 -- ---- the widths of columns
 
 -- the length of the first cell, if any
@@ -42,9 +48,9 @@ widened (w ∷ ws) cells = max w (first_length cells) ∷ widened ws (drop 1 cel
 abbrev pub widened_all : List ℕ → List Line → List ℕ
 widened_all ws lines = fold (λ ws line. widened ws (cells line)) ws lines
 
--- columns that are as wide as their longest cells
-abbrev pub widths : ℕ → List Line → List ℕ
-widths columns lines = widened_all (replicate columns 0) lines
+-- columns that are as wide as their longest cells, with those of the heading
+abbrev pub widths : List (List ℕ) → List Line → List ℕ
+widths heading lines = widened_all (map length heading) lines
 
 -- ---- lines
 
@@ -102,9 +108,20 @@ abbrev pub table_line : Colours → List ℕ → Line → List ℕ
 table_line colours ws line =
     painted colours (style_of line.head) (in_columns ws (cells line)) ++ line_feed
 
--- all lines in columns; cells after the columns follow after one blank
-abbrev pub table : Colours → ℕ → List Line → List ℕ
-table colours columns lines = flat_map (table_line colours (widths columns lines)) lines
+-- a table without lines has no heading
+abbrev pub has_lines : List Line → Bool
+has_lines [] = false
+has_lines (line ∷ lines) = true
+
+-- the heading in columns of these widths, if lines follow
+abbrev pub heading_if : Bool → List ℕ → List (List ℕ) → List ℕ
+heading_if true ws heading = in_columns ws heading ++ line_feed
+heading_if false ws heading = []
+
+-- the heading, and all lines in its columns; cells after the columns follow after one blank
+abbrev pub table : Colours → List (List ℕ) → List Line → List ℕ
+table colours heading lines = let ws = widths heading lines in
+    heading_if (has_lines lines) ws heading ++ flat_map (table_line colours ws) lines
 
 -- ---- where columns begin
 

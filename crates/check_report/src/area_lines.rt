@@ -128,17 +128,16 @@ impl Inspection {
         }
     }
 
-    fn area_fields<'a>(&self, area: &'a NumberedArea) -> [Field<'a>; 7]
+    fn area_fields<'a>(&self, area: &'a NumberedArea) -> [Field<'a>; 6]
         ensures { map seen_field result ≡ area_fields self.now area.now }
     {
         let is_checked = is_checked(&self.findings, area);
         [
             ("place", Value::Place(area.area.offset)),
             ("size", Value::Offset(u64::from(area.area.size))),
-            ("flags", Value::Offset(u64::from(area.area.flags))),
             ("name", Value::Name(area.area.text())),
             ("change", self.change_value(area)),
-            ("preserve", word_if(is_preserved(area), "PRESERVE")),
+            ("preserve", word_if(is_preserved(area), "flag PRESERVE")),
             ("cbfs", word_if(is_checked, "cbfs")),
         ]
     }

@@ -13,7 +13,7 @@ use check_findings::{Content, ImageFinding, RegionFinding};
 use flash_device::Sink;
 use flash_format::{compression_name, type_name};
 
-fn component_fields<'a>(area: &'a [u8], at: u64, name: &'a [u8], content: Content) -> [Field<'a>; 7]
+fn component_fields<'a>(area: &'a [u8], at: u64, name: &'a [u8], content: Content) -> [Field<'a>; 8]
     ensures { map seen_field result ≡ component_fields area.now at name.now content }
 {
     let compression = compression_name(content.compression);
@@ -31,6 +31,7 @@ fn component_fields<'a>(area: &'a [u8], at: u64, name: &'a [u8], content: Conten
             Value::name_or(compression, content.compression),
         ),
         ("hash", Value::Text(hash_words(content.hash).1)),
+        ("content", Value::Offset(content.start)),
     ]
 }
 

@@ -5,7 +5,7 @@ ghost use Rattle.flash_device.specs.Device.{AppendsPart, fault_count};
 ghost use Rattle.check_report.specs.Reports.{areas_or, change_rows, inspection_rows, listed};
 ghost use Rattle.check_report.specs.Reports.{lines_report, report, structure_rows};
 ghost use Rattle.flash_device.specs.Pages.{Returns};
-ghost use Rattle.check_report.specs.Reports.{heading};
+ghost use Rattle.check_report.specs.Reports.{area_heading, heading, listed_heading, listing};
 ghost use Rattle.check_report.specs.Rows.{has_bad};
 ghost use Rattle.check_report.specs.Effects.{Adds, Prints, by_sink};
 
@@ -17,8 +17,9 @@ use crate::component_list::list_components;
 use crate::fault::WriteFault;
 use crate::findings::{add_findings, add_needs};
 use crate::kept::add_absent;
+use crate::map_list::list_map;
 use crate::names::{KnownNames, kept_names, with_areas};
-use crate::request::Request;
+use crate::request::{Files, Request};
 use crate::rows::{Form, LineForm, Printer, RowWriter};
 use crate::slot_changes::add_outdated_slots;
 use crate::structures::add_lost_structures;
@@ -143,6 +144,35 @@ impl Inspection {
         }
     }
 
+    /// Prints the areas of a list, and the start of its components.
+    fn print_area_heading<W: Sink + Drop>(
+        &self,
+        files: Files<'_>,
+        printer: &mut Printer<W>,
+    ) -> Result<(), WriteFault>
+        ensures { Prints W.Sink result printer.old printer.new
+            (area_heading printer.old.form files.entry (listing self.now).areas) false }
+    {
+        printer.start(files, "areas")?;
+        list_map(printer, &self.areas)?;
+        printer.next_array("components")
+    }
+
+    /// Prints the list, and the start of the rows.
+    fn print_listed_heading<W: Sink + Drop>(
+        &self,
+        files: Files<'_>,
+        printer: &mut Printer<W>,
+    ) -> Result<(), WriteFault>
+        ensures { Prints W.Sink result printer.old printer.new
+            (listed_heading printer.old.form files.entry (listing self.now)) false }
+    {
+        self.print_area_heading(files, printer)?;
+        list_components(printer, &self.findings)?;
+        printer.next_array("rows")
+    }
+
+    /// Prints the part before the rows.
     fn print_heading<W: Sink + Drop>(
         &self,
         request: Request<'_>,
@@ -152,9 +182,7 @@ impl Inspection {
             (heading printer.old.form request.entry.files (listed request.entry self.now)) false }
     {
         if request.asked.lists {
-            printer.start(request.files, "components")?;
-            list_components(printer, &self.findings)?;
-            printer.between()
+            self.print_listed_heading(request.files, printer)
         } else {
             printer.start(request.files, "rows")
         }
@@ -183,7 +211,7 @@ impl Inspection {
         }
     }
 
-    /// Writes the report line by line, after the list of components on request.
+    /// Writes the report line by line, after the list on request.
     fn write_lines<W: Sink + Drop>(
         &self,
         alloc: Global,

@@ -48,9 +48,11 @@ pub fn terminals_show_the_rows_of_the_text()
         → selected (Some Remark) (rows_by_verdict false rows) ≡ [] }
 {}
 
-/// In the lines of a table, the cells of each column begin at one place, and so do the first cells
-/// after the columns.
+/// In the lines of a table, the cells of each column begin at one place, below its heading, and so
+/// do the first cells after the columns.
 pub fn columns_are_aligned()
-    ensures { (columns : ℕ) (lines : List Line)
-        → All (λ line. BeginsInColumns (widths columns lines) (cells line)) lines }
+    ensures lines { (heading : List (List ℕ)) (lines : List Line)
+        → All (λ line. BeginsInColumns (widths heading lines) (cells line)) lines }
+    ensures heading { (heading : List (List ℕ)) (lines : List Line)
+        → BeginsInColumns (widths heading lines) heading }
 {}

@@ -18,6 +18,7 @@ mod image_inspection;
 mod inspection;
 mod kept;
 mod laws;
+mod map_list;
 mod names;
 mod region;
 mod request;

@@ -22,15 +22,24 @@ use crate::rows::{Colours, LineForm, Printer, RowWriter, Selection, Verdict};
 use flash_device::Sink;
 use std::alloc::Global;
 
-/// The aligned columns of an area: its word, place, size, flags and name.
-const AREA_COLUMNS: usize = 5;
+/// The headings of the aligned columns of an area. The first column has the word of the line.
+const AREA_COLUMNS: [&str; 4] = ["", "IN IMAGE", "SIZE", "AREA"];
 
-/// The aligned columns of a component: its word, area, name, position, type, length and
-/// compression.
-const COMPONENT_COLUMNS: usize = 7;
+/// The headings of the aligned columns of a component.
+const COMPONENT_COLUMNS: [&str; 9] = [
+    "",
+    "AREA",
+    "COMPONENT",
+    "IN AREA",
+    "TYPE",
+    "LENGTH",
+    "COMPRESSION",
+    "HASH",
+    "CONTENT",
+];
 
-/// The aligned columns of a row: its verdict, area, component and position.
-const ROW_COLUMNS: usize = 4;
+/// The headings of the aligned columns of a row.
+const ROW_COLUMNS: [&str; 4] = ["", "AREA", "COMPONENT", "OFFSET"];
 
 impl Inspection {
     /// Prints the table of the areas. Its lines are measured first.
@@ -42,9 +51,9 @@ impl Inspection {
         ensures { Puts W.Sink result printer.old.out printer.new.out
             (table colours area_columns (area_lines self.now)) }
     {
-        printer.measure(AREA_COLUMNS)?;
+        printer.measure(&AREA_COLUMNS)?;
         self.list_areas(printer)?;
-        printer.draw(colours);
+        printer.draw(colours, &AREA_COLUMNS)?;
         self.list_areas(printer)
     }
 
@@ -57,9 +66,9 @@ impl Inspection {
         ensures { Puts W.Sink result printer.old.out printer.new.out
             (table colours component_columns (flat_map components_in self.now.findings.items)) }
     {
-        printer.measure(COMPONENT_COLUMNS)?;
+        printer.measure(&COMPONENT_COLUMNS)?;
         list_components(printer, &self.findings)?;
-        printer.draw(colours);
+        printer.draw(colours, &COMPONENT_COLUMNS)?;
         list_components(printer, &self.findings)
     }
 
@@ -71,7 +80,8 @@ impl Inspection {
         printer: &mut Printer<W>,
     ) -> Result<(), WriteFault>
         ensures { Puts W.Sink result printer.old.out printer.new.out
-            (option_map_or (table colours component_columns) (listed request.entry self.now) []) }
+            (option_map_or (λ list. table colours component_columns list.components)
+            (listed request.entry self.now) []) }
     {
         if request.asked.lists {
             self.print_all_components(colours, printer)
@@ -140,9 +150,9 @@ impl Inspection {
         ensures counts { OnOk result
             (rows.new.counts ≡ counts_of (inspection_rows request.entry self.now)) }
     {
-        rows.printer.measure(ROW_COLUMNS)?;
+        rows.printer.measure(&ROW_COLUMNS)?;
         self.print_rows(alloc, request, rows)?;
-        rows.printer.draw(colours);
+        rows.printer.draw(colours, &ROW_COLUMNS)?;
         self.print_rows(alloc, request, rows)
     }
 
@@ -183,7 +193,7 @@ impl Inspection {
         let printer = Printer::new(alloc, LineForm::Ruler, out);
         let mut rows = RowWriter::new(alloc, printer, request.asked.is_verbose);
         let is_bad = match self.print_tables(alloc, colours, request, &mut rows) {
-            Ok(()) => rows.close(colours, request.asked, request.subject()),
+            Ok(()) => rows.close(colours, request, request.subject()),
             Err(fault) => Err(fault),
         };
         WrittenReport {

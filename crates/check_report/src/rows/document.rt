@@ -8,8 +8,8 @@ ghost use Rattle.json.specs.Token.{string};
 ghost use Rattle.json.specs.Tree.{json_tokens};
 ghost use Rattle.check_report.specs.declared.rows.form.LineForm.TheVariants as forms;
 ghost use Rattle.check_report.specs.Fields.{name_json, seen_field, seen_line};
-ghost use Rattle.check_report.specs.Reports.{ending, first_fields, member_tokens};
-ghost use Rattle.check_report.specs.Reports.{parts, start_tokens};
+ghost use Rattle.check_report.specs.Reports.{ending, file_fields, member_tokens};
+ghost use Rattle.check_report.specs.Reports.{next_tokens, parts, start_tokens};
 ghost use Rattle.check_report.specs.Effects.{AddsTokens};
 ghost use Rattle.flash_device.specs.Pages.{Lists};
 
@@ -96,7 +96,7 @@ pub fn line_object(
 }
 
 fn file_fields<'a>(files: Files<'a>) -> [Field<'a>; 3]
-    ensures { map seen_field result ≡ first_fields files.entry None }
+    ensures { map seen_field result ≡ file_fields files.entry }
 {
     [
         ("format", Value::Count(1)),
@@ -107,11 +107,22 @@ fn file_fields<'a>(files: Files<'a>) -> [Field<'a>; 3]
 
 /// Returns the document up to the start of this array.
 pub fn json_start(alloc: Global, files: Files<'_>, array: &str) -> Result<Vec<u8>, AllocError>
-    ensures { Lists result (print (start_tokens (first_fields files.entry None) array.now)) }
+    ensures { Lists result (print (start_tokens (file_fields files.entry) array.now)) }
 {
     let mut writer = Writer::new(Vec::new(alloc));
     put(&mut writer, Token::BeginObject)?;
     put_members(&mut writer, &file_fields(files))?;
+    put(&mut writer, Token::Key(array))?;
+    put(&mut writer, Token::BeginArray)?;
+    Ok(writer.into_inner())
+}
+
+/// Returns the document from the end of an array to the start of this array.
+pub fn json_next(alloc: Global, array: &str) -> Result<Vec<u8>, AllocError>
+    ensures { Lists result (print (next_tokens array.now)) }
+{
+    let mut writer = Writer::new(Vec::new(alloc));
+    put(&mut writer, Token::EndArray)?;
     put(&mut writer, Token::Key(array))?;
     put(&mut writer, Token::BeginArray)?;
     Ok(writer.into_inner())

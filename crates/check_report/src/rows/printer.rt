@@ -1,20 +1,19 @@
 //! A report, printed line by line.
-ghost use Rattle.std.specs.Prelude.{◌≡◌, ◌∷◌, [], None, OnErr, OnOk, false, replicate};
-ghost use lib.Chars.{codes};
-ghost use Rattle.json.specs.Token.{begin_array, end_array, key};
+ghost use Rattle.std.specs.Prelude.{◌≡◌, ◌∷◌, [], OnErr, OnOk, false, length, map};
 ghost use Rattle.flash_device.specs.Device.{AppendsPart};
 ghost use Rattle.flash_device.specs.Pages.{Lists};
 ghost use Rattle.check_report.specs.Fields.{seen_line};
-ghost use Rattle.check_report.specs.Reports.{closing, ending, first_fields, part, parts};
-ghost use Rattle.check_report.specs.Reports.{start_tokens, widths_after};
-ghost use Rattle.check_report.specs.Effects.{Prints, PrintsLines};
+ghost use Rattle.check_report.specs.Reports.{closing, ending, file_fields, part, parts};
+ghost use Rattle.check_report.specs.Reports.{next_tokens, start_tokens, widths_after};
+ghost use Rattle.check_report.specs.Tables.{heading_if, texts};
+ghost use Rattle.check_report.specs.Effects.{Prints, PrintsLines, Puts};
 ghost use Rattle.check_report.specs.declared.rows.form.LineForm.TheVariants as forms;
 
 use crate::fault::WriteFault;
-use crate::request::{Asked, Files};
+use crate::request::{Files, Request};
 use crate::rows::closing::closing;
 use crate::rows::conclusion::Conclusion;
-use crate::rows::document::{json_end, json_start, line_object};
+use crate::rows::document::{json_end, json_next, json_start, line_object};
 use crate::rows::field::Field;
 use crate::rows::form::{Colours, Columns, LineForm};
 use crate::rows::table::{cells, widen};
@@ -60,7 +59,7 @@ impl<W: Sink + Drop> Printer<W> {
     /// Prints the report up to this array's first item.
     pub fn start(&mut self, files: Files<'_>, array: &str) -> Result<(), WriteFault>
         ensures { Prints W.Sink result self.old self.new (part self.old.form false []
-            (start_tokens (first_fields files.entry None) array.now)) false }
+            (start_tokens (file_fields files.entry) array.now)) false }
     {
         self.follows = false;
         match self.form {
@@ -69,30 +68,38 @@ impl<W: Sink + Drop> Printer<W> {
         }
     }
 
-    /// Measures the columns of the following lines, which are not printed. Returns an error if an
-    /// allocation failed.
-    pub fn measure(&mut self, columns: usize) -> Result<(), AllocError>
+    /// Measures the columns under this heading in the following lines, which are not printed.
+    /// Returns an error if an allocation failed.
+    pub fn measure(&mut self, heading: &[&str]) -> Result<(), AllocError>
         ensures form { OnOk result (self.new.form ≡ forms.Ruler) }
-        ensures widths { OnOk result (self.new.widths.items ≡ replicate columns 0) }
+        ensures follows { OnOk result (self.new.follows ≡ false) }
+        ensures widths { OnOk result
+            (self.new.widths.items ≡ map length (texts heading.now)) }
         ensures out { self.new.out ≡ self.old.out }
     {
         let mut widths = Vec::new(self.alloc);
-        for _ in 0..columns {
-            widths.push(0)?;
+        for text in heading {
+            widths.push(text.len())?;
         }
         self.widths = widths;
         self.form = LineForm::Ruler;
+        self.follows = false;
         Ok(())
     }
 
-    /// Prints the following lines in columns of the measured widths.
-    pub fn draw(&mut self, colours: Colours)
-        ensures form { self.new.form
-            ≡ forms.Table (record { colours = colours; widths = self.old.widths }) }
-        ensures out { self.new.out ≡ self.old.out }
+    /// Prints the heading if a line was measured, and the following lines in columns of the
+    /// measured widths.
+    pub fn draw(&mut self, colours: Colours, heading: &[&str]) -> Result<(), WriteFault>
+        ensures form { OnOk result (self.new.form
+            ≡ forms.Table (record { colours = colours; widths = self.old.widths })) }
+        ensures heading { Puts W.Sink result self.old.out self.new.out
+            (heading_if self.old.follows self.old.widths.items (texts heading.now)) }
     {
         let widths = mem::replace(&mut self.widths, Vec::new(self.alloc));
-        self.form = LineForm::Table(Columns { colours, widths });
+        let columns = Columns { colours, widths };
+        let line = columns.heading_if(self.alloc, self.follows, heading)?;
+        self.form = LineForm::Table(columns);
+        self.put(&line)
     }
 
     /// Measures the cells of a line, if the columns are to be measured.
@@ -132,15 +139,14 @@ impl<W: Sink + Drop> Printer<W> {
         self.put(&part)
     }
 
-    /// Prints the part between the components and the rows.
-    #[tactic(auto, unfolding(json::specs::Print::print_from, json::specs::Print::escape_byte))]
-    pub fn between(&mut self) -> Result<(), WriteFault>
-        ensures { Prints W.Sink result self.old self.new (part self.old.form false []
-            (end_array ∷ key (codes "rows") ∷ begin_array ∷ [])) false }
+    /// Prints the part between an array and the next one, which has this name.
+    pub fn next_array(&mut self, array: &str) -> Result<(), WriteFault>
+        ensures { Prints W.Sink result self.old self.new
+            (part self.old.form false [] (next_tokens array.now)) false }
     {
         self.follows = false;
         match self.form {
-            LineForm::Json => self.put(b"],\"rows\":["),
+            LineForm::Json => self.put(&json_next(self.alloc, array)?),
             LineForm::Text | LineForm::Ruler | LineForm::Table(_) => Ok(()),
         }
     }
@@ -172,15 +178,15 @@ impl<W: Sink + Drop> Printer<W> {
     pub fn close(
         &mut self,
         colours: Colours,
-        asked: Asked,
+        request: Request<'_>,
         conclusion: Conclusion,
     ) -> Result<(), WriteFault>
         ensures prints { Prints W.Sink result self.old self.new
-            (closing colours asked conclusion) self.old.follows }
+            (closing colours request.entry conclusion) self.old.follows }
         ensures part { OnErr result (AppendsPart (W.contents self.old.out)
-            (W.contents self.new.out) (closing colours asked conclusion)) }
+            (W.contents self.new.out) (closing colours request.entry conclusion)) }
     {
-        let end = closing(self.alloc, colours, asked, conclusion)?;
+        let end = closing(self.alloc, colours, request, conclusion)?;
         self.put(&end)
     }
 

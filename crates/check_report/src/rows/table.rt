@@ -2,7 +2,8 @@
 ghost use Rattle.std.specs.Prelude.{◌≡◌, ◌++◌, IfOk, OnOk, drop, map, slice_get};
 ghost use Rattle.check_report.specs.Fields.{seen_field, seen_line};
 ghost use Rattle.check_report.specs.Tables.{blanks, cells, field_cells, first_length, gap};
-ghost use Rattle.check_report.specs.Tables.{gap_before, in_columns, table_line, widened};
+ghost use Rattle.check_report.specs.Tables.{gap_before, heading_if, in_columns, table_line};
+ghost use Rattle.check_report.specs.Tables.{texts, widened};
 ghost use Rattle.flash_device.specs.Pages.{Lists};
 
 use crate::rows::field::Field;
@@ -121,7 +122,39 @@ fn in_columns(alloc: Global, widths: &[usize], cells: &[Vec<u8>]) -> Result<Vec<
     Ok(text)
 }
 
+/// Returns the cells of a heading.
+fn heading_cells(alloc: Global, heading: &[&str]) -> Result<Vec<Vec<u8>>, AllocError>
+    ensures { IfOk result (λ found. map (λ cell. cell.items) found.items
+        ≡ texts heading.now) }
+{
+    let mut cells = Vec::new(alloc);
+    for text in heading {
+        let mut cell = Vec::new(alloc);
+        push(&mut cell, text.as_bytes())?;
+        cells.push(cell)?;
+    }
+    Ok(cells)
+}
+
 impl Columns {
+    /// Returns the line of the heading, if lines follow. Returns an error if an allocation failed.
+    pub fn heading_if(
+        &self,
+        alloc: Global,
+        has_lines: bool,
+        heading: &[&str],
+    ) -> Result<Vec<u8>, AllocError>
+        ensures { Lists result (heading_if has_lines self.now.widths.items (texts heading.now)) }
+    {
+        if !has_lines {
+            return Ok(Vec::new(alloc));
+        }
+        let cells = heading_cells(alloc, heading)?;
+        let mut line = in_columns(alloc, &self.widths, &cells)?;
+        push(&mut line, b"\n")?;
+        Ok(line)
+    }
+
     /// Returns a line of the table. Returns an error if an allocation failed.
     pub fn line(
         &self,

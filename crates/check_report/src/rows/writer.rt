@@ -12,7 +12,7 @@ ghost use Rattle.check_report.specs.Rows.{selected};
 ghost use Rattle.check_report.specs.Effects.{Adds, Ends, HasWritten, PrintsLines, by_sink};
 
 use crate::fault::WriteFault;
-use crate::request::Asked;
+use crate::request::Request;
 use crate::rows::conclusion::{Conclusion, Subject};
 use crate::rows::form::Colours;
 use crate::rows::kinds::{Counts, Kind, count_by_kind};
@@ -183,22 +183,22 @@ impl<W: Sink + Drop> RowWriter<W> {
     pub fn close(
         &mut self,
         colours: Colours,
-        asked: Asked,
+        request: Request<'_>,
         subject: Subject,
     ) -> Result<bool, WriteFault>
         ensures bad { Returns result (nat_lt 0 self.old.counts.bad) }
         ensures text { OnOk result (Appends (W.contents self.old.printer.out)
-            (W.contents self.new.printer.out) (closing colours asked
+            (W.contents self.new.printer.out) (closing colours request.entry
             (record { subject = subject; counts = self.old.counts }))) }
         ensures part { OnErr result (AppendsPart (W.contents self.old.printer.out)
-            (W.contents self.new.printer.out) (closing colours asked
+            (W.contents self.new.printer.out) (closing colours request.entry
             (record { subject = subject; counts = self.old.counts }))) }
         ensures cause { W.faults self.old.printer.out + fault_count by_sink result
             ≤ W.faults self.new.printer.out }
     {
         let counts = self.counts;
         self.printer
-            .close(colours, asked, Conclusion { subject, counts })?;
+            .close(colours, request, Conclusion { subject, counts })?;
         Ok(counts.bad > 0)
     }
 }

@@ -26,7 +26,7 @@ returns-clause-part g c =
       | in-Ok w ↦ rw (w.rows-is, w.is_bad-is) (closed g.W.Sink w.close-is_bad.result _ _ _ _ _ (rw made at w.in-Ok.ensures.bytes)
           (rw (w.subject.ensures, w.in-Ok.ensures.counts) at w.close-is_bad.ensures.text) (rw (w.subject.ensures, w.in-Ok.ensures.counts) at w.close-is_bad.ensures.part)).1
       | in-Err w ↦ rw (w.rows-is, w.is_bad-is)
-          (unclosed g.W.Sink _ _ _ _ _ (some_closing c.args.colours c.args.request.asked (conclusion_of (subject_of c.args.request) (inspection_rows c.args.request c.args.self.now))) (rw made at w.in-Err.ensures.bytes))
+          (unclosed g.W.Sink _ _ _ _ _ (some_closing c.args.colours c.args.request (conclusion_of (subject_of c.args.request) (inspection_rows c.args.request c.args.self.now))) (rw made at w.in-Err.ensures.bytes))
     ])
 
 pub returns-clause-bad : goal.returns-clause-bad
