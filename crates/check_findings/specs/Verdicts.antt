@@ -114,7 +114,7 @@ is_bad_hash rules name c = is_bad_hash_state rules name c c.hash
 
 -- A finding of a region is bad if commands refuse the region, if an entry is damaged, if a
 -- component can't be found, has a bad digest or has attributes with a fault, or if the tail has
--- filled bytes or entries. The tail has to be unused, because no command lists entries of the tail.
+-- filled bytes or entries. The tail has to be unused, because no command lists its entries.
 -- Remarks are: a size other than a multiple of 64, because coreboot reads an area of any size;
 -- entries up to the end of the region or up to a tail; deleted components; and the counts.
 abbrev pub is_bad_region : HashRules → RegionFinding → Bool
