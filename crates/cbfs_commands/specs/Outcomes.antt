@@ -60,8 +60,8 @@ pub record IsCellOf (r : Range) (c : Cell) (device : Device) : Type 0 where
   pub stands : OnHonestIn device r (λ x. StandsIn x c)
 
 -- A call with at most n reads of the device, and with writes to a sink. A device fault is a failed
--- read, and an output fault a failure of the sink. A call without a source has no source fault. On
--- an honest device, reads return the device's content or fail, and `t image` is the output and the
+-- read, and an output fault a failure of the sink. The call has no source, and no source fault. On
+-- an honest device, reads return the device's content or fail, and `t image` is the output with the
 -- answer.
 pub record HasOutput {F W : Type 0} (sink : SinkOf W) (n : ℕ) (old new : Pages F)
     (out_old out_new : W) (answer : CommandResult) (t : List ℕ → Printout) : Type 0 where

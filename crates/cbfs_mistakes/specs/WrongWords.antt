@@ -74,7 +74,7 @@ unknown image None word = if is_option word.now then Word faults.EarlyOption wor
 unknown image (Some before) word =
     Word (if is_option word.now then faults.UnknownOption else faults.Unexpected) word
 
--- the argument itself if an option, or else the option before the value
+-- the argument itself if an option or the first argument, or else the preceding option
 abbrev pub option_at : Option (Bor (List ℕ)) → Bor (List ℕ) → Bor (List ℕ)
 option_at before word = if is_option word.now then word
     else option_map_or (λ option. option) before word

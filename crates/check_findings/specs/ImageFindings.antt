@@ -47,7 +47,7 @@ abbrev pub has_smaller : List NumberedArea → NumberedArea → Bool
 has_smaller areas a = list_any (λ (other : NumberedArea). other.area.offset == a.area.offset
     && (nat_le 24 other.area.size && nat_lt other.area.size a.area.size)) areas
 
--- the area lies inside the image, and is expected, or begins with an entry without a smaller area
+-- the area lies inside the image, and is expected, or begins with an entry and has no smaller area
 -- at the same offset
 abbrev pub is_wanted : List ℕ → (NumberedArea → Bool) → (NumberedArea → Bool) → NumberedArea → Bool
 is_wanted image expects has_smaller a = nat_le (area_end a.area) (length image)

@@ -72,7 +72,7 @@ first_filled at x = position_from is_filled at (slice_range x at (length x - 4))
 abbrev pub has_entry_at : ℕ → List ℕ → Bool
 has_entry_at at x = is_some (front (drop at x))
 
--- the offsets from `at` on in steps of 64, each followed by at least 64 bytes of the region
+-- the offsets from `at` on in steps of 64, each at least 64 bytes before the end of the region
 abbrev pub offsets_from : ℕ → List ℕ → List ℕ
 offsets_from at x = map (λ i. at + 64 * i) (range_with_len 0 ((length x - at) / 64))
 

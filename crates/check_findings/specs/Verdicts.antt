@@ -100,7 +100,7 @@ abbrev pub changes_later : Option Anchor → List ℕ → Bool
 changes_later anchor name = is_some anchor && bytes_eq name (codes "intel_fit")
 
 -- The state of a component's digest is bad if the digest doesn't match the content, except for a
--- digest that changes later. A missing digest, or a digest of an unsupported algorithm, is bad if
+-- content that changes later. A missing digest, or a digest of an unsupported algorithm, is bad if
 -- the user requires a digest or the firmware refuses the component.
 abbrev pub is_bad_hash_state : HashRules → List ℕ → Content → HashFinding → Bool
 is_bad_hash_state rules name c (hashes.Invalid algorithm) = not (changes_later rules.anchor name)
@@ -115,7 +115,7 @@ is_bad_hash rules name c = is_bad_hash_state rules name c c.hash
 -- A finding of a region is bad if commands refuse the region, if an entry is damaged, if a
 -- component can't be found, has a bad digest or has attributes with a fault, or if the tail has
 -- filled bytes or entries. The tail has to be unused, because no command lists its entries.
--- Remarks are: a size other than a multiple of 64, because coreboot reads an area of any size;
+-- Remarks are: a size other than a multiple of 64, which coreboot's tools and firmware can read;
 -- entries up to the end of the region or up to a tail; deleted components; and the counts.
 abbrev pub is_bad_region : HashRules → RegionFinding → Bool
 is_bad_region rules of_region.BadSize = true
