@@ -734,8 +734,8 @@ class Boards(unittest.TestCase):
         for text in [
             f"breaks them in {len(rows)} ways, of which {len(harmful)} do harm and "
             f"{len(rows) - len(harmful)} are good changes.",
-            f"Of the {len(harmful)} harmful changes, the rules notice "
-            f"{noticed('rules, one image', 'rules, two images')}, `futility verify` "
+            f"The rules notice {noticed('rules, one image', 'rules, two images')} of the "
+            f"{len(harmful)} harmful changes, `futility verify` "
             f"{noticed('futility verify')}, coreboot's `print -v` {noticed('cbfstool print -v')}, "
             f"`ifdtool -t` {noticed('ifdtool -t')} and `ifittool` {noticed('ifittool -a')}.",
             f"`cbfscheck` notices {noticed('cbfscheck, one image')} with the broken image alone, "

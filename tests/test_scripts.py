@@ -275,6 +275,63 @@ class Contracts(unittest.TestCase):
         self.assertEqual(self.complaints(definition=DEFINITION.replace("The", "A")), [])
 
 
+def text_of(clear, vague):
+    """Returns a text of so many clear and vague words."""
+    return " ".join(["sector"] * clear + ["it"] * vague)
+
+
+class Prose(unittest.TestCase):
+    """checks/prose reports each vague text and each long paragraph, and no other text."""
+
+    def complaints(self, name, text):
+        """Returns the complaints about a file of this name with this text."""
+        folder = Folder({name: text})
+        self.addCleanup(folder.remove)
+        (folder.path / "checks").mkdir()
+        shutil.copy(TOP / "checks" / "prose", folder.path / "checks" / "prose")
+        done = subprocess.run(["checks/prose"], cwd=folder.path, stdout=subprocess.PIPE, text=True)
+        found = re.findall("^prose: (.*)$", done.stdout, re.MULTILINE)
+        if done.returncode == 0:
+            self.assertEqual(found, ["1 checks"])
+            return []
+        return found
+
+    def test_vague_words(self):
+        for name, mark, place in [
+            ("README.md", "", "README.md"), ("docs/FORMAT.md", "", "docs/FORMAT.md"),
+            ("crates/a/README.md", "", "crates/a/README.md"),
+            ("crates/a/src/b/lib.rt", "    /// ", "crates/a/src, comments"),
+            ("crates/a/specs/Limit.antt", "-- ", "crates/a/specs, comments"),
+        ]:
+            with self.subTest(name):
+                self.assertEqual(self.complaints(name, mark + text_of(93, 7)), [])
+                [found] = self.complaints(name, mark + text_of(92, 8))
+                self.assertTrue(found.startswith(f"{place}: 8.0 vague words in a hundred"), found)
+
+    def test_short_texts(self):
+        self.assertEqual(self.complaints("README.md", text_of(0, 59)), [])
+        self.assertEqual(len(self.complaints("README.md", text_of(0, 60))), 1)
+
+    def test_paragraphs(self):
+        some, most, more = text_of(60, 0), text_of(100, 0), text_of(101, 0)
+        for title, text, found in [
+            ("a paragraph of the limit", most, []), ("a long paragraph", more, ["1: 101"]),
+            ("the second paragraph", f"{most}\n\n{more}", ["3: 101"]),
+            ("two paragraphs", f"{some}\n\n{some}", []),
+            ("two lines", f"{some}\n{some}", ["1: 120"]),
+            ("two items", f"- {some}\n- {some}", []), ("a long item", f"- {more}", ["1: 101"]),
+            ("an item of two lines", f"- {some}\n  {some}", ["1: 120"]),
+            ("two numbered items", f"1. {some}\n2. {some}", []),
+            ("two cells", f"| {some} | {some} |", []),
+            ("a long cell", f"| a |\n| {more} |", ["2: 101"]),
+            ("a block of code", f"```\n{more}\n```", []), ("a link", f"[{some}]({more})", []),
+        ]:
+            with self.subTest(title):
+                faults = self.complaints("README.md", text)
+                self.assertEqual([fault.partition(" words")[0] for fault in faults],
+                                 [f"README.md:{place}" for place in found])
+
+
 # Texts that compare something with itself, or ignore the result of a comparison.
 HELPERS = ("cmp|diff|has|missing|empty|runs|does|shows|refuses|reports|finds|differs|trips|waits|"
            "offers")

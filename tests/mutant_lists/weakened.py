@@ -10,7 +10,7 @@ TESTS = ("checks/counts", "test_counts", "test_scripts", "test_documents",
          "checks/promises", "checks/contracts")
 
 
-GATE, BUILDS = "test_scripts.Gate", "test_scripts.Builds"
+GATE, BUILDS, PROSE = "test_scripts.Gate", "test_scripts.Builds", "test_scripts.Prose"
 
 
 def of(file, title, old, new, harm, test, is_new=True):
@@ -218,4 +218,11 @@ MUTANTS = [
     of("checks/counts", "two tests compare a number with itself",
        "if int(count) != int(wanted) and", "if int(count) != int(count) and",
        "A lost check is not noticed.", "test_scripts.Comparisons"),
+    of("checks/prose", "the limit of vague words is 7000",
+       "MOST_VAGUE = 7\n", "MOST_VAGUE = 7000\n", "A text of pronouns passes.", PROSE),
+    of("checks/prose", "READMEs of crates are not read",
+       ', "crates/*/README.md")', ")", "A README with a long paragraph passes.", PROSE),
+    of("checks/prose", "a paragraph may have any length",
+       "if count > LONGEST", "if count > 1000 * LONGEST", "A page has paragraphs of a screen.",
+       PROSE),
 ]

@@ -1,5 +1,5 @@
--- Findings about the structures that a board boots from beside CBFS. This project defines their
--- order.
+-- Findings about the structures besides CBFS that a board boots from. This project defines the
+-- order of the findings.
 use Rattle.std.specs.Prelude.{ℕ, ◌+◌, ◌*◌, ◌/◌, Bool, ◌&&◌, List, [], ◌∷◌, ◌++◌, Option, length, map, ◌==◌, if◌then◌else◌}
 use Rattle.std.specs.List.{find, flat_map, list_any}
 use Rattle.std.specs.Option.{option_map, option_map_or, option_to_list}
@@ -36,11 +36,11 @@ pub record Board : Type 0 where
 
 -- ---- areas of the board
 
--- the range of the first area with this name, if it lies inside the image
+-- the range of the first area named `name`, if the area lies inside the image
 abbrev pub board_range : Board → List ℕ → Option Range
 board_range b name = range_named (length b.image) b.areas name
 
--- the findings from the bytes of the area with this name; without the area there are none
+-- the findings from the bytes of the area named `name`; an image without the area has no finding
 abbrev pub in_area : Board → List ℕ → (List ℕ → List BoardFinding) → List BoardFinding
 in_area b name part = option_map_or (λ r. part (bytes_in r b.image)) (board_range b name) []
 
@@ -54,18 +54,18 @@ all_regions = regions.Descriptor ∷ regions.Bios ∷ regions.Me ∷ regions.Gbe
 abbrev pub areas_in : List NumberedArea → List Area
 areas_in areas = map (λ a. a.area) areas
 
--- the areas that aren't these regions of a descriptor with this table
+-- a finding for each region of `regions` that differs from the area with the region's name
 abbrev pub differences_of : List NumberedArea → RegionTable → List DescriptorRegion
     → List BoardFinding
 differences_of areas table regions = flat_map (λ region. option_to_list
     (option_map found.Region (difference_in region table (areas_in areas)))) regions
 
--- the areas that aren't the regions of this descriptor
+-- a finding for each region of the descriptor that differs from the area with the region's name
 abbrev pub differences : List NumberedArea → Descriptor → List BoardFinding
 differences areas (Described table) = differences_of areas table all_regions
 differences areas _ = []
 
--- of the flash descriptor, and of the areas beside it
+-- the findings about the flash descriptor, and about areas that differ from the regions
 abbrev pub descriptor_part : Board → List BoardFinding
 descriptor_part b = in_area b (codes "SI_DESC")
     (λ x. found.Descriptor (descriptor_in x) ∷ differences b.areas (descriptor_in x))
@@ -76,15 +76,15 @@ partition_table_part b = in_area b (codes "SI_ME")
 
 -- ---- coreboot
 
--- the findings from the range of COREBOOT; without the area there are none
+-- the findings from the range of COREBOOT; an image without the area has no finding
 abbrev pub in_coreboot : Board → (Range → List BoardFinding) → List BoardFinding
 in_coreboot b part = option_map_or part (board_range b (codes "COREBOOT")) []
 
--- a bootblock ends with the area COREBOOT, which has this range
+-- a bootblock ends with the area COREBOOT, which has the range `r`
 abbrev pub ends_with_bootblock : Board → Range → Bool
 ends_with_bootblock b r = list_any (is_bootblock_to r.size) (components_in b.image r)
 
--- a bootblock of x86: it ends with COREBOOT, which has this range, and with the image
+-- a bootblock of x86 ends both with COREBOOT, which has the range `r`, and with the image
 abbrev pub ends_as_x86 : Board → Range → Bool
 ends_as_x86 b r = r.start + r.size == length b.image && ends_with_bootblock b r
 
@@ -98,12 +98,12 @@ table_findings tables.Absent = []
 table_findings (tables.Broken fault) = found.FirmwareTable (tables.Broken fault) ∷ []
 table_findings (tables.Sound count) = found.FirmwareTable (tables.Sound count) ∷ []
 
--- of Intel's firmware interface table, under a bootblock of x86
+-- the finding about Intel's firmware interface table, under a bootblock of x86
 abbrev pub firmware_table_part : Board → List BoardFinding
 firmware_table_part b = in_coreboot b
     (λ r. if ends_as_x86 b r then table_findings (firmware_table_in b.image) else [])
 
--- of the first master header in COREBOOT
+-- the finding about the first master header in COREBOOT
 abbrev pub master_header_part : Board → List BoardFinding
 master_header_part b = in_coreboot b (λ r. option_map_or (λ c. found.MasterHeader (record {
   state = master_header_in r.start c.start (bytes_in r b.image);
@@ -115,7 +115,7 @@ master_header_part b = in_coreboot b (λ r. option_map_or (λ c. found.MasterHea
 abbrev pub gbb_part : Board → List BoardFinding
 gbb_part b = in_area b (codes "GBB") (λ x. found.Gbb (gbb_in x) ∷ [])
 
--- the area of the signatures, and that of what they sign
+-- the name of the area with the signatures of a slot; `body_name` is the name of the signed area
 abbrev pub block_name : Slot → List ℕ
 block_name slots.A = codes "VBLOCK_A"
 block_name slots.B = codes "VBLOCK_B"
@@ -124,7 +124,7 @@ abbrev pub body_name : Slot → List ℕ
 body_name slots.A = codes "FW_MAIN_A"
 body_name slots.B = codes "FW_MAIN_B"
 
--- without its area, the body has no bytes
+-- the body of a slot without the signed area has no bytes
 abbrev pub slot_body : Board → Slot → SlotBody
 slot_body b slot = option_map_or
     (λ r. record { end = last_end (components_in b.image r); size = r.size })

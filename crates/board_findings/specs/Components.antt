@@ -21,7 +21,7 @@ use Rattle.board_findings.specs.declared.components.Placed.{Placed}
 abbrev pub range_inside : ℕ → NumberedArea → Option Range
 range_inside n a = if nat_le (area_end a.area) n then Some (range_of a) else None
 
--- the range of the first area with this name
+-- the range of the first area named `name`, if the area lies inside the image of n bytes
 abbrev pub range_named : ℕ → List NumberedArea → List ℕ → Option Range
 range_named n areas name = option_and_then (range_inside n) (find (has_name name) areas)
 
@@ -41,11 +41,11 @@ cell_placed c = only_if (not (is_free c.head))
 unfoldable pub placed_in : List ℕ → List Placed
 placed_in x = option_map_or (λ fault. []) (shape_fault x) (map placed (components x))
 
--- of the area with this range; its entries end at the last multiple of 64 bytes
+-- the components of the area with the range `r`; entries end at the last multiple of 64 bytes
 abbrev pub components_in : List ℕ → Range → List Placed
 components_in image r = placed_in (bytes_in (entry_range r) image)
 
--- a bootblock that ends at this offset
+-- the component is a bootblock, and the content ends at the offset `end`
 abbrev pub is_bootblock_to : ℕ → Placed → Bool
 is_bootblock_to end c = c.kind == bootblock_type && (c.start + c.len == end)
 

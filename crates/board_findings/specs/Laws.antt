@@ -26,7 +26,7 @@ use Rattle.board_findings.specs.Components.{components_in, is_header}
 use Rattle.board_findings.specs.BoardFindings.{Board, areas_in, block_name, board_range}
 use Rattle.board_findings.specs.BoardFindings.{ends_with_bootblock, slot_body}
 
--- P holds for the bytes of the area with this name, if the board has one
+-- P holds for the bytes of the area named `name`, if the board has the area
 abbrev pub InArea : Board → List ℕ → (List ℕ → Type 0) → Type 0
 InArea b name P = (r : Range) → board_range b name ≡ Some r → P (bytes_in r b.image)
 
@@ -39,7 +39,7 @@ HasDescriptor x = (4096 ≤ length x) × ((slice_range x 16 20 ≡ descriptors.s
 abbrev pub HasTable : List ℕ → Type 0
 HasTable x = (slice_range x 16 20 ≡ marker) ⊎ (slice_range x 0 4 ≡ marker)
 
--- each area of a used region begins and ends where the region does
+-- each area of a used region has the same offset and the same end as the region
 abbrev pub AreRegions : List NumberedArea → RegionTable → Type 0
 AreRegions areas table = (region : DescriptorRegion) (a : Area)
     → base_of region table ≤ limit_of region table
@@ -52,7 +52,7 @@ abbrev pub HasCode : List ℕ → Type 0
 HasCode image = (16 ≤ length image) × (each_byte_is 0xff (code_in image) ≡ false)
     × (each_byte_is 0x00 (code_in image) ≡ false)
 
--- the image has no firmware interface table, or it points to one that a processor can use
+-- the image has no firmware interface table, or points to a table that a processor can use
 abbrev pub HasUsableTable : List ℕ → Type 0
 HasUsableTable image = (firmware_table_in image ≡ firmware.Absent)
     ⊎ (place : ℕ) × (count : ℕ) × (table_place image ≡ Some place) × IsUsableTable place count image
@@ -63,7 +63,7 @@ IsErased x = each_byte_is 0xff x ≡ true
 abbrev pub IsCleared : List ℕ → Type 0
 IsCleared x = each_byte_is 0x00 x ≡ true
 
--- each structure that the board has is blank, or satisfies its rule
+-- each structure of the board is blank, or satisfies its rule
 pub record HasSoundStructures (b : Board) : Type 0 where
   pub descriptor : InArea b (codes "SI_DESC") (λ x. IsErased x ⊎ HasDescriptor x)
   pub regions : InArea b (codes "SI_DESC") (λ x. (table : RegionTable)

@@ -1,4 +1,4 @@
--- What it means that an update loses a structure.
+-- The condition under which an update loses a structure.
 use Rattle.std.specs.Prelude.{◌≢◌, ◌≤◌, Contains, List, [], ◌∷◌}
 use Rattle.board_structures.specs.Descriptors.{base_of, limit_of}
 use Rattle.board_structures.specs.declared.descriptor.Descriptor.{Descriptor}
@@ -19,11 +19,11 @@ use Rattle.board_findings.specs.declared.finding.HeaderFinding.{HeaderFinding}
 use Rattle.board_findings.specs.declared.structure.Structure.{Structure}
 use Rattle.board_findings.specs.declared.structure.Structure.TheVariants as structures
 
--- the findings have a flash descriptor with this table of regions
+-- the findings contain a flash descriptor with the table of regions `table`
 abbrev pub HasTableOf : List BoardFinding → RegionTable → Type 0
 HasTableOf findings table = Contains findings (found.Descriptor (descriptors.Described table))
 
--- the findings have one about the structure, which is neither blank nor absent
+-- the findings contain a finding about the structure, with a state that is neither blank nor absent
 abbrev pub Has : Structure → List BoardFinding → Type 0
 Has structures.FlashDescriptor findings = (state : Descriptor)
     × Contains findings (found.Descriptor state) × (state ≢ descriptors.Blank)
@@ -43,12 +43,12 @@ Has (structures.Slot slot) findings = (state : SignedSlot)
     × Contains findings (found.Slot (record { slot = slot; state = state }))
     × (state ≢ signed.Blank)
 
--- a region is asked for only in an image whose flash descriptor has a table of regions
+-- a region is compared only if the flash descriptor of the new image has a table of regions
 abbrev pub IsAskedIn : Structure → List BoardFinding → Type 0
 IsAskedIn (structures.Region region) findings = (table : RegionTable) × HasTableOf findings table
 IsAskedIn _ findings = Unit {0}
 
--- the old image has the structure, and the new one has not
+-- the old image has the structure, and the new image has not
 pub record IsLost (old new : List BoardFinding) (structure : Structure) : Type 0 where
   pub was_there : Has structure old
   pub is_gone : Has structure new → ⊥

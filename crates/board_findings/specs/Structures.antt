@@ -1,4 +1,4 @@
--- Structures that an update must not lose: what the old image has, the new one has too.
+-- Structures that an update must not lose: the new image needs each structure of the old image.
 use Rattle.std.specs.Prelude.{Bool, true, false, ◌&&◌, not, List, [], ◌∷◌, ◌++◌, filter, is_some, map}
 use Rattle.std.specs.List.{list_any}
 use Rattle.board_structures.specs.Descriptors.{range_of}
@@ -27,8 +27,9 @@ abbrev pub is_signed : SignedSlot → Bool
 is_signed signed.Blank = false
 is_signed _ = true
 
--- The finding is about the structure, which is neither blank nor absent; a broken one is there.
--- A region is there if it is used, and the bootblock of x86 if the image has a reset vector.
+-- The finding shows that the image has the structure: the state is neither blank nor absent, and
+-- may be broken. A table of regions shows each used region, and a finding about the reset vector
+-- shows a bootblock of x86.
 abbrev pub shows : Structure → BoardFinding → Bool
 shows structures.FlashDescriptor (found.Descriptor descriptors.Blank) = false
 shows structures.FlashDescriptor (found.Descriptor state) = true
@@ -59,17 +60,17 @@ is_described _ = false
 abbrev pub has_table : List BoardFinding → Bool
 has_table findings = list_any is_described findings
 
--- a region is asked for only in an image with such a table
+-- a region is compared only if the new image has a table of regions
 abbrev pub is_asked_in : Structure → List BoardFinding → Bool
 is_asked_in (structures.Region region) findings = has_table findings
 is_asked_in _ findings = true
 
--- the old image has the structure, and the new one has not
+-- the old image has the structure, and the new image has not
 abbrev pub is_lost : List BoardFinding → List BoardFinding → Structure → Bool
 is_lost old new structure =
     has structure old && not (has structure new) && is_asked_in structure new
 
--- in the order of their findings; a region stands after the flash descriptor
+-- all structures, in the order of their findings; the regions follow the flash descriptor
 abbrev pub all_structures : List Structure
 all_structures = (structures.FlashDescriptor ∷ map structures.Region all_regions)
     ++ structures.PartitionTable ∷ structures.Bootblock ∷ structures.FirmwareTable

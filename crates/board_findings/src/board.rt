@@ -16,8 +16,8 @@ use std::alloc::Global;
 /// descriptor and the areas that aren't its regions, the partition table of the Management Engine,
 /// the reset vector, the master header, the Google Binary Block, and the slots A and B.
 ///
-/// `areas` are the areas of the flash map. A structure is looked for in the first area with its
-/// name, if this area lies inside the image. No digest of a content is computed.
+/// `areas` are the areas of the flash map. A structure is searched in the first area with its
+/// name, if the area lies inside the image. No digest of a content is computed.
 ///
 /// Returns `Device` exactly if the device refused a read, and `Memory` if an allocation failed.
 pub fn check_board<F: Flash>(

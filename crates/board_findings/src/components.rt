@@ -99,9 +99,9 @@ fn placed_in<F: Flash>(
     }
 }
 
-/// Returns the components of the area with this range, in order, up to a damage. Its entries end at
-/// the last multiple of 64 bytes. Returns `Device` exactly if a read failed, and `Memory` if an
-/// allocation failed.
+/// Returns the components of the area with the range `region`, in order, up to a damage. The
+/// entries of an area end at the last multiple of 64 bytes. Returns `Device` exactly if a read
+/// failed, and `Memory` if an allocation failed.
 pub fn components_in<F: Flash>(
     alloc: Global,
     paged: &mut Paged<F>,

@@ -1,4 +1,5 @@
-//! The bootblock and the master header in COREBOOT, and what the processor reads before them.
+//! The reset vector, the firmware interface table and the master header, by the bootblock and the
+//! other components of COREBOOT.
 ghost use Rattle.std.specs.Prelude.{◌≡◌, ◌+◌, ◌/◌, ◌^◌, ◌<◌, ◌∷◌, ◌++◌, ◌&&◌, [], length, ◌==◌, if◌then◌else◌};
 ghost use Rattle.std.specs.Option.{option_map_or};
 ghost use Rattle.flash_device.specs.Pages.{HasReadBy, OnHonest};
@@ -20,8 +21,8 @@ use flash_device::{Flash, Paged};
 use flash_map::Region;
 use std::alloc::Global;
 
-/// Returns whether a bootblock that ends with COREBOOT, which has this range, is one of x86: the
-/// image ends there too.
+/// Returns whether the image has a bootblock of x86: COREBOOT, with the range `region`, ends both
+/// with a bootblock and with the image of `image_len` bytes.
 fn is_x86(region: Region, image_len: u64, ends_with_bootblock: bool) -> bool
     requires { region.start + region.size < 2 ^ 64 }
     ensures { result ≡ (region.start + region.size == image_len && ends_with_bootblock) }
@@ -46,7 +47,8 @@ fn push_reset_vector<F: Flash>(
     Ok(())
 }
 
-/// Appends the finding about a firmware interface table under a bootblock of x86, if there is one.
+/// Appends the finding about the firmware interface table under a bootblock of x86, unless the
+/// table is absent.
 fn push_firmware_table<F: Flash>(
     paged: &mut Paged<F>,
     is_x86: bool,
@@ -68,7 +70,7 @@ fn push_firmware_table<F: Flash>(
     }
 }
 
-/// Appends the finding about a master header, if there is one.
+/// Appends the finding about the first master header of COREBOOT, if any.
 fn push_master_header<F: Flash>(
     paged: &mut Paged<F>,
     region: Region,

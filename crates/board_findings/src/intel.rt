@@ -34,7 +34,7 @@ fn difference_of(
     })
 }
 
-/// Returns how the first area with the name of a region differs from the region, if it does.
+/// Returns the difference between a region and the first area with the region's name, if any.
 fn difference(
     areas: &[NumberedArea],
     table: &RegionTable,
@@ -55,7 +55,8 @@ fn difference(
     difference_of(region, described, area)
 }
 
-/// Appends the areas that aren't these regions of a descriptor with this table.
+/// Appends a finding for each region of `regions` that differs from the area with its name, by the
+/// table of a descriptor.
 fn push_differences(
     areas: &[NumberedArea],
     table: &RegionTable,
@@ -73,7 +74,8 @@ fn push_differences(
     Ok(())
 }
 
-/// Appends the findings about the flash descriptor, if there is one.
+/// Appends the findings about the flash descriptor and about areas that differ from its regions, if
+/// the area SI_DESC lies inside the image.
 pub fn push_descriptor<F: Flash>(
     paged: &mut Paged<F>,
     areas: &[NumberedArea],
@@ -101,7 +103,8 @@ pub fn push_descriptor<F: Flash>(
     }
 }
 
-/// Appends the finding about the partition table of the Management Engine, if there is one.
+/// Appends the finding about the partition table of the Management Engine, if the area SI_ME lies
+/// inside the image.
 pub fn push_partition_table<F: Flash>(
     paged: &mut Paged<F>,
     areas: &[NumberedArea],

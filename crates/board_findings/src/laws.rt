@@ -16,7 +16,7 @@ use board_structures::{
     sound_partition_tables_have_a_marker, sound_reset_vectors_have_code, sound_tables_are_usable,
 };
 
-/// If no finding is bad, each structure that the image has satisfies its rule.
+/// If no finding is bad, each structure of the image is blank or satisfies its rule.
 pub fn sound_boards_have_sound_structures()
     ensures { (b : Board) → list_any is_bad (board_findings b) ≡ false → HasSoundStructures b }
 {
@@ -30,8 +30,8 @@ pub fn sound_boards_have_sound_structures()
     signed_slots_are_covered();
 }
 
-/// A structure is listed as lost exactly if the old image has it and the new one has not. A region
-/// is asked for only if the new image has a flash descriptor with a table of regions.
+/// A structure is listed as lost exactly if the old image has the structure and the new image has
+/// not. A region is compared only if the new image has a flash descriptor with a table of regions.
 pub fn lost_structures_are_gone()
     ensures { (old new : List BoardFinding) (structure : Structure) →
         Contains (lost_structures old new) structure ↔ IsLost old new structure }

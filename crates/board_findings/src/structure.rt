@@ -96,14 +96,15 @@ impl Structure {
         }
     }
 
-    /// Returns whether the image with these findings has this structure.
+    /// Returns whether an image with these findings has the structure.
     fn is_in(self, findings: &[BoardFinding]) -> bool
         ensures { result ≡ has self findings.now }
     {
         findings.iter().any(|finding| self.is_shown_by(finding))
     }
 
-    /// Returns whether this structure is asked for in the image with these findings.
+    /// Returns whether the structure is compared if the new image has these findings: a region is
+    /// compared only if the flash descriptor has a table of regions.
     fn is_asked_in(self, findings: &[BoardFinding]) -> bool
         ensures { result ≡ is_asked_in self findings.now }
     {
@@ -120,10 +121,10 @@ impl Structure {
     }
 }
 
-/// Returns the structures that the image with the `old` findings has, and the one with the `new`
-/// findings has not, in the order of their findings. A structure is there if it has a finding that
-/// is neither blank nor absent. Regions are compared if both images have a flash descriptor with a
-/// table of regions. Returns `AllocError` only if an allocation failed.
+/// Returns the structures that the image with the `old` findings has, and the image with the `new`
+/// findings has not, in the order of their findings. An image has a structure if a finding about
+/// the structure is neither blank nor absent. Regions are compared if both images have a flash
+/// descriptor with a table of regions. Returns `AllocError` only if an allocation failed.
 #[tactic(auto, unfolding(crate::specs::Structures::lost_structures))]
 pub fn lost_structures(
     alloc: Global,

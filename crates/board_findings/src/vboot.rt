@@ -13,7 +13,7 @@ use check_findings::{CheckFault, NumberedArea};
 use flash_device::{Flash, Paged};
 use std::alloc::Global;
 
-/// Appends the finding about the Google Binary Block, if there is one.
+/// Appends the finding about the Google Binary Block, if the area GBB lies inside the image.
 pub fn push_gbb<F: Flash>(
     paged: &mut Paged<F>,
     areas: &[NumberedArea],
@@ -52,7 +52,7 @@ fn slot_body<F: Flash>(
     Ok(SlotBody { end, size })
 }
 
-/// Appends the finding about a slot, if its area is there.
+/// Appends the finding about a slot, if the area with the slot's signatures lies inside the image.
 pub fn push_slot<F: Flash>(
     alloc: Global,
     paged: &mut Paged<F>,

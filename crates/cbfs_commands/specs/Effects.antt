@@ -24,7 +24,8 @@ use Rattle.cbfs_commands.specs.Outcomes as outcomes
 use Rattle.cbfs_commands.specs.Outcomes.{Outcome, print_region, extract_region, printed_in}
 use Rattle.cbfs_commands.specs.Outcomes.{CommandResult, Printout, shows}
 
--- How a command ended: the image and the source's content before it, its answer, and the image now.
+-- The end of a command: the image and the source's content before the command, the answer, and the
+-- image afterwards.
 pub record Ending : Type 0 where
   pub image : List ℕ
   pub source : List ℕ
@@ -84,9 +85,9 @@ region_effect name edit = record {
   Stopped = λ e. ForOk (region_of e.image name) (edit.Stopped e);
 }
 
--- A source of the region's size replaces the region's bytes; another source changes nothing.
--- After a source fault the source's first bytes stand before the old ones, after a device fault an
--- arbitrary piece stands between.
+-- A source of the region's size replaces the region's bytes; another source changes nothing. After
+-- a source fault, the region has the source's first bytes, followed by the old bytes. After a
+-- device fault, an arbitrary piece lies between the new and the old bytes.
 abbrev pub writing : RegionEdit
 writing = record {
   reads = true;
@@ -97,9 +98,9 @@ writing = record {
       × (IsErrOf e.answer refusals.Device → PartWritten region.start e.source e.image e.now);
 }
 
--- A component at the least allowed place in the first free space with room. `with_content` gives
--- it by its content, the source's. A source fault leaves the components of before, a device fault
--- these or also the complete addition.
+-- A component at the least allowed place in the first free space with room. `with_content` returns
+-- the component with the source's content. A source fault leaves the earlier components, and a
+-- device fault leaves the earlier components, with or without the complete addition.
 abbrev pub adding : (List ℕ → NewComponent) → Spot → RegionEdit
 adding with_content spot = record {
   reads = true;

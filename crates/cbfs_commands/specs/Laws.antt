@@ -26,8 +26,8 @@ pub record HaveSameEffectIn (region : Range) (a b : Outcome) : Type 0 where
   pub printout : a.printout ≡ b.printout
   pub bytes : bytes_in region a.image ≡ bytes_in region b.image
 
--- An outcome depends on bytes alone: on those of image and source, and for a command on a region on
--- those of this region and of the flash map. No failed call is part of it.
+-- An outcome depends on bytes alone: on the bytes of image and source, and for a command on a
+-- region on the bytes of the region and of the flash map. No failed call is part of an outcome.
 pub record OutcomesDependOnBytes : Type 0 where
   -- no outcome's own answer is a fault of the device, the output or the source
   pub faultless : (r : Request) (image source : List ℕ)
@@ -72,7 +72,8 @@ pub record AdditionsAreExtracted (x : List ℕ) (new : NewComponent) (place : Pl
 
 -- ---- printed lines
 
--- `line` prints a thing of type A as text. `values` are its name, if it has one, and its numbers.
+-- `line` prints a value of type A as text. `values` are the name of the value, if any, and the
+-- numbers.
 module _ {A N : Type 0} (line : A → List ℕ) (values : A → N × List ℕ) where
   -- The numbers are below 2^64. That is no limit in practice: numbers of an image have 32 bits, and
   -- offsets are below the size of the image.
@@ -89,7 +90,7 @@ module _ {A N : Type 0} (line : A → List ℕ) (values : A → N × List ℕ) w
         → All HasNumbersOf64Bits others
         → flat_map line each ≡ flat_map line others → map values each ≡ map values others
 
--- the row that `print` without `-v` has for a cell, which is given as its offset and its bytes
+-- the row that `print` without `-v` has for a cell, given by offset and bytes
 abbrev pub row_of_cell : ℕ × List ℕ → List ℕ
 row_of_cell cell = let verbose = false in shown_cell verbose cell.0 cell.1
 
@@ -102,7 +103,7 @@ abbrev pub component_values : ℕ → List ℕ → Option (List ℕ) × List ℕ
 component_values at x = let h = head_of x in
     (Some (cell_name x), at ∷ h.kind ∷ h.len ∷ compression_of (cell_attributes x) ∷ [])
 
--- the values in the row of a cell, which is given as its offset and its bytes
+-- the values in the row of a cell, given by offset and bytes
 abbrev pub row_values : ℕ × List ℕ → Option (List ℕ) × List ℕ
 row_values cell = if is_free (head_of cell.1) then free_values cell.0 cell.1
     else component_values cell.0 cell.1

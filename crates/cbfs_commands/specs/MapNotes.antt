@@ -19,7 +19,7 @@ use Rattle.cbfs_commands.specs.declared.map_notes.MapNote.TheVariants as map_not
 use Rattle.cbfs_commands.specs.declared.region_notes.RegionNote.{RegionNote}
 use Rattle.cbfs_commands.specs.declared.region_notes.RegionNote.TheVariants as region_notes
 
--- the region of a request, if it has one
+-- the region of a request, or the empty name for a request without a region
 abbrev pub region_name : Request → List ℕ
 region_name (on_region region task) = region
 region_name request = []
@@ -29,7 +29,7 @@ region_name request = []
 abbrev pub is_inside : Range → ℕ → Bool
 is_inside range at = nat_le range.start at && nat_lt at (range.start + range.size)
 
--- A byte is in both ranges. If there is one, the first byte of one range is in the other.
+-- The ranges have a common byte: the first byte of either range lies in the other range.
 abbrev pub share_a_byte : Range → Range → Bool
 share_a_byte r s = (nat_lt 0 r.size && is_inside s r.start)
     || (nat_lt 0 s.size && is_inside r s.start)
@@ -43,19 +43,19 @@ abbrev pub is_other_in : Range → List ℕ → Area → Bool
 is_other_in range name area = not (is_area name area) && (nat_lt 0 area.size
     && (nat_le range.start area.offset && nat_le (area_end area) (range.start + range.size)))
 
--- the map still stands in the image, and has such an area
+-- the image still has the map, and an area of the map with another name lies in the region
 abbrev pub contains_others : Used → List ℕ → List ℕ → Bool
 contains_others used name image = stands used.map image
     && list_any (is_other_in used.region name) (areas_of image used.map)
 
--- The note on a region that was replaced, by the flash map of that time. A region that holds the
--- map mostly contains its area too, so only the first note is given then.
+-- The note on a replaced region, by the flash map before the command. A region with bytes of the
+-- map mostly contains the map's area too, and only the first note is printed in this case.
 abbrev pub replaced_region : List ℕ → List ℕ → Used → Option RegionNote
 replaced_region image name used = if share_a_byte used.region (range_of_map used.map)
     then Some region_notes.HoldsMap
     else (if contains_others used name image then Some region_notes.ContainsAreas else None)
 
--- after a `write` that succeeded
+-- the note after a successful `write`
 abbrev pub region_note : Request → CommandResult → Option Used → List ℕ → Option RegionNote
 region_note (on_region name write) (Ok done) (Some used) image = replaced_region image name used
 region_note request answer used image = None
@@ -67,13 +67,13 @@ abbrev pub is_same_map : FoundMap → FoundMap → Bool
 is_same_map map other =
     (map.at == other.at) && bytes_eq (fmap_head_bytes map.head) (fmap_head_bytes other.head)
 
--- what the search of the next command finds in place of the map that was used, if anything changed
+-- the result of the next command's search, if different from the used map
 abbrev pub map_change : FoundMap → Option FoundMap → Option MapNote
 map_change used None = Some map_notes.NoMap
 map_change used (Some found) =
     if is_same_map used found then None else Some (map_notes.AnotherMap found.at)
 
--- after an `add`, `remove` or `write` that succeeded
+-- the note after a successful `add`, `remove` or `write`
 abbrev pub map_note : Request → CommandResult → Option Used → List ℕ → Option MapNote
 map_note request answer (Some used) image = if may_outdate request answer
     then map_change used.map (found_in image) else None

@@ -41,28 +41,28 @@ shows text = record { written = text; answer = Ok tt }
 abbrev pub refuses : Refusal → Printout
 refuses refusal = record { written = []; answer = Err refusal }
 
--- The contents of a writer, `old` before and `new` after a call with this answer, show a printout.
--- One of three holds: the answer is that of the printout, and the whole text was written; the
+-- The contents of a writer, `old` before and `new` after a call with the result `answer`, show a
+-- printout in three cases: the answer is the printout's answer, and the whole text was written; the
 -- writer failed after a proper prefix of the text; or the device or the source of a content failed,
--- and for some n the first n bytes were written. `None` stands for contents that are not known, of
--- which nothing is stated.
+-- and for some n the first n bytes were written. `None` means unknown contents, and nothing is
+-- stated about them.
 abbrev pub PrintsOut : Option (List ℕ) → Option (List ℕ) → CommandResult → Printout → Type 0
 PrintsOut old new answer t = ((answer ≡ t.answer) × Appends old new t.written)
     ⊎ (IsErrOf answer refusals.Output × AppendsPart old new t.written)
     ⊎ ((IsErrOf answer refusals.Device ⊎ IsErrOf answer refusals.Source)
     × ((n : ℕ) × (n ≤ length t.written) × Appends old new (take n t.written)))
 
--- The region r lies on the device, and the cell c within bounds of such a region. An honest device
--- has the bytes of this cell at the offset that the cell states.
+-- The region r lies on the device, and the cell c within the bounds of a region of r's size. An
+-- honest device has the bytes of the cell at the offset stated by the cell.
 pub record IsCellOf (r : Range) (c : Cell) (device : Device) : Type 0 where
   pub region : LiesOn r device
   pub cell : IsCellIn r.size c
   pub stands : OnHonestIn device r (λ x. StandsIn x c)
 
--- A call that reads the device at most n times, and writes to a sink. A device fault is a failed
--- read, and an output fault a failure of the sink. There is no source, so no source fault. On an
--- honest device, whose reads return its content or fail, the output and the answer are those of `t
--- image`.
+-- A call with at most n reads of the device, and with writes to a sink. A device fault is a failed
+-- read, and an output fault a failure of the sink. The call has no source, and no source fault. On
+-- an honest device, reads return the device's content or fail, and `t image` is the output with the
+-- answer.
 pub record HasOutput {F W : Type 0} (sink : SinkOf W) (n : ℕ) (old new : Pages F)
     (out_old out_new : W) (answer : CommandResult) (t : List ℕ → Printout) : Type 0 where
   pub read : HasReadBy by_device n old new answer
@@ -72,19 +72,19 @@ pub record HasOutput {F W : Type 0} (sink : SinkOf W) (n : ℕ) (old new : Pages
   pub printout : OnHonest old.device (λ image.
       PrintsOut (sink.contents out_old) (sink.contents out_new) answer (t image))
 
--- the refusal for a fault of a walk, which is the same as that of an edit
+-- the refusal for a fault of a walk, which equals the refusal of an edit
 abbrev pub walk_refusal : WalkFault → Refusal
 walk_refusal fault = edit_refusal (edit_fault_of fault)
 
 -- ---- outcomes
 
--- what a command prints and answers, and the image after it
+-- the printout of a command with the answer, and the image after the command
 pub record Outcome : Type 0 where
   pub printout : Printout
   pub image : List ℕ
 
--- what `tell` makes of the bytes of the region with this name, or the refusal of the map or the
--- name
+-- the printout that `tell` returns for the bytes of the region named `name`, or the refusal of the
+-- map or the name
 abbrev pub printed_in : List ℕ → List ℕ → (List ℕ → Printout) → Printout
 printed_in image name tell = fault_or (λ fault. refuses (store_refusal fault))
     (region_of image name) (λ region. tell (bytes_in region image))
@@ -97,7 +97,7 @@ layout image = option_map_or (λ m. shows (map_line m ++ flat_map area_line (are
 
 -- ---- print
 
--- the answer for cells that end at this offset: the damage there, or success at each other end
+-- the answer for cells that end at the offset `at`: the damage at the end, or else success
 abbrev pub end_answer : ℕ → End → CommandResult
 end_answer at (damage kind) = Err (walk_refusal (faults.Damaged at kind))
 end_answer at end = Ok tt

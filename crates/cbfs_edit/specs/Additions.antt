@@ -41,12 +41,12 @@ choice_of algorithms.Sha512 = Sha512
 abbrev pub digest_of : HashChoice → List ℕ → Option Digest
 digest_of hash content = option_map (λ algorithm. hashed_by algorithm content) (algorithm_of hash)
 
--- with the given digest
+-- a new component with the given digest
 abbrev pub described : List ℕ → ℕ → Option Digest → List ℕ → NewComponent
 described name kind digest content =
     record { name = name; kind = kind; digest = digest; content = content }
 
--- with the chosen digest of its content
+-- a new component with the selected digest of the content
 abbrev pub new_component : List ℕ → ℕ → HashChoice → List ℕ → NewComponent
 new_component name kind hash content = described name kind (digest_of hash content) content
 

@@ -18,7 +18,7 @@ use Rattle.cbfs_edit.specs.declared.place.Place.{Place}
 use Rattle.flash_format.specs.Splices.{AllFree}
 use Rattle.flash_format.specs.Cut.{cut}
 
--- the runs with one more in front, from start to end, unless it is empty
+-- the other runs, preceded by the run from `start` to `end`, unless the run is empty
 abbrev pub add_run : ℕ → ℕ → List CellRange → List CellRange
 add_run start end others =
     if nat_lt start end then record { start = start; end = end } ∷ others else others
@@ -36,7 +36,7 @@ runs_from start at (cell ∷ cells) = let next = at + length cell in
 abbrev pub runs : List ℕ → List CellRange
 runs x = runs_from 0 0 (cut x).cells
 
--- A run is a maximal sequence of free cells: on each side stands a component, or no cell.
+-- A run is a maximal sequence of free cells: the adjacent cells, if any, are components.
 pub record IsRunOf (cells : List (List ℕ)) (run : CellRange) : Type 0 where
   pub row : List (List ℕ)
   pub maximal : IsRowBetweenComponents cells row run
@@ -57,14 +57,14 @@ Allows (Aligned unit) c = c % unit ≡ 0
 Allows (Fixed place) c = c ≡ place
 
 -- The greatest end of a content in a run that ends at `end`, in a region of the given size. The
--- last four bytes of the region stay free, because older images have a pointer there. Only a
--- content at a fixed place can cover them: its user has chosen these bytes, as for a bootblock that
--- has to end with its region.
+-- last four bytes of the region stay free, because older images have a pointer in these bytes. Only
+-- a content at a fixed position can cover the last four bytes: the user has selected the position,
+-- as for a bootblock that has to end with the region.
 abbrev pub content_limit : Spot → ℕ → ℕ → ℕ
 content_limit (Fixed place) size end = end
 content_limit spot size end = space_end size end
 
--- the header stands at the largest multiple of 64 with room for the metadata before the content
+-- the header begins at the largest multiple of 64 with room for the metadata before the content
 pub record IsHeaderOf (wanted : Wanted) (place : Place) : Type 0 where
   pub aligned : place.header % 64 ≡ 0
   pub room : place.header + wanted.metadata_len ≤ place.content
@@ -101,8 +101,8 @@ module _ (wanted : Wanted) (size : ℕ) where
 
 -- ---- as a function
 
--- The least start of a content that the spot allows from `from` on. A fixed place is the only one
--- that its spot allows, so it is the result even if it is below `from`; then the run has no room.
+-- The least start of a content that the spot allows from `from` on. A fixed spot allows a single
+-- position, which is the result even below `from`; in this case the run has no room.
 abbrev pub least_allowed_from : Spot → ℕ → ℕ
 least_allowed_from First from = from
 least_allowed_from (Aligned unit) from = next_multiple_of from unit

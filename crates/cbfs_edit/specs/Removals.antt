@@ -53,8 +53,8 @@ IsComponent c = is_free (head_of c) ≡ false
 abbrev pub IsNot : List ℕ → List ℕ → Type 0
 IsNot name c = IsComponent c → bytes_eq (cell_name c) name ≡ false
 
--- The range has the bytes of a row of neighbouring cells. Directly before and after the row stands
--- a component, or no cell: so no free cell beside the row is left out.
+-- The range has the bytes of a row of neighbouring cells. The cells directly before and after the
+-- row, if any, are components: the row omits no adjacent free cell.
 pub record IsRowBetweenComponents (cells row : List (List ℕ)) (range : CellRange) : Type 0 where
   pub before : List (List ℕ)
   pub after : List (List ℕ)

@@ -15,7 +15,7 @@ use Rattle.cbfs_mistakes.specs.declared.mistake.MissingOptions.{MissingOptions}
 use Rattle.cbfs_mistakes.specs.declared.mistake.NumberOption.{NumberOption}
 use Rattle.cbfs_mistakes.specs.declared.mistake.NumberOption.TheVariants.{Alignment, Base}
 
--- a mistake, with the texts that it names
+-- a mistake, with the texts named in the explanation
 pub data Cause : Type 0 where
   missing : List ℕ → MissingOptions → Cause
   two_places : Cause
@@ -29,7 +29,7 @@ pub data Cause : Type 0 where
 abbrev pub no_options : MissingOptions
 no_options = record { name = false; file = false; flash_map = false; kind = false }
 
--- if there is one
+-- some option is missing
 abbrev pub has_missing : MissingOptions → Bool
 has_missing options = options.name || options.file || options.flash_map || options.kind
 

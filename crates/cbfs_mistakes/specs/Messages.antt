@@ -66,7 +66,7 @@ number_text numbers.Base = codes "-b takes a number below 2^32 such as 4096 or 0
 abbrev pub listed : List (List ℕ) → List ℕ
 listed names = codes ": " ++ drop 2 (flat_map (λ name. codes ", " ++ name) names)
 
--- the types of components: all except those of free space
+-- the types of components: all types except free space
 abbrev pub types_text : List ℕ
 types_text = listed (map (λ row. row.1)
     (filter (λ row. not (row.0 == 0 || row.0 == 0xffffffff)) type_table))
@@ -90,12 +90,12 @@ mistake_text (mistakes.UnknownHash value) =
 mistake_text (mistakes.EmptyRegion list) = ending (codes "-r has an empty name in ") list.now
 mistake_text mistakes.TooManyRegions = codes "-r takes at most 16 names"
 
--- the command whose usage is printed: after the image, or before it by mistake
+-- the command of the printed usage: after the image, or before the image by mistake
 abbrev pub meant_command : Words → Mistake → List ℕ
 meant_command words (mistakes.Swapped image command) = command.now
 meant_command words m = option_map_or (λ (word : Bor (List ℕ)). word.now) (slice_get words 1) []
 
--- a line for the mistake, the known word near a wrong one, and the usage
+-- a line for the mistake, the known command or option near a wrong argument, and the usage
 abbrev pub explanation : Words → Mistake → List ℕ
 explanation words m = codes "cbfstool: " ++ mistake_text m ++ codes "\n"
     ++ suggestion (meant_command words m) m ++ usage_of (meant_command words m)

@@ -11,7 +11,7 @@ use Rattle.cbfs_mistakes.specs.declared.mistake.Mistake.{Mistake}
 use Rattle.cbfs_mistakes.specs.declared.mistake.Mistake.TheVariants as mistakes
 use Rattle.cbfs_mistakes.specs.declared.mistake.WordFault.TheVariants as faults
 
--- the cause that a mistake names, of a line that clap accepts
+-- the cause of a mistake, for a line that clap accepts
 abbrev pub named_cause : Mistake → Option Cause
 named_cause (mistakes.Missing command options) = Some (causes.missing command.now options)
 named_cause mistakes.TwoPlaces = Some causes.two_places
@@ -23,7 +23,7 @@ named_cause mistakes.TooManyRegions = Some causes.too_many_regions
 named_cause (mistakes.Word faults.UnknownCommand word) = Some (causes.unknown_command word.now)
 named_cause _ = None
 
--- the mistake names the cause, and there is none without a cause
+-- the mistake names the cause, and a line without a cause has no mistake
 abbrev pub Names : Option Cause → Option Mistake → Type 0
 Names cause m = option_map named_cause m ≡ option_map Some cause
 
@@ -36,7 +36,7 @@ IsRefusal image words m =
     × ((before : Option (Bor (List ℕ))) × ((word : Bor (List ℕ))
     × IsWrong kind searched before word × (m ≡ word_mistake kind image before word)))))
 
--- clap accepts the arguments, and this is the first cause to refuse the line
+-- clap accepts the arguments, and the mistake names the first cause to refuse the line
 abbrev pub IsBadLine : Words → Mistake → Type 0
 IsBadLine words m = (line : Texts) × (Some line ≡ texts_of (texts words))
     × Names (cause_of line) (Some m)

@@ -15,7 +15,7 @@ joined [] = []
 joined (first ∷ others) =
     printed_name first ++ flat_map (λ name. codes ", " ++ printed_name name) others
 
--- the number of names that are not listed
+-- the number of the remaining names, if any
 abbrev pub others_text : ℕ → List ℕ
 others_text count = if count == 0 then [] else codes " and " ++ decimal count ++ codes " more"
 

@@ -1,5 +1,5 @@
 -- The line that names the region, component or file of a refusal: this project's own texts. The
--- reasons are those of the C library.
+-- reasons have the texts of the C library.
 use Rattle.std.specs.Prelude.{ℕ, List, [], Option, Some, unwrap_or, if◌then◌else◌}
 use Rattle.std.specs.Str.{bytes_eq}
 use Rattle.std.specs.declared.io.ErrorKind.{ErrorKind}

@@ -26,12 +26,12 @@ synopsis_of command = synopsis_among synopses command
 abbrev pub is_command : List ℕ → Bool
 is_command word = is_some (synopsis_of word)
 
--- without a known command
+-- the usage without a known command
 abbrev pub all_commands : List ℕ
 all_commands =
     codes "COMMAND [OPTIONS]\ncommands: print layout extract add remove read write create"
 
--- of a command, or of all
+-- the usage of a command, or of all commands
 abbrev pub usage_of : List ℕ → List ℕ
 usage_of word = codes "usage: cbfstool IMAGE " ++ unwrap_or (synopsis_of word) all_commands
     ++ codes "\n"

@@ -21,7 +21,7 @@ Words = List (Bor (List ℕ))
 abbrev pub texts : Words → List (List ℕ)
 texts words = map (λ (word : Bor (List ℕ)). word.now) words
 
--- the arguments after IMAGE are refused, and may be for this reason
+-- clap refuses the arguments after IMAGE, and may give the reason `kind`
 abbrev pub IsRefusedFor : ErrorKind → Words → Type 0
 IsRefusedFor kind words = IsAmong kind (fault_of command_line (texts words))
 
@@ -35,8 +35,8 @@ abbrev pub previous : Words → ℕ → Option (Bor (List ℕ))
 previous words zero = None
 previous words (suc n) = slice_get words n
 
--- Earlier arguments alone aren't refused for this reason. With this argument, and any number of
--- later ones, they are.
+-- Earlier arguments alone aren't refused for the reason `kind`. Together with the wrong argument,
+-- and any number of later arguments, they are refused.
 pub record IsWrong (kind : ErrorKind) (words : Words) (before : Option (Bor (List ℕ)))
     (word : Bor (List ℕ)) : Type 0 where
   pub n : ℕ
@@ -45,11 +45,12 @@ pub record IsWrong (kind : ErrorKind) (words : Words) (before : Option (Bor (Lis
   pub spared : Spares kind (take n words)
   pub from : (m : ℕ) → n < m → m ≤ length words → IsRefusedFor kind (take m words)
 
--- the wrong argument is sought among all, or among at least so many
+-- the search for the wrong argument covers all arguments, or at least 64
 abbrev pub least_searched : ℕ
 least_searched = 64
 
--- The line is refused for this reason, and so are the searched arguments: all, or the first ones.
+-- The line and the searched arguments are both refused for the reason `kind`. The searched
+-- arguments are all arguments, or at least the first 64.
 pub record AreSearched (kind : ErrorKind) (words searched : Words) : Type 0 where
   pub whole : IsRefusedFor kind words
   pub refused : IsRefusedFor kind searched
@@ -65,7 +66,7 @@ abbrev pub commandless : Bor (List ℕ) → Mistake
 commandless image =
     if is_option image.now then Word faults.EarlyOption image else NoCommand image
 
--- An argument that clap does not know.
+-- An argument unknown to clap.
 abbrev pub unknown : Bor (List ℕ) → Option (Bor (List ℕ)) → Bor (List ℕ) → Mistake
 unknown image None word = if is_option word.now then Word faults.EarlyOption word
     else (if is_option image.now then Word faults.EarlyOption image
@@ -73,12 +74,12 @@ unknown image None word = if is_option word.now then Word faults.EarlyOption wor
 unknown image (Some before) word =
     Word (if is_option word.now then faults.UnknownOption else faults.Unexpected) word
 
--- the option whose value is the argument, or the argument itself
+-- the argument itself if an option or the first argument, or else the preceding option
 abbrev pub option_at : Option (Bor (List ℕ)) → Bor (List ℕ) → Bor (List ℕ)
 option_at before word = if is_option word.now then word
     else option_map_or (λ option. option) before word
 
--- the mistake of the wrong argument, by clap's reason, the image and the argument before it
+-- the mistake of the wrong argument, by clap's reason, the image and the preceding argument
 abbrev pub word_mistake : ErrorKind → Bor (List ℕ) → Option (Bor (List ℕ)) → Bor (List ℕ) → Mistake
 word_mistake reason.DisplayHelp image before word = Word faults.Help word
 word_mistake reason.InvalidValue image before word = Word faults.MissingValue word

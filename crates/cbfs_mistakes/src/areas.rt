@@ -36,8 +36,8 @@ fn area_names<F: Flash>(
     Ok(names)
 }
 
-/// Appends the line that names the areas of the image's flash map, if it has one with areas. The
-/// names near the given one come first. Errors: a failed read, or an allocation failure.
+/// Appends the line that names the areas of the image's flash map, if the image has a flash map
+/// with areas. Names near `given` come first. Errors: a failed read, or an allocation failure.
 pub fn push_areas<F: Flash>(
     alloc: Global,
     out: &mut Vec<u8>,

@@ -72,8 +72,9 @@ fn component_names<F: Flash>(
     }
 }
 
-/// Appends the line that names the components of a region of the image, if it has one. The names
-/// near the given one come first. Errors: a failed read, or an allocation failure.
+/// Appends the line that names the components of the region `area` of the image, if the image has
+/// the region and the region has a component. Names near `given` come first. Errors: a failed read,
+/// or an allocation failure.
 pub fn push_components<F: Flash>(
     alloc: Global,
     out: &mut Vec<u8>,

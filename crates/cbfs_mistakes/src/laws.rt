@@ -11,15 +11,14 @@ pub fn commands_are_those_of_clap()
     ensures { map (λ row. row.0) synopses ≡ map (λ command. command.name) subcommands }
 {}
 
-/// Words near a command, in examples: with a letter that is missing, and with two that are
-/// exchanged.
+/// Arguments near a command, in examples: with a missing letter, and with two exchanged letters.
 #[tactic(auto, unfolding(crate::specs::Near::is_near, crate::specs::Suggestions::near_command))]
 pub fn near_commands_are_known()
     ensures missing { near_command (codes "prnt") ≡ Some (codes "print") }
     ensures exchanged { near_command (codes "pritn") ≡ Some (codes "print") }
 {}
 
-/// A long name of an option that other tools have.
+/// A long option name of other tools, as an example.
 #[tactic(auto, unfolding(crate::specs::Near::is_near, crate::specs::Suggestions::near_option))]
 pub fn long_names_are_known()
     ensures { near_option (codes "print") (codes "--region") ≡ Some 114 }

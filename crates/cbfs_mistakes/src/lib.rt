@@ -1,4 +1,4 @@
-//! The mistake of a command line that cbfstool refuses, and the lines that explain it.
+//! The mistake of a command line that cbfstool refuses, and the lines of its explanation.
 #![tactic(auto)]
 
 mod areas;

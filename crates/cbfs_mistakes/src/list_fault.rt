@@ -1,4 +1,4 @@
-//! The reason for names that are not listed.
+//! The error of a failed listing of names.
 
 ghost use Rattle.std.specs.Prelude.{◌≡◌};
 ghost use Rattle.cbfs_mistakes.specs.declared.list_fault.ListFault.TheVariants as faults;
@@ -6,7 +6,7 @@ ghost use Rattle.cbfs_mistakes.specs.declared.list_fault.ListFault.TheVariants a
 use flash_device::FlashFault;
 use std::alloc::AllocError;
 
-/// The reason for names that are not listed.
+/// The error of a failed listing of names.
 #[derive(Clone, Copy, Debug, PartialEq, Eq)]
 pub enum ListFault {
     /// A failed read.

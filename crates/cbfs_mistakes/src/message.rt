@@ -195,7 +195,7 @@ fn push_usage(out: &mut Vec<u8>, command: &str) -> Result<(), AllocError>
     push_line(out, "usage: cbfstool IMAGE ", arguments)
 }
 
-/// Returns the command whose usage is printed.
+/// Returns the command of the printed usage.
 fn meant_command<'a>(words: &[&'a str], mistake: &Mistake<'a>) -> &'a str
     ensures { result.now ≡ meant_command words.now mistake.now }
 {
@@ -205,8 +205,8 @@ fn meant_command<'a>(words: &[&'a str], mistake: &Mistake<'a>) -> &'a str
     }
 }
 
-/// Appends the lines that explain the mistake of the arguments: the mistake, the known word near a
-/// wrong one, and the usage.
+/// Appends the lines that explain the mistake of the arguments: the mistake, the known command or
+/// option near a wrong argument, and the usage.
 pub fn push_explanation(
     out: &mut Vec<u8>,
     words: &[&str],

@@ -9,17 +9,17 @@ pub enum WordFault {
     EarlyOption,
     /// No name of a command.
     UnknownCommand,
-    /// An option that the command does not have.
+    /// An option unknown to the command.
     UnknownOption,
     /// An option without its value.
     MissingValue,
-    /// An option that is given again.
+    /// A repeated option.
     GivenTwice,
-    /// An argument that is no option and no option's value.
+    /// An argument other than an option or an option's value.
     Unexpected,
 }
 
-/// The required options that a line lacks.
+/// The required options missing from a line.
 #[derive(Clone, Copy, Debug, PartialEq, Eq)]
 pub struct MissingOptions {
     /// `-n`.
@@ -32,7 +32,7 @@ pub struct MissingOptions {
     pub kind: bool,
 }
 
-/// An option whose value is a number.
+/// An option with a number as its value.
 #[derive(Clone, Copy, Debug, PartialEq, Eq)]
 pub enum NumberOption {
     /// `-a`.
@@ -67,7 +67,7 @@ pub enum Mistake<'a> {
     },
     /// Both `-a` and `-b`.
     TwoPlaces,
-    /// A value that is no number below 2^32.
+    /// A value other than a number below 2^32.
     BadNumber {
         option: NumberOption,
         value: &'a str,

@@ -37,7 +37,7 @@ fn push_joined(out: &mut Vec<u8>, names: &[Vec<u8>]) -> Result<(), AllocError>
     Ok(())
 }
 
-/// Appends the number of names that are not listed.
+/// Appends the number of the remaining names, if any.
 fn push_others(out: &mut Vec<u8>, count: usize) -> Result<(), AllocError>
     ensures { OnOk result (out.new.items ≡ out.old.items ++ others_text count) }
 {
@@ -50,8 +50,8 @@ fn push_others(out: &mut Vec<u8>, count: usize) -> Result<(), AllocError>
     out.extend_from_slice(b" more")
 }
 
-/// Appends a line with the first 16 names after a text, and the number of the others. Without a
-/// name it appends nothing.
+/// Appends a line with the first 16 names after a text, and the number of the others. Without
+/// names, nothing is appended.
 pub fn push_names(out: &mut Vec<u8>, before: &str, names: &[Vec<u8>]) -> Result<(), AllocError>
     ensures { OnOk result (out.new.items
         ≡ out.old.items ++ names_line before.now (map (λ name. name.items) names.now)) }

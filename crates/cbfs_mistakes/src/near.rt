@@ -1,11 +1,11 @@
-//! Words that differ by one letter.
+//! Similar names: they differ by a single letter, or by two exchanged letters.
 
 ghost use Rattle.std.specs.Prelude.{◌≡◌, IfOk, drop, map};
 ghost use Rattle.cbfs_mistakes.specs.Near.{are_exchanged, differ_in_front, is_near, near_first};
 
 use std::alloc::{AllocError, Global};
 
-/// Returns the letters of a word behind the first n.
+/// Returns the letters after the first n.
 fn behind<'a>(word: &'a [u8], n: usize) -> &'a [u8]
     ensures { result.now ≡ drop n word.entry.now }
 {
@@ -15,8 +15,8 @@ fn behind<'a>(word: &'a [u8], n: usize) -> &'a [u8]
     &[]
 }
 
-/// Returns true if the words begin with the same two letters in another order, and the others are
-/// equal.
+/// Returns true if both texts begin with the same two letters in exchanged order, and all other
+/// letters are equal.
 fn are_exchanged(word: &[u8], known: &[u8]) -> bool
     ensures { result ≡ are_exchanged word.now known.now }
 {
@@ -26,8 +26,8 @@ fn are_exchanged(word: &[u8], known: &[u8]) -> bool
     word[0] == known[1] && word[1] == known[0] && word[2..] == known[2..]
 }
 
-/// Returns true if the words are equal without a first letter of one or both, or with the first two
-/// letters exchanged.
+/// Returns true if the texts are equal without the first letter of either or both, or with the
+/// first two letters exchanged.
 fn differ_in_front(word: &[u8], known: &[u8]) -> bool
     ensures { result ≡ differ_in_front word.now known.now }
 {
@@ -37,7 +37,8 @@ fn differ_in_front(word: &[u8], known: &[u8]) -> bool
         || are_exchanged(word, known)
 }
 
-/// Returns true if two words differ by at most one letter behind their common front.
+/// Returns true if two texts differ, after their common prefix, by at most a single missing, added
+/// or different letter, or by two exchanged letters.
 #[tactic(auto, unfolding(crate::specs::Near::is_near))]
 pub fn is_near(word: &[u8], known: &[u8]) -> bool
     ensures { result ≡ is_near word.now known.now }
@@ -53,7 +54,7 @@ pub fn is_near(word: &[u8], known: &[u8]) -> bool
     differ_in_front(rest, other)
 }
 
-/// Returns copies of the names near a word, and then of the others.
+/// Returns copies of the names near the argument, followed by copies of the other names.
 pub fn near_first(alloc: Global, word: &[u8], names: &[Vec<u8>]) -> Result<Vec<Vec<u8>>, AllocError>
     ensures { IfOk result (λ sorted. map (λ name. name.items) sorted.items
         ≡ near_first word.now (map (λ name. name.items) names.now)) }

@@ -1,4 +1,4 @@
-//! The line on a content without a place, and the largest content that has one.
+//! The line on a content that does not fit into a region, and on the largest content that fits.
 
 ghost use Rattle.std.specs.Prelude.{◌≡◌, ◌++◌, OnOk};
 ghost use Rattle.std.specs.Fmt.{decimal};
@@ -26,7 +26,8 @@ fn push_number(out: &mut Vec<u8>, before: &str, n: u64, after: &str) -> Result<(
     out.extend_from_slice(after.as_bytes())
 }
 
-/// Appends the length of the largest content with a place, or that there is none.
+/// Appends the length of the largest content that fits, or a note that not even an empty content
+/// fits.
 fn push_largest(out: &mut Vec<u8>, largest: Option<u64>) -> Result<(), AllocError>
     ensures { OnOk result (out.new.items ≡ out.old.items ++ largest_text largest) }
 {
@@ -45,9 +46,9 @@ fn push_lengths(out: &mut Vec<u8>, len: u64, largest: Option<u64>) -> Result<(),
     Ok(())
 }
 
-/// Appends the line on a content of `len` bytes that an addition to the image refuses, and the
-/// largest content that it takes. Other commands, and an addition to an image whose region is not
-/// found or not sound, have no line. Errors: a failed read, or an allocation failure.
+/// Appends the line on a content of `len` bytes that an addition to the image refuses, with the
+/// largest content that the addition accepts. Other commands, and an addition to a region that is
+/// missing or not sound, have no line. Errors: a failed read, or an allocation failure.
 pub fn push_room<F: Flash>(
     out: &mut Vec<u8>,
     paged: &mut Paged<F>,

@@ -25,11 +25,11 @@ fn refuses<'a>(alloc: Global, words: &'a [&'a str], kind: ErrorKind) -> Result<b
     }
 }
 
-/// The number of arguments among which the wrong one is sought. A line with more than 16 has a
-/// wrong one among its first 17, since each option is accepted once.
+/// The number of arguments among which the wrong argument is sought. A line with more than 16
+/// arguments has a wrong argument among the first 17, since each option is accepted once.
 const SEARCHED: usize = 64;
 
-/// Returns the first arguments if clap refuses these with the kind, or else all.
+/// Returns the first arguments if clap refuses them with the error `kind`, or else all arguments.
 fn searched<'a>(
     alloc: Global,
     words: &'a [&'a str],
@@ -48,7 +48,7 @@ fn searched<'a>(
     Ok(words)
 }
 
-/// An argument, and the one before it.
+/// The preceding argument, if any, and an argument.
 type Place<'a> = (Option<&'a str>, &'a str);
 
 /// Returns the first argument from which on clap refuses with the kind.

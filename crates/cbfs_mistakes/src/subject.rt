@@ -36,10 +36,10 @@ fn reason_text(reason: Option<ErrorKind>) -> &'static str
     }
 }
 
-/// Appends the line that names what a refusal of the command is about: the image that cannot be
-/// opened, read or written, the file that cannot be read, the region that the flash map does not
-/// have, or the component that the region does not have, or has already. Other refusals have none.
-/// `reason` is the system's reason for an image or a file that is not opened.
+/// Appends the line that names the subject of a refusal: the image that cannot be opened, read or
+/// written, the file that cannot be read, the region missing from the flash map, or the component
+/// that is missing from the region or already exists. Other refusals have no line. `reason` is the
+/// system's reason for an image or a file that is not opened.
 pub fn push_subject(
     out: &mut Vec<u8>,
     line: &Line<'_>,

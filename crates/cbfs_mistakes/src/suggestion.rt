@@ -1,4 +1,4 @@
-//! The known word that is meant by a wrong one.
+//! The known command or option near a wrong argument.
 
 ghost use Rattle.std.specs.Prelude.{◌≡◌, ◌++◌, ◌==◌, OnOk, map};
 ghost use Rattle.std.specs.List.{before_first};
@@ -11,7 +11,7 @@ use crate::near::is_near;
 use crate::synopsis::near_command;
 use std::alloc::AllocError;
 
-/// A long name that other tools have, and the letter of the option here.
+/// A long option name of other tools, and the letter of cbfstool's option.
 type LongName = (&'static str, u8);
 
 const LONG_NAMES: [LongName; 12] = [
@@ -67,7 +67,7 @@ fn option_among(rows: &[LongName], letters: &[u8], name: &str) -> Option<u8>
     None
 }
 
-/// Returns the letter of the first option of the command with a long name near the word.
+/// Returns the letter of the first option of the command with a long name near the argument.
 #[tactic(auto, unfolding(crate::specs::Suggestions::near_option))]
 fn near_option(command: &str, word: &str) -> Option<u8>
     ensures { result ≡ near_option command.now word.now }
@@ -84,7 +84,7 @@ fn push_meant(out: &mut Vec<u8>, before: &[u8], word: &[u8]) -> Result<(), Alloc
     out.extend_from_slice(b"'?\n")
 }
 
-/// Appends the line that names the command or option of the command that is near a wrong word.
+/// Appends the line that suggests the command, or the option of the command, near a wrong argument.
 pub fn push_suggestion(
     out: &mut Vec<u8>,
     command: &str,

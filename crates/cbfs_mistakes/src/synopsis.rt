@@ -62,7 +62,7 @@ fn near_among(rows: &[Synopsis], word: &str) -> Option<&'static str>
     None
 }
 
-/// Returns the first command that is near a word.
+/// Returns the first command near the argument.
 #[tactic(auto, unfolding(crate::specs::Suggestions::near_command))]
 pub fn near_command(word: &str) -> Option<&'static str>
     ensures { option_copied result ≡ near_command word.now }

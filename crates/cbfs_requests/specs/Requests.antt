@@ -69,7 +69,7 @@ abbrev pub fault_or : {T E A : Type 0} → (E → A) → Result T E → (T → A
 fault_or refuse (Err fault) next = refuse fault
 fault_or refuse (Ok value) next = next value
 
--- the number of failed calls
+-- the number of failed device calls that an error reports
 abbrev pub by_device : Refusal → ℕ
 by_device refusals.Device = 1
 by_device _ = 0
@@ -78,6 +78,6 @@ abbrev pub by_source : Refusal → ℕ
 by_source refusals.Source = 1
 by_source _ = 0
 
--- of the device, the output or the source
+-- an error that reports a fault of the device, the output or the source
 abbrev pub IsFault : {T : Type 0} → Result T Refusal → Type 0
 IsFault answer = IsErrOf answer Device ⊎ IsErrOf answer Output ⊎ IsErrOf answer Source

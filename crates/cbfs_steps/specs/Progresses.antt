@@ -1,4 +1,4 @@
--- What follows the refusal of a step, refusals of files, and the exit status.
+-- The steps after a refused step, the refusals of files, and the exit status.
 use Rattle.std.specs.Prelude.{ℕ, Bool, true, false, List, [], ◌∷◌, Result, Ok, Err, if◌then◌else◌}
 use Rattle.std.specs.declared.io.ErrorKind.{ErrorKind}
 use Rattle.std.specs.declared.io.ErrorKind.TheVariants.{OutOfMemory}

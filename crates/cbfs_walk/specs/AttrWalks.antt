@@ -1,4 +1,4 @@
--- Attribute lists.
+-- Lists of attributes, and the state of a walk over the attributes of a component.
 use Rattle.std.specs.Prelude.{ℕ, ◌+◌, ◌≤◌, ◌≡◌, false, List, slice_get, drop, length, slice_range, Option, Some, None, Result, Ok, Err, ⊤, if◌then◌else◌}
 use Rattle.std.specs.Option.{option_map}
 use Rattle.flash_format.specs.declared.attribute.AttrHead.{AttrHead}
@@ -30,12 +30,13 @@ attributes_left x w = attributes (slice_range x (w.cell.at + w.at) (content_star
 abbrev pub head_of_attribute : Attribute → AttrHead
 head_of_attribute a = record { tag = a.tag; len = 8 + length a.contents }
 
--- if these well-formed attributes are left, the head of the first is found, and the others are left
+-- if well-formed attributes remain, the walk finds the head of the first attribute, and the other
+-- attributes remain
 abbrev pub GivesNext : Option (List Attribute) → Option (List Attribute) → Option AttrHead → Type 0
 GivesNext left left_now found = (all : List Attribute) → left ≡ Some all
     → (found ≡ option_map head_of_attribute (slice_get all 0)) × (left_now ≡ Some (drop 1 all))
 
--- what a list begins with
+-- the first item of a list: an attribute, the end of the list, or a malformed attribute
 abbrev pub next_attribute : List ℕ → AttributeItem
 next_attribute x = let h = attr_head_of x in if ends_list x then listed.End
     else (if has_bad_len h (length x) then listed.Malformed else listed.Attribute h)
@@ -46,11 +47,11 @@ IsListedAttribute at end _ = ⊤
 
 -- ---- the first attribute with a tag
 
--- a component's attributes in the region, up to the first malformed one
+-- the attributes of a component in the region, up to the first malformed attribute
 abbrev pub attributes_in : List ℕ → Cell → List Attribute
 attributes_in x c = (scan_of (slice_range x (attributes_start c) (content_start c))).found
 
--- the end of a search: the attribute, or the content
+-- the position after a search: the offset of the found attribute, or of the content
 abbrev pub searched_to : Cell → Result (Option (ℕ × AttrHead)) FlashFault → ℕ
 searched_to c (Ok (Some found)) = found.0
 searched_to c _ = content_start c

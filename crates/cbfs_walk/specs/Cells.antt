@@ -29,7 +29,7 @@ pub record IsCellOn (Is : ℕ → Cell → Type 0) (r : Range) (c : Cell) (devic
   pub region : LiesOn r device
   pub cell : Is r.size c
 
--- relative to the region's start
+-- the offset of the attributes, relative to the beginning of the region
 abbrev pub attributes_start : Cell → ℕ
 attributes_start c = c.at + name_end c.head
 

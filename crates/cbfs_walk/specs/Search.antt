@@ -1,4 +1,4 @@
--- The search by name.
+-- The search for a component by name.
 use Rattle.std.specs.Prelude.{◌≡◌, ℕ, true, false, All, List, ◌∷◌, ◌++◌, Option, Some, None, Result, Ok, Err}
 use Rattle.std.specs.List.{find}
 use Rattle.std.specs.Option.{option_map_or}

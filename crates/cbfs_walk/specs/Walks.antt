@@ -31,10 +31,11 @@ ArePaid old new from reach = (place : ℕ) × (len : ℕ) × IsLoad old from pla
     × (3840 * new.device.calls + place ≤ 3840 * old.device.calls + reach)
 
 -- Ordered reads between two positions of a region, with the number of faults. A load fills the
--- buffer with 4096 bytes, and a read has at most 256 bytes. So the next read that needs a load
--- begins at least 3840 bytes after the previous load. `paid` is about each load that can follow
--- these reads: the distance to it covers all calls of these reads. `spent` is about their end: the
--- distance to it covers all these calls except the last one, or there was no call.
+-- buffer with 4096 bytes, and a read has at most 256 bytes. Therefore the next read that needs a
+-- load begins at least 3840 bytes after the previous load. `paid` describes each load that can
+-- follow the ordered reads: the distance to the load covers all calls of the reads. `spent`
+-- describes the end of the reads: the distance to the end covers all calls except the last call,
+-- or no read needed a call.
 --
 -- For example, the buffer is empty, and the region begins at 0. A read of 100 bytes at 0 loads the
 -- bytes 0 to 4096. A read of 200 bytes at 4000 then loads 4000 to 8096. These are 2 calls, and the
@@ -50,8 +51,8 @@ pub record Passes {F : Type 0} (region : Range) (at end refused : ℕ) (old new 
   pub spent : (new.device.calls ≤ old.device.calls)
       ⊎ ArePaid old new (region.start + at) (region.start + end + 3840)
 
--- such reads by a call that fails if a read fails; on an honest device, a success's value is what
--- `Is` says of the region's bytes
+-- ordered reads by a function that fails if a read fails; on an honest device, the value of a
+-- success satisfies `Is` for the bytes of the region
 pub record ReadsIn {F T E : Type 0} (region : Range) (at end : ℕ) (old new : Pages F)
     (result : Result T E) (Is : List ℕ → T → Type 0) : Type 0 where
   pub passed : Passes region at end (refusals result) old new

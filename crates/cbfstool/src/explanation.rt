@@ -1,4 +1,4 @@
-//! Lines on standard error that explain a refusal.
+//! Explanations of refusals, on standard error.
 use cbfs_commands::Refusal;
 use cbfs_line::{Line, read_line};
 use cbfs_mistakes::{
@@ -11,7 +11,8 @@ use std::alloc::AllocError;
 use std::env;
 use std::io::{ErrorKind, IsTerminal, Write};
 
-/// Returns true on a terminal, or if the environment asks for explanations.
+/// Returns true on a terminal, or if the environment variable CBFSTOOL_EXPLAIN requests
+/// explanations.
 fn is_wanted(rt: &HostRuntime) -> bool {
     let variable = env::var(rt, "CBFSTOOL_EXPLAIN").ok();
     is_explained(rt.stderr().is_terminal(), variable.as_deref())
@@ -48,8 +49,8 @@ fn open_map(rt: &HostRuntime, line: &Line<'_>) -> Result<Paged<FileFlash>, ListF
     }
 }
 
-/// Appends the line on the length of FILE, and the largest content that the addition takes. Without
-/// a FILE that can be read again, it appends nothing.
+/// Appends the line on the length of FILE, and on the largest content that the addition accepts. If
+/// FILE can't be opened again, nothing is appended.
 fn push_lengths(rt: &HostRuntime, text: &mut Vec<u8>, line: &Line<'_>) -> Result<(), ListFault> {
     let Ok(command) = line.command() else {
         return Ok(());
@@ -60,8 +61,8 @@ fn push_lengths(rt: &HostRuntime, text: &mut Vec<u8>, line: &Line<'_>) -> Result
     }
 }
 
-/// Appends the line that says what could have been meant: the areas of the flash map, the
-/// components of the region, or the largest content.
+/// Appends the line with the possible choices: the areas of the flash map, the components of the
+/// region, or the largest content.
 fn push_choice(
     rt: &HostRuntime,
     text: &mut Vec<u8>,
@@ -80,7 +81,7 @@ fn push_choice(
     }
 }
 
-/// Prints the line that says what could have been meant. After a fault, it prints none.
+/// Prints the line with the possible choices, or nothing after a fault.
 fn print_choice(rt: &HostRuntime, line: &Line<'_>, refusal: Refusal) -> Result<(), ListFault> {
     let mut text = Vec::new(rt.alloc());
     push_choice(rt, &mut text, line, refusal)?;
@@ -104,9 +105,9 @@ fn print_subject(
     Ok(())
 }
 
-/// Prints the lines that explain a refusal of these arguments, if they are wanted. `reason` is the
-/// system's reason for a file that is not opened. Failures of memory and output, and faults of the
-/// image that is read again, are ignored: the refusal is printed already.
+/// Prints the explanation of a refusal of the arguments, if explanations are requested. `reason` is
+/// the system's reason for a file that is not opened. Failures of memory and output, and faults of
+/// the image during the second reading, are ignored: the refusal is printed already.
 pub fn explain(rt: &HostRuntime, words: &[&str], refusal: Refusal, reason: Option<ErrorKind>) {
     if !is_wanted(rt) {
         return;
@@ -117,7 +118,7 @@ pub fn explain(rt: &HostRuntime, words: &[&str], refusal: Refusal, reason: Optio
     };
 }
 
-/// Prints the lines that explain arguments that are not UTF-8, if they are wanted.
+/// Prints the explanation of arguments with invalid UTF-8, if explanations are requested.
 pub fn explain_unread(rt: &HostRuntime) {
     if is_wanted(rt) {
         let _told = print_explanation(rt, &[], Mistake::NotText);

@@ -53,7 +53,7 @@ fn print_notes(rt: &HostRuntime, image: &str, notes: Notes) {
 }
 
 /// Takes the steps of a command, and stores the system's reason for a file that is not opened in
-/// `reason`. The notes are printed after its lock is released.
+/// `reason`. The notes are printed after the image's lock is released.
 fn execute(rt: &HostRuntime, line: &Line, reason: &mut Option<ErrorKind>) -> Result<(), Refusal> {
     let mut image = None;
     let mut session = Session::new(rt, line, &mut image)?;
@@ -75,7 +75,7 @@ fn obey(rt: &HostRuntime, words: &[&str], reason: &mut Option<ErrorKind>) -> Res
     execute(rt, &line, reason)
 }
 
-/// Executes the arguments, and prints a refusal with the lines that explain it.
+/// Executes the arguments, and prints a refusal with the lines of its explanation.
 fn answer_to(rt: &HostRuntime, words: &[&str]) -> Result<(), Refusal> {
     let mut reason = None;
     let answer = obey(rt, words, &mut reason);
@@ -106,7 +106,7 @@ fn refuse(rt: &HostRuntime, refusal: Refusal) -> Result<(), Refusal> {
     Err(refusal)
 }
 
-/// Refuses arguments that can't be read.
+/// Refuses unreadable arguments.
 fn refuse_words(rt: &HostRuntime, refusal: Refusal) -> Result<(), Refusal> {
     print_refusal(rt, refusal);
     if refusal == Refusal::Usage {

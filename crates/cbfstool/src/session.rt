@@ -29,18 +29,18 @@ pub struct Notes {
 
 /// A command, and the files that its steps have opened.
 ///
-/// The image with its buffers has 20 KiB. It stays in a place of the caller, because a session with
-/// it would be moved several times.
+/// The image with its buffers has 20 KiB. The caller owns the memory of the image, because a
+/// session that contains the image would be moved several times.
 #[derive(Drop)]
 pub struct Session<'r, 'w, 'i> {
     rt: &'r HostRuntime,
     /// The path of IMAGE.
     path: &'w str,
-    /// The path of FILE, if the command has one.
+    /// The path of FILE, or an empty path for a command without FILE.
     file: &'w str,
     command: Command<'w>,
     image: &'i mut Option<Paged<FileFlash>>,
-    /// The flash map that a changed image had before, and the region by this map.
+    /// The flash map of a changed image before the change, and the region by the flash map.
     used: Option<Used>,
     input: Option<FileSource>,
     output: Receiver<'r>,
@@ -49,8 +49,8 @@ pub struct Session<'r, 'w, 'i> {
 }
 
 impl<'r, 'w, 'i> Session<'r, 'w, 'i> {
-    /// Returns a session without open files, or the refusal of the command's arguments. It puts the
-    /// image into `image`.
+    /// Returns a session without open files, or the refusal of the command's arguments. The session
+    /// stores the opened image in `image`.
     pub fn new(
         rt: &'r HostRuntime,
         line: &Line<'w>,

@@ -1,8 +1,8 @@
 -- The attributes of a component as coreboot's firmware walks them, and their first fault. Three
--- readers end the list at different places. At an attribute with an unused tag, the commands of
--- this project end it. The firmware goes on behind it. Coreboot's tools go on behind it only if it
--- is the first attribute. So a used attribute behind an unused one is a fault. The firmware does
--- not use an attribute of another length than it expects.
+-- readers end the list at different places. The commands of this project end the list at an
+-- attribute with an unused tag. The firmware continues after an unused attribute. Coreboot's tools
+-- continue only if the unused attribute is the first of the list. Therefore a used attribute after
+-- an unused attribute is a fault. The firmware ignores an attribute of an unexpected length.
 use Rattle.std.specs.Prelude.{◌≡◌, IsSomeAnd, ℕ, zero, suc, pred, ◌+◌, ◌%◌, ◌<◌, Bool, true, false, not, ◌&&◌, ◌==◌, nat_le, nat_lt, if◌then◌else◌}
 use Rattle.std.specs.Prelude.{List, [], ◌∷◌, ◌++◌, length, slice_range, Option, Some, None}
 use Rattle.std.specs.Bool.{then_some}
@@ -24,15 +24,15 @@ abbrev pub begins_attribute : List ℕ → Bool
 begins_attribute x = let h = attr_head_of x in
     nat_le 8 (length x) && (nat_le 8 h.len && nat_le h.len (length x))
 
--- The attributes of the bytes after the first `skip` ones. The walk takes one byte of an attribute,
--- and then skips the `len - 1` others. It ends where no attribute begins.
+-- The attributes of the bytes after the first `skip` bytes. The walk takes the first byte of an
+-- attribute, and skips the other `len - 1` bytes. The walk ends at bytes that begin no attribute.
 unfoldable pub walk_after : ℕ → List ℕ → List Attribute
 walk_after skip [] = []
 walk_after (suc skip) (b ∷ rest) = walk_after skip rest
 walk_after zero (b ∷ rest) = let x = b ∷ rest in
     if begins_attribute x then attribute x ∷ walk_after (pred (attr_head_of x).len) rest else []
 
--- all attributes of a list, also behind an unused tag
+-- all attributes of a list, also after an unused tag
 abbrev pub walked : List ℕ → List Attribute
 walked x = walk_after 0 x
 
@@ -40,7 +40,7 @@ walked x = walk_after 0 x
 abbrev pub first_head : List ℕ → Option AttrHead
 first_head x = then_some (begins_attribute x) (attr_head_of x)
 
--- the attribute at an offset of the bytes x, where it has this head
+-- the attribute at the offset `at` of the bytes x, with the head `h`
 abbrev pub attribute_at : List ℕ → ℕ → AttrHead → Attribute
 attribute_at x at h = record { tag = h.tag; contents = slice_range x (at + 8) (at + h.len) }
 
@@ -58,7 +58,7 @@ STAGE = 0x53746748
 abbrev pub is_used : Attribute → Bool
 is_used a = not (is_unused a.tag)
 
--- what the attributes before another one contain
+-- the kinds of attributes that precede another attribute
 abbrev pub earlier_in : List Attribute → EarlierAttributes
 earlier_in before = record {
   has_unused = list_any (λ (a : Attribute). is_unused a.tag) before;
@@ -75,13 +75,13 @@ compression_fault len = if len == 8 then None else Some CompressionLength
 abbrev pub algorithm_of : ℕ → Option Algorithm
 algorithm_of number = algorithm_numbered (number % 256)
 
--- The fault of a digest of this algorithm with contents of `len` bytes: first a wrong length, then
--- an earlier digest, which is the only one that coreboot reads.
+-- The fault of a digest of the algorithm `a` with contents of `len` bytes: a wrong length, or else
+-- an earlier digest, since coreboot reads only the first digest.
 abbrev pub digest_fault : Bool → ℕ → Algorithm → Option AttributeFault
 digest_fault has_digest len a = if len == 4 + digest_len a
     then then_some has_digest SecondDigest else Some DigestLength
 
--- the fault of a digest whose algorithm has this number
+-- the fault of a digest by the number of the algorithm
 abbrev pub numbered_fault : Bool → ℕ → ℕ → Option AttributeFault
 numbered_fault has_digest len number =
     option_map_or (digest_fault has_digest len) (algorithm_of number) (Some UnknownAlgorithm)
@@ -95,17 +95,17 @@ hash_fault has_digest contents = if nat_lt (length contents) 4 then Some DigestL
 abbrev pub entry_fault : ℕ → ℕ → Option AttributeFault
 entry_fault entry memory = then_some (nat_le memory entry) EntryOutside
 
--- the fault of the attribute of a stage; one of another length is none for the firmware
+-- the fault of the attribute of a stage; the firmware ignores an attribute of another length
 abbrev pub stage_fault : List ℕ → Option AttributeFault
 stage_fault contents = if length contents == 16
     then entry_fault (be32 8 contents) (be32 12 contents) else Some NoStage
 
--- A stage none of whose earlier attributes is a stage attribute. The firmware reads the first one
--- only, so later ones have no fault.
+-- A stage without an earlier stage attribute. The firmware reads only the first stage attribute,
+-- and later stage attributes have no fault.
 abbrev pub needs_stage : ℕ → EarlierAttributes → Bool
 needs_stage kind earlier = kind == stage_type && not earlier.has_stage
 
--- the fault of an attribute in a component of this type, behind the earlier ones
+-- the fault of an attribute in a component of type `kind`, after the earlier attributes
 abbrev pub fault_of : ℕ → EarlierAttributes → Attribute → Option AttributeFault
 fault_of kind earlier a = if earlier.has_unused && is_used a then Some BehindEnd
     else (if a.tag == COMPRESSION then compression_fault (length a.contents)
@@ -114,11 +114,11 @@ fault_of kind earlier a = if earlier.has_unused && is_used a then Some BehindEnd
 
 -- ---- the first fault
 
--- the fault of a component whose list ends behind these attributes
+-- the fault of a component with a list that ends after the earlier attributes
 abbrev pub missing_fault : ℕ → EarlierAttributes → Option AttributeFault
 missing_fault kind earlier = then_some (needs_stage kind earlier) NoStage
 
--- the first fault of the attributes that follow those of `before`, else that of a missing one
+-- the first fault of the attributes after `before`, or else the fault of a missing attribute
 unfoldable pub fault_after : ℕ → List Attribute → List Attribute → Option AttributeFault
 fault_after kind before [] = missing_fault kind (earlier_in before)
 fault_after kind before (a ∷ others) = option_or (fault_of kind (earlier_in before) a)
@@ -134,7 +134,7 @@ cell_fault x = fault_after (head_of x).kind [] (cell_walked x)
 
 -- ---- attributes without a fault
 
--- an attribute of a component of this type, behind the attributes `before` of the same component
+-- an attribute of a component of type `kind`, after the attributes `before` of the same component
 pub record IsSoundAttribute (kind : ℕ) (before : List Attribute) (a : Attribute) : Type 0 where
   pub listed : is_unused a.tag ≡ false → (earlier_in before).has_unused ≡ false
   pub compression : a.tag ≡ COMPRESSION → length a.contents ≡ 8
@@ -145,7 +145,7 @@ pub record IsSoundAttribute (kind : ℕ) (before : List Attribute) (a : Attribut
   pub stage : kind ≡ stage_type → a.tag ≡ STAGE → (earlier_in before).has_stage ≡ false
       → (length a.contents ≡ 16) × (be32 8 a.contents < be32 12 a.contents)
 
--- all attributes of a component of this type
+-- all attributes of a component of type `kind`
 pub record AreSoundAttributes (kind : ℕ) (all : List Attribute) : Type 0 where
   pub each : (before after : List Attribute) (a : Attribute) → all ≡ before ++ a ∷ after
       → IsSoundAttribute kind before a

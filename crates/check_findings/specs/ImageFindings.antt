@@ -42,13 +42,13 @@ names_in names = map (λ n. n.now) names
 abbrev pub has_one_of : List (List ℕ) → NumberedArea → Bool
 has_one_of names a = list_any (λ name. is_area name a.area) names
 
--- a smaller area with room for a header has the same offset, and so the same entry
+-- a smaller area with room for a header has the same offset, and therefore the same entry
 abbrev pub has_smaller : List NumberedArea → NumberedArea → Bool
 has_smaller areas a = list_any (λ (other : NumberedArea). other.area.offset == a.area.offset
     && (nat_le 24 other.area.size && nat_lt other.area.size a.area.size)) areas
 
--- the area lies inside the image, and is expected, or begins with an entry and isn't above a
--- smaller one
+-- the area lies inside the image, and is expected, or begins with an entry and has no smaller area
+-- at the same offset
 abbrev pub is_wanted : List ℕ → (NumberedArea → Bool) → (NumberedArea → Bool) → NumberedArea → Bool
 is_wanted image expects has_smaller a = nat_le (area_end a.area) (length image)
     && (expects a || (not (has_smaller a) && is_some (front (bytes_of image a))))
@@ -60,9 +60,9 @@ wanted_areas image expects areas = filter (is_wanted image expects (has_smaller 
 abbrev pub cbfs_areas : List ℕ → List NumberedArea → List NumberedArea
 cbfs_areas image areas = wanted_areas image (has_one_of []) areas
 
--- A firmware with CBFS verification loads components from these areas: COREBOOT and the two slots
--- of vboot. It checks the digest of each component that it loads, also if no anchor has a digest of
--- the area's metadata.
+-- A firmware with CBFS verification loads components from COREBOOT and from the two slots of vboot.
+-- The firmware checks the digest of each loaded component, also if no anchor has a digest of the
+-- area's metadata.
 abbrev pub is_loaded_from : NumberedArea → Bool
 is_loaded_from a = has_name (codes "COREBOOT") a
     || (has_name (codes "FW_MAIN_A") a || has_name (codes "FW_MAIN_B") a)
@@ -96,11 +96,11 @@ areas_findings image anchor expects left areas =
 abbrev pub missing_name : List NumberedArea → ℕ × List ℕ → List ImageFinding
 missing_name areas name = only_if (is_none (find (has_name name.1) areas)) (NoArea name.0)
 
--- an area with one of these names, or the default region, is expected
+-- an area with a name in `names` or `expected`, or the default region, is expected
 abbrev pub expects : List (List ℕ) → List (List ℕ) → NumberedArea → Bool
 expects names expected = has_one_of (names ++ codes "COREBOOT" ∷ expected)
 
--- the areas that a check with these names and expected names is to check
+-- the areas to check, by the names and the expected names of a check
 abbrev pub areas_to_check : List ℕ → List (List ℕ) → List (List ℕ) → List NumberedArea
 areas_to_check image names expected =
     wanted_areas image (expects names expected) (image_areas image)

@@ -35,7 +35,7 @@ use Rattle.cbfs_anchor.specs.Seals.{Survey, stored_map, stored_metadata}
 
 -- ---- flash maps without findings
 
--- The areas of the map; an area ends before a later one begins, or contains it.
+-- The areas of the map; an area ends before a later area begins, or contains the later area.
 pub record IsSound (image : List ℕ) (map : FoundMap) (areas : List NumberedArea) : Type 0 where
   pub found : found_in image ≡ Some map
   pub size : map.head.size ≡ length image
@@ -73,7 +73,7 @@ pub record IsWhole (anchor : Option Anchor) (x : List ℕ) : Type 0 where
   pub blank : (cut x).end ≡ tail → IsBlankTail (place_after 0 (cut x).cells) x
   pub found : (c : Component) → Contains (components x) c → component_in x c.name ≡ Ok (Some c)
 
--- its name finds the area, and the bytes that entries can fill are a whole region
+-- a search for the area's name finds the area, and the bytes for entries are a whole region
 abbrev pub IsFit : List ℕ → NumberedArea → Type 0
 IsFit x a = (region_of x (text_of a.area.name) ≡ Ok (range_of a))
     × IsWhole (covering (image_anchor x) a) (entry_bytes x a)
@@ -86,7 +86,7 @@ InFitImages P = (needs : Bool) (image : List ℕ) (names expected : List (List �
 
 -- ---- anchors
 
--- a finding of the anchor reports another digest of the metadata than the stated one
+-- a finding of the anchor reports that the stored digest isn't the digest of the metadata
 abbrev pub is_other_metadata : AnchorFinding → Bool
 is_other_metadata (Metadata spot algorithm valid) = not valid
 is_other_metadata _ = false
@@ -96,7 +96,7 @@ abbrev pub is_other_map : AnchorFinding → Bool
 is_other_map (FlashMap spot algorithm valid) = not valid
 is_other_map _ = false
 
--- the anchor has the digests that it should have
+-- the anchor has the digests of the image's metadata and flash map
 pub record HasDigests (image : List ℕ) (s : Survey) : Type 0 where
   pub metadata : stored_metadata s.anchor image ≡ s.metadata
   pub map : stored_map s.anchor image ≡ s.map

@@ -46,12 +46,12 @@ ends_inside a b =
 abbrev pub overlap : NumberedArea → NumberedArea → Bool
 overlap a b = ends_inside a.area b.area || ends_inside b.area a.area
 
--- of each area that overlaps an area
+-- the findings of each area with an overlap
 abbrev pub overlap_findings : List NumberedArea → List MapFinding
 overlap_findings areas = if nat_lt 4096 (length areas) then TooManyAreas ∷ []
     else flat_map (λ a. option_to_list (option_map (Overlap a) (find (overlap a) areas))) areas
 
--- the area begins with the map: coreboot's tools look for it there
+-- the area begins with the map; coreboot's tools look for the map at the offset of the area FMAP
 abbrev pub begins_with_map : FoundMap → NumberedArea → Bool
 begins_with_map m a = a.area.offset == m.at && nat_le (m.at + map_len m.head) (area_end a.area)
 

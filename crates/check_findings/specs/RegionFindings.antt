@@ -72,11 +72,11 @@ first_filled at x = position_from is_filled at (slice_range x at (length x - 4))
 abbrev pub has_entry_at : ℕ → List ℕ → Bool
 has_entry_at at x = is_some (front (drop at x))
 
--- the offsets from `at` on in steps of 64, each with 64 bytes of the region from it on
+-- the offsets from `at` on in steps of 64, each at least 64 bytes before the end of the region
 abbrev pub offsets_from : ℕ → List ℕ → List ℕ
 offsets_from at x = map (λ i. at + 64 * i) (range_with_len 0 ((length x - at) / 64))
 
--- the entries from `at` on, where the walk ends, so that no walk returns them
+-- the entries from `at` on: the walk ends at `at`, and returns none of them
 abbrev pub later_entries : ℕ → List ℕ → List RegionFinding
 later_entries at x =
     map findings.TailEntry (filter (λ place. has_entry_at place x) (offsets_from at x))
@@ -113,11 +113,11 @@ last_room counts = counts.at - counts.start - (if counts.at == counts.size then 
 abbrev pub usable_room : EntryCounts → ℕ
 usable_room counts = max counts.room (last_room counts)
 
--- after an empty entry of this length
+-- the counts after an empty entry of `len` bytes
 abbrev pub counts_after_free : EntryCounts → ℕ → EntryCounts
 counts_after_free counts len = record counts { at = counts.at + len; free = counts.free + len }
 
--- after a component of this length, which ends the empty run before it
+-- the counts after a component of `len` bytes, which ends the preceding empty run
 abbrev pub counts_after_component : EntryCounts → ℕ → EntryCounts
 counts_after_component counts len = record counts {
   at = counts.at + len;
@@ -126,17 +126,17 @@ counts_after_component counts len = record counts {
   start = counts.at + len;
 }
 
--- after an entry of this length
+-- the counts after an entry of `len` bytes
 abbrev pub counts_after : EntryCounts → Bool → ℕ → EntryCounts
 counts_after counts free len =
     if free then counts_after_free counts len else counts_after_component counts len
 
--- before the first entry of a region of this size
+-- the counts before the first entry of a region of `size` bytes
 abbrev pub no_entries : ℕ → EntryCounts
 no_entries size =
     record { size = size; at = 0; components = 0; free = 0; start = 0; room = 0 }
 
--- after these entries of a region of this size
+-- the counts after the entries `cells` of a region of `size` bytes
 abbrev pub entry_counts : ℕ → List (List ℕ) → EntryCounts
 entry_counts size = fold
     (λ counts entry. counts_after counts (is_free (head_of entry)) (length entry))
@@ -188,8 +188,8 @@ entry_range r = record { start = r.start; size = r.size - r.size % 64 }
 abbrev pub is_unaligned : Range → Bool
 is_unaligned r = nat_lt 64 r.size && not (r.size % 64 == 0)
 
--- The findings of a checked range: those of its entries, and a last one if the range is unaligned.
--- The bytes after the last multiple of 64 have no entry.
+-- The findings of a checked range: the findings of the entries, followed by another finding if the
+-- range is unaligned. The bytes after the last multiple of 64 have no entry.
 abbrev pub range_findings : List ℕ → Range → List RegionFinding
 range_findings image r = region_findings (bytes_in (entry_range r) image)
     ++ only_if (is_unaligned r) findings.UnalignedSize

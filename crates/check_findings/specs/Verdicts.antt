@@ -1,5 +1,5 @@
 -- The verdict on a finding: bad, or a remark. A bad finding breaks a command or the boot, or
--- reports a check that was asked for and not made.
+-- reports that a requested check could not be performed.
 use Rattle.std.specs.Prelude.{ℕ, ◌-◌, Bool, true, false, not, ◌&&◌, ◌||◌, ◌==◌, List, Option, is_some, nat_le, nat_lt}
 use Rattle.std.specs.List.{list_any}
 use Rattle.std.specs.Option.{option_map_or}
@@ -79,14 +79,14 @@ abbrev pub firmware_refuses : HashRules → Content → Bool
 firmware_refuses rules c = is_some rules.anchor
     && (is_firmware c.kind && not (has_digest_of_some_algorithm c.stored))
 
--- The user requires a digest of the component. A bootblock is left out even then: if it contains
--- an anchor, its digest would depend on the anchor, and the anchor on the digest. A cbfs header is
--- left out too, because the firmware compares no digest of it.
+-- The user requires a digest of the component. A bootblock is exempt nevertheless: if a bootblock
+-- contains an anchor, the bootblock's digest would depend on the anchor, and the anchor on the
+-- digest. A cbfs header is exempt too, because the firmware compares no digest of the header.
 abbrev pub is_required : HashRules → Content → Bool
 is_required rules c = rules.needs_all && not (is_exempt c.kind)
 
--- The component has to have a digest, by the user's request or for the firmware. This is no
--- verdict: it decides whether the report names a missing digest at all, as a remark or as bad.
+-- The component has to have a digest, by the user's request or for the firmware. The predicate is
+-- no verdict. It decides whether the report names a missing digest at all, as a remark or as bad.
 abbrev pub needs_hash : HashRules → Content → Bool
 needs_hash rules c = (rules.needs_all || is_some rules.anchor) && not (is_exempt c.kind)
 
@@ -95,13 +95,13 @@ abbrev pub has_hash_not_of_anchor : HashRules → Content → Bool
 has_hash_not_of_anchor rules c = option_map_or (λ (a : Anchor). is_some c.stored
     && not (has_hash_of a.algorithm c.stored)) rules.anchor false
 
--- ifittool changes the content of this component after coreboot's tool has stored its digest
+-- ifittool changes the content of `intel_fit` after coreboot's tool has stored the digest
 abbrev pub changes_later : Option Anchor → List ℕ → Bool
 changes_later anchor name = is_some anchor && bytes_eq name (codes "intel_fit")
 
--- The state of a component's digest is bad if the digest doesn't match the content, or if it is
--- missing or of an unsupported algorithm, and the user requires it or the firmware refuses the
--- component.
+-- The state of a component's digest is bad if the digest doesn't match the content, except for a
+-- content that changes later. A missing digest, or a digest of an unsupported algorithm, is bad if
+-- the user requires a digest or the firmware refuses the component.
 abbrev pub is_bad_hash_state : HashRules → List ℕ → Content → HashFinding → Bool
 is_bad_hash_state rules name c (hashes.Invalid algorithm) = not (changes_later rules.anchor name)
 is_bad_hash_state rules name c (hashes.Valid algorithm) = false
@@ -113,10 +113,10 @@ abbrev pub is_bad_hash : HashRules → List ℕ → Content → Bool
 is_bad_hash rules name c = is_bad_hash_state rules name c c.hash
 
 -- A finding of a region is bad if commands refuse the region, if an entry is damaged, if a
--- component can't be found, has a bad digest or has attributes with a fault, or if the tail, which
--- has to be unused, has filled bytes or entries: no command lists these. A size that is no multiple
--- of 64 is a remark, because coreboot's tools and firmware read such an area, and so is that the
--- entries end with the region or with a tail. Deleted components and the counts are remarks too.
+-- component can't be found, has a bad digest or has attributes with a fault, or if the tail has
+-- filled bytes or entries. The tail has to be unused, because no command lists its entries.
+-- Remarks are: a size other than a multiple of 64, which coreboot's tools and firmware can read;
+-- entries up to the end of the region or up to a tail; deleted components; and the counts.
 abbrev pub is_bad_region : HashRules → RegionFinding → Bool
 is_bad_region rules of_region.BadSize = true
 is_bad_region rules of_region.NotCbfs = true
@@ -139,9 +139,9 @@ is_bad_region rules of_region.UnalignedSize = false
 abbrev pub rules_of : Bool → Option Anchor → HashRules
 rules_of needs_all anchor = record { needs_all = needs_all; anchor = anchor }
 
--- A finding of an image is bad if it is a bad finding of the map or the anchor, if a checked area
--- has a bad finding, or if an expected area was left out or doesn't exist. `needs_all` says whether
--- the user requires digests.
+-- A finding of an image is bad if the finding is a bad finding of the map or the anchor, if a
+-- checked area has a bad finding, or if an expected area was not checked or doesn't exist.
+-- `needs_all` says whether the user requires digests.
 abbrev pub is_bad : Bool → ImageFinding → Bool
 is_bad needs_all (Map finding) = is_bad_map finding
 is_bad needs_all (OfAnchor finding) = is_bad_anchor finding

@@ -26,8 +26,8 @@ pub fn fit_regions_are_listed()
     fit_regions_are_whole();
 }
 
-/// In an image without bad findings, `print` does so for each checked area, by name, if the area's
-/// size is a multiple of 64 bytes. It refuses an area of another size.
+/// In an image without bad findings, `print` lists all entries of each checked area, by name, if
+/// the area's size is a multiple of 64 bytes. `print` refuses an area of another size.
 pub fn fit_images_are_listed()
     ensures { InFitImages (λ image a. (verbose : Bool) → a.area.size % 64 ≡ 0 →
         printed_in image (text_of a.area.name) (λ x. print_region x verbose)

@@ -8,8 +8,8 @@ ghost use Rattle.check_findings.specs.declared.image.needs.NeedFinding.TheVarian
 ghost use Rattle.check_findings.specs.declared.region.finding.Content.{Content};
 ghost use Rattle.check_laws.specs.Samples.{found_content};
 
-/// A content is at the end of its area exactly if it ends there, and at an offset exactly if it
-/// starts there.
+/// A content is at the end of its area exactly if the content ends with the area, and at an offset
+/// exactly if the content starts at the offset.
 pub fn needs_are_met_by_position()
     ensures end { (content : Content) (size : ℕ)
         → (is_met End content size ≡ true) ↔ (content.start + content.len ≡ size) }

@@ -46,7 +46,7 @@ pub fn a_region_has_one_component()
     counts_are_of_the_entries();
 }
 
-/// `blank_tails_are_known` at a tail of 64 erased bytes, and at one with another byte.
+/// `blank_tails_are_known` at a tail of 64 erased bytes, and at a tail with another byte.
 pub fn an_erased_tail_is_blank()
     ensures blank { IsBlankTail 64 (replicate 128 0xff) }
     ensures filled { ¬ IsBlankTail 64 (replicate 100 0xff ++ 0x55 ∷ replicate 27 0xff) }
@@ -54,8 +54,8 @@ pub fn an_erased_tail_is_blank()
     blank_tails_are_known();
 }
 
-/// `clean_maps_are_sound` at an image of 320 bytes: the map states this size, and the area FMAP
-/// begins with it.
+/// `clean_maps_are_sound` at an image of 320 bytes: the map states the image's size, and the area
+/// FMAP begins with the map.
 pub fn a_clean_map_is_sound()
     ensures size { length small_image ≡ 320 }
     ensures held { IsSomeAnd (find (has_name (codes "FMAP")) (map_areas small_image small_found))
@@ -64,8 +64,8 @@ pub fn a_clean_map_is_sound()
     clean_maps_are_sound();
 }
 
-/// `fit_images_are_whole` at this image: COREBOOT is found from byte 192 on, and its component in
-/// it.
+/// `fit_images_are_whole` at this image: COREBOOT is found from byte 192 on, and the component is
+/// found in COREBOOT.
 pub fn a_fit_image_is_whole()
     ensures found { region_of small_image (codes "COREBOOT")
         ≡ Ok (record { start = 192; size = 128 }) }

@@ -18,8 +18,8 @@ ghost use Rattle.check_laws.specs.Samples.{found_in_area, inner_area};
 use check_changes::differences_are_reported;
 use check_report::rows_tell_what_is_bad;
 
-/// `differences_are_reported` at two images of 8 bytes, with one area of 4 bytes from byte 2 on.
-/// The images differ in byte 5, so a change of an area with this byte is reported: its blocks
+/// `differences_are_reported` at two images of 8 bytes, with an area of 4 bytes from byte 2 on. The
+/// images differ in byte 5, and a change of an area with byte 5 is reported: blocks of the area
 /// differ, or are not compared.
 pub fn a_difference_is_reported()
     ensures { Any (λ change. (change.area.area.offset ≤ 5)
@@ -32,7 +32,7 @@ pub fn a_difference_is_reported()
 }
 
 /// `rows_tell_what_is_bad` at an area with a damaged entry, and at an area without an unused tail:
-/// only the first one has a row with the word `bad`.
+/// only the first area has a row with the verdict `bad`.
 pub fn a_damaged_entry_has_a_bad_row()
     ensures damaged { (asked : Asked) → Any (λ row. verdict_word row.verdict ≡ codes "bad")
         (finding_rows asked [] (found_in_area (Damaged 64 Extent))) }
@@ -42,8 +42,8 @@ pub fn a_damaged_entry_has_a_bad_row()
     rows_tell_what_is_bad();
 }
 
-/// `rows_tell_what_is_bad` at 20 remarks of one kind, of which 16 are shown: only with a bad row
-/// after them, a row with the word `bad` is shown.
+/// `rows_tell_what_is_bad` at 20 remarks of the same kind, of which 16 are shown: a row with the
+/// verdict `bad` is shown only if a bad row follows the remarks.
 pub fn a_bad_row_is_shown()
     ensures bad { Any (λ row. verdict_word row.verdict ≡ codes "bad") (shown_rows false
         (replicate 20 (row Remark "tail" "unused tail") ++ row Bad "no-cbfs" "no CBFS" ∷ [])) }

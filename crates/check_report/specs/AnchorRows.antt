@@ -19,7 +19,7 @@ in_bootblock Component row = of_component (codes "COREBOOT") (codes "bootblock")
 abbrev pub at_spot : AnchorSpot → SeenRow → SeenRow
 at_spot spot row = row_at spot.at (in_bootblock spot.bootblock row)
 
--- after the name of a digest's algorithm; a digest that isn't the stated one has a remedy
+-- the state after the name of a digest's algorithm; the text for an invalid digest names a remedy
 abbrev pub state_text : Bool → List ℕ
 state_text valid = if valid then codes " valid" else codes " invalid: run cbfsseal IMAGE"
 

@@ -38,7 +38,7 @@ is_region_of a finding = false
 abbrev pub is_checked : List ImageFinding → NumberedArea → Bool
 is_checked findings a = list_any (is_region_of a) findings
 
--- ---- what flashing does to an area
+-- ---- the effect of flashing on an area
 
 abbrev pub difference_word : AreaDifference → List ℕ
 difference_word Added = codes "new"
@@ -49,16 +49,16 @@ difference_word (FlagsFrom n) = codes "other flags"
 difference_word (Differs blocks own) = codes "changed"
 difference_word NotCompared = codes "not compared"
 
--- the difference is one of an area of the new image
+-- the difference is about an area of the new image
 abbrev pub is_of_new_area : AreaDifference → Bool
 is_of_new_area Gone = false
 is_of_new_area what = true
 
--- the change is one of this area of the new image
+-- the change is about the area `a` of the new image
 abbrev pub is_change_of : NumberedArea → AreaChange → Bool
 is_change_of a change = is_of_new_area change.what && change.area.number == a.number
 
--- without a change, the bytes are the same; those of a second area of a name are not compared
+-- without a change, the bytes are identical; the bytes of a second area of a name are not compared
 abbrev pub unchanged_word : List NumberedArea → NumberedArea → List ℕ
 unchanged_word areas a =
     if is_first_of_name areas a then codes "unchanged" else codes "not compared"
@@ -75,7 +75,7 @@ change_value i a = option_map_or
     (λ c. text_value (change_word i.areas.items c.comparison.areas.items a))
     i.changes (seen_value Absent)
 
--- place, size and name; with an old image, the change; then words for two properties
+-- place, size and name; with an old image, the change; followed by two optional properties
 abbrev pub area_fields : Inspection → NumberedArea → List SeenField
 area_fields i a =
     field "place" (seen_value (Place a.area.offset))

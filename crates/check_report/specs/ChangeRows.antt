@@ -84,7 +84,7 @@ image_rows old new blocks = only_if (not (old == new))
 
 -- ---- the flash map
 
--- on request, another board's map is bad: one with another name or base address
+-- on request, the map of another board is bad: a map with another name or another base address
 abbrev pub map_change_row : Bool → MapChange → SeenRow
 map_change_row strict maps.NoOldMap = row Change "no-old-map" "the old image has no flashmap"
 map_change_row strict (maps.MovedFrom at) =

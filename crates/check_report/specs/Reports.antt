@@ -76,7 +76,7 @@ conclusion_fields c =
     ∷ field "changes" (seen_value (Count c.counts.changes))
     ∷ []
 
--- what the conclusion is about: the image, or flashing it, which only --flash asks for
+-- the subject of the conclusion: the image, or flashing the image, which requires --flash
 abbrev pub subject_of : Request → Subject
 subject_of request = if request.is_strict then subjects.Flashing else subjects.Image
 

@@ -52,7 +52,7 @@ seen_row row = record {
   other = seen_value row.other;
 }
 
--- a row of the whole image: it has no area, no component and no position
+-- a row of the whole image: without area, component and position
 abbrev pub row_of : Verdict → List ℕ → List ℕ → SeenRow
 row_of verdict code what = record {
   verdict = verdict;
@@ -133,7 +133,7 @@ counts_of rows = let n = λ (verdict : Verdict). count_by (has_verdict verdict) 
 abbrev pub conclusion_of : Subject → List SeenRow → Conclusion
 conclusion_of subject rows = record { subject = subject; counts = counts_of rows }
 
--- of the image, and of flashing it over the old one, without bad rows or with some
+-- the conclusion about the image, or about flashing over the old image, without or with bad rows
 abbrev pub in_words : Subject → Bool → List ℕ
 in_words subjects.Image true = codes "sound"
 in_words subjects.Image false = codes "not sound"
@@ -151,7 +151,7 @@ summary c = verdict_text c ++ codes ": " ++ decimal c.counts.bad ++ codes " bad,
 
 -- ---- at most 16 rows of a kind, which is a verdict and a code
 
--- the rows are of one kind
+-- the rows have the same verdict and the same code
 abbrev pub is_like : SeenRow → SeenRow → Bool
 is_like row other = has_verdict row.verdict other && bytes_eq row.code other.code
 
@@ -198,7 +198,7 @@ report_lines is_verbose rows = map row_line (report_rows is_verbose rows)
 
 -- ---- rows by verdict
 
--- the row has the verdict, if one is selected
+-- the row has the selected verdict, if any verdict is selected
 abbrev pub is_selected : Option Verdict → SeenRow → Bool
 is_selected None row = true
 is_selected (Some verdict) row = has_verdict verdict row
@@ -214,7 +214,7 @@ shown_lines s rows = map row_line (selected s.only (shown_rows s.is_verbose rows
 abbrev pub selected_lines : Selection → List SeenRow → List Line
 selected_lines s rows = map row_line (selected s.only (report_rows s.is_verbose rows))
 
--- the rows of a report by verdict: bad rows, then changes, then remarks on request
+-- the rows of a report by verdict: bad rows, followed by changes, and on request by remarks
 abbrev pub rows_by_verdict : Bool → List SeenRow → List SeenRow
 rows_by_verdict is_verbose rows = let all = report_rows is_verbose rows in
     (selected (Some verdicts.Bad) all ++ selected (Some verdicts.Change) all)

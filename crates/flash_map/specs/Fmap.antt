@@ -1,4 +1,4 @@
--- Searches for an image's flash map.
+-- Searches for the flash map of an image, and the limits of their device calls.
 use Rattle.std.specs.Prelude.{◌≡◌, ℕ, ◌+◌, ◌/◌, length, List, Option, Some, None, drop, if◌then◌else◌}
 use Rattle.std.specs.List.{find}
 use Rattle.std.specs.Option.{option_map}
@@ -21,11 +21,11 @@ search_reads device = length device.content / 2 + 8
 abbrev pub map_reads : Device → ℕ
 map_reads device = search_reads device + length device.content / area_len
 
--- the head of a valid map at the front
+-- the head of a valid flash map at the beginning of the bytes
 abbrev pub map_head : List ℕ → Option FmapHead
 map_head x = if is_map x then Some (fmap_head_of x) else None
 
--- the lowest from an offset on
+-- the valid flash map with the lowest offset, from an offset on
 abbrev pub found_from : ℕ → List ℕ → Option FoundMap
 found_from place image = option_map
     (λ q. record { at = q; head = fmap_head_of (drop q image) }) (map_from place (drop place image))
@@ -36,11 +36,11 @@ found_in image = found_from 0 image
 abbrev pub areas_of : List ℕ → FoundMap → List Area
 areas_of image map = areas_from map.head.nareas (drop (map.at + fmap_head_len) image)
 
--- the first area with the name
+-- the first area of the list with the name
 abbrev pub first_area : List Area → List ℕ → Option Area
 first_area areas name = find (is_area name) areas
 
--- the first search in the image finds this map, with these areas
+-- a search of the image finds a flash map with this head and with these areas at the offset q
 pub record FindsMap (h : FmapHead) (areas : List Area) (image : List ℕ) (q : ℕ) : Type 0 where
   pub found : found_in image ≡ Some (record { at = q; head = h })
   pub all : areas_of image (record { at = q; head = h }) ≡ areas

@@ -3,8 +3,8 @@ use Rattle.std.specs.Prelude.{◌≡◌, ℕ, List, [], ◌∷◌, ◌++◌, Opt
 use Rattle.std.specs.Global.{Vec}
 use Rattle.std.specs.Io.KnownBytes.{Appends, append_known}
 
--- A buffered sink: the bytes that the sink has received, if known, the bytes that wait for it, and
--- the faults of the sink.
+-- A buffered sink: the bytes that the sink has received, if known, the remaining bytes in the
+-- buffer, and the number of faults of the sink.
 pub record Buffered : Type 0 where
   pub received : Option (List ℕ)
   pub held : List ℕ
@@ -14,7 +14,7 @@ pub record Buffered : Type 0 where
 abbrev pub put_bytes : Buffered → Option (List ℕ)
 put_bytes output = append_known output.received output.held
 
--- the sink receives the first of the held bytes, and the others stay held
+-- the sink receives the first of the buffered bytes, and the others remain in the buffer
 abbrev pub Sends : Option (List ℕ) → Option (List ℕ) → List ℕ → List ℕ → Type 0
 Sends received new_received held new_held =
     (sent : List ℕ) × Appends received new_received sent × (held ≡ sent ++ new_held)

@@ -14,18 +14,18 @@ pub record Stored : Type 0 where
   pub written_at : ℕ
   pub written_len : ℕ
 
--- The file has space for n bytes at `at`, because its last complete write wrote this range. So no
--- limit, full disk or hole refuses the next write of this range.
+-- The file has space for n bytes at the offset `at`, because the last complete write covered the
+-- same range. Therefore no limit, full disk or hole refuses the next write of the range.
 pub record IsReserved (at n : ℕ) (file : Stored) : Type 0 where
   pub place : file.written_at ≡ at
   pub count : file.written_len ≡ n
 
--- any call
+-- the file before and after any system call: the length and the field `faithful` are equal
 pub record SameFile (old new : Stored) : Type 0 where
   pub same_faith : new.faithful ≡ old.faithful
   pub same_length : length new.content ≡ length old.content
 
--- any read
+-- the file before and after any read: a faithful file is unchanged
 pub record SameBytes (old new : Stored) : Type 0 where
   pub same : SameFile old new
   pub unchanged : IsTrue old.faithful → new ≡ old

@@ -10,7 +10,7 @@ use Rattle.fmap_steps.specs.declared.explanation.Spot.{Spot}
 abbrev pub visible : ℕ → ℕ
 visible b = if nat_le 0x20 b && nat_le b 0x7e then b else 0x20
 
--- at most 100 bytes of a line, at most 60 of them before the marked one
+-- at most 100 bytes of a line, at most 60 of them before the marked byte
 pub record IsExcerpt (p : Position) (e : Excerpt) : Type 0 where
   pub start : ℕ  -- the index of the first shown byte
   pub bytes : e.bytes.items ≡ map visible (take 100 (drop start p.source.now))
@@ -25,7 +25,7 @@ pub record IsSpot (text : List ℕ) (at : ℕ) (spot : Spot) : Type 0 where
   pub column : spot.column ≡ position.column
   pub excerpt : IsExcerpt position spot.excerpt
 
--- the spot of an offset of the text, if there is an offset
+-- the spot of an offset of the text, or no spot without an offset
 abbrev pub IsAt : List ℕ → Option ℕ → Option Spot → Type 0
 IsAt text place spot = MatchOption place (spot ≡ None)
     (λ at. IsSomeAnd spot (IsSpot text (min at (length text))))

@@ -13,7 +13,7 @@ use Rattle.fmap_steps.specs.declared.steps.Step.TheVariants as step
 abbrev pub out_of_memory : Failure
 out_of_memory = Refused (Descriptor faults.Memory)
 
--- out of memory, or else this failure, by the kind of the error
+-- `out_of_memory` after an allocation failure, or else the given failure, by the kind of the error
 abbrev pub memory_or : Failure → ErrorKind → Failure
 memory_or failure OutOfMemory = out_of_memory
 memory_or failure kind = failure
@@ -25,7 +25,7 @@ step_failure step.IdentifyInput kind = memory_or (Refused Read) kind
 step_failure step.MakeOutput kind = memory_or (Refused Output) kind
 step_failure writing kind = Refused Output
 
--- arguments that can't be read
+-- the failure of unreadable arguments
 abbrev pub words_failure : ErrorKind → Failure
 words_failure kind = memory_or Usage kind
 

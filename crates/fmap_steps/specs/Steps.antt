@@ -17,7 +17,7 @@ invocation_of [] = Ok Usage
 invocation_of (input ∷ output ∷ []) = Ok (Compile input output)
 invocation_of words = Err failures.Usage
 
--- INPUT is opened before OUTPUT is made, and OUTPUT is made before the descriptor is read
+-- INPUT is opened before OUTPUT is created, and OUTPUT is created before the descriptor is read
 abbrev pub steps_of : Invocation → List Step
 steps_of Usage = PrintUsage ∷ []
 steps_of (Compile input output) =

@@ -49,13 +49,14 @@ fn obey(rt: &HostRuntime) -> Result<(), Failed> {
     Ok(())
 }
 
-/// Returns true on a terminal, or if the environment asks for explanations.
+/// Returns true on a terminal, or if the environment variable CBFSTOOL_EXPLAIN requests
+/// explanations.
 fn is_wanted(rt: &HostRuntime) -> bool {
     let variable = env::var(rt, "CBFSTOOL_EXPLAIN").ok();
     is_explained(rt.stderr().is_terminal(), variable.as_deref())
 }
 
-/// Prints a failure, and its explanation if it is wanted. Output errors are ignored.
+/// Prints a failure, and its explanation if explanations are requested. Output errors are ignored.
 fn print(rt: &HostRuntime, failed: &Failed) {
     let _told = eprintln!(rt; "fmaptool: {}", failed.failure);
     if let Some(explanation) = &failed.explanation

@@ -6,7 +6,7 @@ use std::fs::{File, OpenOptions};
 
 const USAGE: &str = "usage: fmaptool INPUT.fmd OUTPUT\n";
 
-/// A request, and the files that its steps have opened.
+/// A request, and the files opened by the steps of the request.
 #[derive(Drop)]
 pub struct Session<'r, 'w> {
     rt: &'r HostRuntime,

@@ -4,7 +4,7 @@ use Rattle.std.specs.List.{flat_map, list_any}
 use Rattle.flash_format.specs.Texts.{printed_name}
 
 -- the first and the last of each range of Unicode's characters that control a terminal (also DEL),
--- that have no shape, or that change the direction of others
+-- have no shape, or change the direction of others
 abbrev pub hidden_ranges : List (ℕ × ℕ)
 hidden_ranges = (0x0, 0x1f) ∷ (0x7f, 0x9f) ∷ (0xad, 0xad) ∷ (0x34f, 0x34f) ∷ (0x61c, 0x61c)
     ∷ (0x115f, 0x1160) ∷ (0x17b4, 0x17b5) ∷ (0x180b, 0x180f) ∷ (0x200b, 0x200f)
