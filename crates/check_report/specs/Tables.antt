@@ -31,8 +31,8 @@ abbrev pub cells : Line → List (List ℕ)
 cells line = line.head ∷ flat_map field_cells line.fields
 
 -- the cells of a heading
-abbrev pub texts : List (Bor (List ℕ)) → List (List ℕ)
-texts heading = map (λ text. text.now) heading
+abbrev pub heading_cells : List (Bor (List ℕ)) → List (List ℕ)
+heading_cells heading = map (λ text. text.now) heading
 
 -- ---- the widths of columns
 

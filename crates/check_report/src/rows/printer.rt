@@ -5,7 +5,7 @@ ghost use Rattle.flash_device.specs.Pages.{Lists};
 ghost use Rattle.check_report.specs.Fields.{seen_line};
 ghost use Rattle.check_report.specs.Reports.{closing, ending, file_fields, part, parts};
 ghost use Rattle.check_report.specs.Reports.{next_tokens, start_tokens, widths_after};
-ghost use Rattle.check_report.specs.Tables.{heading_if, texts};
+ghost use Rattle.check_report.specs.Tables.{heading_cells, heading_if};
 ghost use Rattle.check_report.specs.Effects.{Prints, PrintsLines, Puts};
 ghost use Rattle.check_report.specs.declared.rows.form.LineForm.TheVariants as forms;
 
@@ -74,7 +74,7 @@ impl<W: Sink + Drop> Printer<W> {
         ensures form { OnOk result (self.new.form ≡ forms.Ruler) }
         ensures follows { OnOk result (self.new.follows ≡ false) }
         ensures widths { OnOk result
-            (self.new.widths.items ≡ map length (texts heading.now)) }
+            (self.new.widths.items ≡ map length (heading_cells heading.now)) }
         ensures out { self.new.out ≡ self.old.out }
     {
         let mut widths = Vec::new(self.alloc);
@@ -93,7 +93,7 @@ impl<W: Sink + Drop> Printer<W> {
         ensures form { OnOk result (self.new.form
             ≡ forms.Table (record { colours = colours; widths = self.old.widths })) }
         ensures heading { Puts W.Sink result self.old.out self.new.out
-            (heading_if self.old.follows self.old.widths.items (texts heading.now)) }
+            (heading_if self.old.follows self.old.widths.items (heading_cells heading.now)) }
     {
         let widths = mem::replace(&mut self.widths, Vec::new(self.alloc));
         let columns = Columns { colours, widths };

@@ -3,7 +3,7 @@ ghost use Rattle.std.specs.Prelude.{◌≡◌, ◌++◌, IfOk, OnOk, drop, map, 
 ghost use Rattle.check_report.specs.Fields.{seen_field, seen_line};
 ghost use Rattle.check_report.specs.Tables.{blanks, cells, field_cells, first_length, gap};
 ghost use Rattle.check_report.specs.Tables.{gap_before, heading_if, in_columns, table_line};
-ghost use Rattle.check_report.specs.Tables.{texts, widened};
+ghost use Rattle.check_report.specs.Tables.{heading_cells, widened};
 ghost use Rattle.flash_device.specs.Pages.{Lists};
 
 use crate::rows::field::Field;
@@ -125,7 +125,7 @@ fn in_columns(alloc: Global, widths: &[usize], cells: &[Vec<u8>]) -> Result<Vec<
 /// Returns the cells of a heading.
 fn heading_cells(alloc: Global, heading: &[&str]) -> Result<Vec<Vec<u8>>, AllocError>
     ensures { IfOk result (λ found. map (λ cell. cell.items) found.items
-        ≡ texts heading.now) }
+        ≡ heading_cells heading.now) }
 {
     let mut cells = Vec::new(alloc);
     for text in heading {
@@ -144,7 +144,8 @@ impl Columns {
         has_lines: bool,
         heading: &[&str],
     ) -> Result<Vec<u8>, AllocError>
-        ensures { Lists result (heading_if has_lines self.now.widths.items (texts heading.now)) }
+        ensures { Lists result
+            (heading_if has_lines self.now.widths.items (heading_cells heading.now)) }
     {
         if !has_lines {
             return Ok(Vec::new(alloc));
