@@ -590,7 +590,7 @@ class ManyComponents(MemoryTest):
             *(f"bad|A|-|{at:#x}|entry in the unused tail" for at in range(0x80, 0x300000, 64)),
             "remark|A|-|-|components|1", "remark|A|-|-|free bytes|0",
             "remark|A|-|-|no room for a component",
-        ], ["component|A|a|0x0|raw|1|none|no hash"])
+        ], ["component|A|a|0x0|raw|1|none|no hash|0x1c"])
 
 
 class ManyComparedAreas(MemoryTest):
