@@ -1,10 +1,10 @@
 -- The text of an option file, by the bytes that are read of it.
-use Rattle.std.proofs.Common.{◌≡◌, ◌≤◌, ◌+◌, ◌++◌, ◌∙◌, ℕ, List, [], length, take, Option, Some, None, Result, Ok, Err, ap, arith}
-use Rattle.std.specs.Prelude.{IfSome, String}
+use Rattle.std.proofs.Common.{◌≡◌, ◌≤◌, ◌+◌, ◌++◌, ◌∙◌, ℕ, List, [], length, take, Option, Some, None, Result, Ok, Err, ap, arith, inr}
+use Rattle.std.specs.Prelude.{◌⊎◌, IfSome, String}
 use Rattle.std.specs.Option.{option_map}
 use Rattle.std.specs.declared.alloc.Global.{Global}
 use Rattle.std.proofs.lemmas.List.{length-take, take_all}
-use Rattle.cbfscheck.specs.OptionTexts.{IsTextOf, largest}
+use Rattle.cbfscheck.specs.OptionTexts.{IsTextOf, IsUnread, largest}
 use Rattle.cbfscheck.specs.declared.refusal.OptionsFault.{OptionsFault}
 use Rattle.cbfscheck.specs.declared.refusal.OptionsFault.TheVariants as faults
 
@@ -35,12 +35,12 @@ text_of_content content bytes (Err faults.TooLarge) read is =
 text_of_content content bytes (Err faults.NotUtf8) read is =
     let all = whole content bytes read is.0 in
     rw (← all) is
-text_of_content content bytes (Err (faults.Unread fault)) read is = tt
+text_of_content content bytes (Err (faults.Unread fault)) read is = absurd is
 
 -- also if nothing is known of the content
 pub text_if_known : (remaining : Option (List ℕ)) (bytes : List ℕ)
     (result : Result (String Global) OptionsFault)
     → IfSome remaining (λ content. bytes ≡ take (largest + 1) content) → IsTextOf bytes result
-    → IfSome remaining (λ content. IsTextOf content result)
+    → IfSome remaining (λ content. IsUnread result ⊎ IsTextOf content result)
 text_if_known None bytes result read is = tt
-text_if_known (Some content) bytes result read is = text_of_content content bytes result read is
+text_if_known (Some content) bytes result read is = inr (text_of_content content bytes result read is)

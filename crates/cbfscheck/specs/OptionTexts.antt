@@ -12,12 +12,17 @@ use Rattle.cbfscheck.specs.declared.refusal.OptionsFault.TheVariants as faults
 abbrev pub largest : ℕ
 largest = 65536
 
--- the text of this content, or the reason why it has none; or a read fails
+-- the text of this content, or the reason why the content is no text
 abbrev pub IsTextOf : List ℕ → Result (String Global) OptionsFault → Type 0
 IsTextOf content (Ok text) = (length content ≤ largest) × (string_bytes text ≡ content)
 IsTextOf content (Err faults.TooLarge) = largest < length content
 IsTextOf content (Err faults.NotUtf8) = (length content ≤ largest) × ¬ (IsUtf8 content)
-IsTextOf content (Err (faults.Unread fault)) = ⊤
+IsTextOf content (Err (faults.Unread fault)) = ⊥
+
+-- the failure of a read
+abbrev pub IsUnread : Result (String Global) OptionsFault → Type 0
+IsUnread (Err (faults.Unread fault)) = ⊤
+IsUnread _ = ⊥
 
 -- The arguments are the given words in this order, and each `@PATH` is the file with this path.
 pub record AreGiven (words : List (String Global)) (arguments : List Argument) : Type 0 where

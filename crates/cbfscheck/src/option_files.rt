@@ -1,8 +1,8 @@
 //! The option files of a command line.
 
-ghost use Rattle.std.specs.Prelude.{◌≡◌, ◌+◌, IfOk, IfSome, take};
+ghost use Rattle.std.specs.Prelude.{◌≡◌, ◌+◌, ◌⊎◌, IfOk, IfSome, take};
 ghost use Rattle.check_line.specs.OptionFiles.{file_of, path_of, written};
-ghost use Rattle.cbfscheck.specs.OptionTexts.{AreGiven, IsTextOf, largest};
+ghost use Rattle.cbfscheck.specs.OptionTexts.{AreGiven, IsTextOf, IsUnread, largest};
 
 use crate::refusal::{OptionsFault, Refusal};
 use check_line::{Argument, option_file};
@@ -37,7 +37,8 @@ fn text_in(bytes: Vec<u8>) -> Result<String, OptionsFault>
 /// Reads the text of an option file. Errors: a failed read; more than 65536 bytes; text that is not
 /// UTF-8.
 fn text_of<R: Read + Drop>(alloc: Global, reader: R) -> Result<String, OptionsFault>
-    ensures { IfSome (R.remaining reader) (λ content. IsTextOf content result) }
+    ensures { IfSome (R.remaining reader)
+        (λ content. IsUnread result ⊎ IsTextOf content result) }
 {
     let bytes = read_bytes(alloc, reader)?;
     text_in(bytes)
