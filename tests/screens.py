@@ -1,4 +1,4 @@
-"""Programs whose standard output is a pseudo-terminal."""
+"""Programs that write to a pseudo-terminal: to standard output, or to standard error."""
 
 import errno
 import os
@@ -19,17 +19,32 @@ def read_terminal(master):
         return b""
 
 
-def on_screen(words, folder, environment):
-    """Returns the status of a command, the text that its terminal got, and standard error."""
+def run_on_terminal(words, folder, environment, stream):
+    """Returns the result of a command with a terminal as `stream`, and the bytes that it got.
+
+    The stream is `stdout` or `stderr`, and the other one is a pipe.
+    """
     master, slave = pty.openpty()
+    streams = {"stdout": subprocess.PIPE, "stderr": subprocess.PIPE, stream: slave}
     try:
         tty.setraw(slave)
-        done = subprocess.run(
-            [program(words[0]), *words[1:]], cwd=folder, env=environment,
-            stdin=subprocess.DEVNULL, stdout=slave, stderr=subprocess.PIPE, check=False,
-        )
+        done = subprocess.run([program(words[0]), *words[1:]], cwd=folder, env=environment,
+                              stdin=subprocess.DEVNULL, check=False, **streams)
     finally:
         os.close(slave)
-    text = b"".join(iter(lambda: read_terminal(master), b""))
+    shown = b"".join(iter(lambda: read_terminal(master), b""))
     os.close(master)
-    return done.returncode, text.decode(), done.stderr
+    return done, shown
+
+
+def on_screen(words, folder, environment):
+    """Returns the status of a command, the text that its terminal got, and standard error."""
+    done, shown = run_on_terminal(words, folder, environment, "stdout")
+    return done.returncode, shown.decode(), done.stderr
+
+
+def messages_on_screen(words, folder, environment=None):
+    """Returns the status and the output of a command whose messages go to a terminal, and these
+    messages."""
+    done, shown = run_on_terminal(words, folder, environment, "stderr")
+    return done.returncode, done.stdout, shown.decode()

@@ -231,16 +231,19 @@ class Components(CheckTest):
         """, "-r A")
 
     def test_a_size_that_is_no_multiple_of_64(self):
-        """The area is checked up to byte 448."""
-        self.reports(0, region(500, [A]), """
-            remark|-|-|0x0|flashmap
-            remark|A|-|0x40|unused tail
-            remark|A|-|-|components|1
-            remark|A|-|-|free bytes|0
-            remark|A|-|-|no room for a component
-            remark|A|-|-|size is no multiple of 64
-            sound: 0 bad, 6 remarks, 0 changes
-        """)
+        """The area is checked up to byte 448. The bytes after it are no part of the tail, and can
+        have any value."""
+        for last in b"", b"x" * 52:
+            with self.subTest(last):
+                self.reports(0, region(500, [A], (448, last)), """
+                    remark|-|-|0x0|flashmap
+                    remark|A|-|0x40|unused tail
+                    remark|A|-|-|components|1
+                    remark|A|-|-|free bytes|0
+                    remark|A|-|-|no room for a component
+                    remark|A|-|-|size is no multiple of 64
+                    sound: 0 bad, 6 remarks, 0 changes
+                """)
 
     def test_sizes_around_that_of_an_entry(self):
         for size in 24, 63:
@@ -257,18 +260,6 @@ class Components(CheckTest):
                     "remark|A|-|-|components|1", "remark|A|-|-|free bytes|0",
                     "remark|A|-|-|no room for a component", *more,
                     f"sound: 0 bad, {5 + len(more)} remarks, 0 changes"]))
-
-    def test_bytes_after_the_last_multiple_of_64(self):
-        """They are no part of the tail, and can have any value."""
-        self.reports(0, region(500, [A], (448, b"x" * 52)), """
-            remark|-|-|0x0|flashmap
-            remark|A|-|0x40|unused tail
-            remark|A|-|-|components|1
-            remark|A|-|-|free bytes|0
-            remark|A|-|-|no room for a component
-            remark|A|-|-|size is no multiple of 64
-            sound: 0 bad, 6 remarks, 0 changes
-        """)
 
     def test_a_region_without_an_entry_at_its_start(self):
         self.reports(1, region(512, [], (0x40, A)), """

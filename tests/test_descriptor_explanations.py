@@ -1,12 +1,9 @@
 """The lines that explain a refused descriptor of fmaptool, on a terminal or on request."""
 
-import os
-import pty
-import subprocess
-import tty
 import unittest
 
-from tests.programs import ProgramTest, program
+from tests.programs import ProgramTest
+from tests.screens import messages_on_screen
 
 NUMBER = "a number is decimal, or hexadecimal after 0x, with at most one of the units K, M and G"
 PAIR = "of adjacent sections without offsets, one may omit its size"
@@ -96,19 +93,8 @@ class Explanations(ProgramTest):
     def test_on_a_terminal(self):
         text, refusal, lines = ROWS[0]
         folder = self.folder({"in.fmd": text.encode()})
-        master, slave = pty.openpty()
-        try:
-            tty.setraw(slave)
-            done = subprocess.run([program("fmaptool"), "in.fmd", "out"], cwd=folder.path,
-                                  stdin=subprocess.DEVNULL, stdout=subprocess.PIPE, stderr=slave,
-                                  timeout=60)
-            shown = os.read(master, 65536)
-        finally:
-            os.close(slave)
-            os.close(master)
-        self.assertEqual(done.returncode, 1)
-        self.assertEqual(done.stdout, b"")
-        self.assertEqual(shown.decode(), message(refusal, lines))
+        self.assertEqual(messages_on_screen(["fmaptool", "in.fmd", "out"], folder.path),
+                         (1, b"", message(refusal, lines)))
 
 
 if __name__ == "__main__":

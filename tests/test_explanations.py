@@ -1,15 +1,12 @@
 """The lines that explain a refusal of cbfstool, on a terminal or on request."""
 
-import errno
 import os
-import pty
-import subprocess
-import tty
 import unittest
 
 from tests.image import Area, Component, FreeEntry, Image, join
-from tests.programs import ProgramTest, program, words_of
+from tests.programs import ProgramTest, words_of
 from tests.samples import Sample
+from tests.screens import messages_on_screen
 
 IMAGE = Sample("types").image
 REFUSAL = "cbfstool: bad command line\n"
@@ -174,16 +171,6 @@ def explained(command, line, meant=None):
     return f"{REFUSAL}cbfstool: {line}\n{known}usage: cbfstool IMAGE {usage}\n"
 
 
-def read_terminal(master):
-    """Returns further bytes of a terminal, or none after the last one."""
-    try:
-        return os.read(master, 65536)
-    except OSError as error:
-        if error.errno != errno.EIO:
-            raise
-        return b""
-
-
 class Explanations(ProgramTest):
     programs = ("cbfstool",)
 
@@ -266,18 +253,7 @@ class Terminals(ProgramTest):
 
     def on_terminal(self, words):
         """Returns the status of a command, its output, and the bytes that the terminal got."""
-        master, slave = pty.openpty()
-        try:
-            tty.setraw(slave)
-            done = subprocess.run(
-                [program("cbfstool"), *words], cwd=self.folder({"image.rom": IMAGE}).path,
-                stdin=subprocess.DEVNULL, stdout=subprocess.PIPE, stderr=slave, check=False,
-            )
-        finally:
-            os.close(slave)
-        message = b"".join(iter(lambda: read_terminal(master), b""))
-        os.close(master)
-        return done.returncode, done.stdout, message.decode()
+        return messages_on_screen(["cbfstool", *words], self.folder({"image.rom": IMAGE}).path)
 
     def test_bad_command_lines(self):
         for arguments, command, *lines in ROWS:
