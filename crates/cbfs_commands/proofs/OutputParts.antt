@@ -15,10 +15,8 @@ use Rattle.cbfs_walk.specs.Walks.{StandsIn}
 use Rattle.cbfs_walk.specs.declared.cell.Cell.{Cell}
 use Rattle.cbfs_requests.specs.declared.refusal.Refusal.{Refusal}
 use Rattle.cbfs_requests.specs.declared.refusal.Refusal.TheVariants as refusals
-use Rattle.cbfs_requests.specs.Requests.{by_device, edit_refusal}
-use Rattle.cbfs_edit.specs.Removals.{edit_fault_of}
-use Rattle.cbfs_walk.specs.declared.walk.WalkFault.{WalkFault}
-use Rattle.cbfs_commands.specs.Outcomes.{walk_refusal, CommandResult, HasOutput, IsCellOf, Printout, refuses, shows, PrintsOut}
+use Rattle.cbfs_requests.specs.Requests.{by_device}
+use Rattle.cbfs_commands.specs.Outcomes.{CommandResult, HasOutput, IsCellOf, Printout, refuses, shows, PrintsOut}
 
 -- a text, then the output
 abbrev pub text_then : List ℕ → Printout → Printout

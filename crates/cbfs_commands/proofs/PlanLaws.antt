@@ -1,6 +1,6 @@
 -- A plan fits its image, and its ranges lie apart.
 use Rattle.std.proofs.lemmas.Grind.{common_steps}
-use Rattle.std.proofs.Common.{◌≡◌, ℕ, ◌+◌, ◌≤◌, ◌==◌, Bool, false, not, cond, All, List, [], ◌∷◌, length, map, drop, Option, Some, None, Result, Ok, Err, subst, arith, true}
+use Rattle.std.proofs.Common.{◌≡◌, ℕ, ◌+◌, ◌≤◌, ◌==◌, Bool, false, cond, All, List, [], ◌∷◌, length, map, drop, Option, Some, None, Result, Ok, Err, subst, arith, true}
 use Rattle.std.specs.Prelude.{nat_lt}
 use lib.Chars.{codes}
 use Rattle.cbfs_walk.specs.Shapes.{has_bad_size}

@@ -2,14 +2,13 @@
 use Rattle.std.proofs.lemmas.Grind.{common_steps}
 use Rattle.std.proofs.Common.{◌≡◌, ℕ, ◌+◌, ◌/◌, ◌%◌, ◌-◌, ◌≤◌, ◌⊎◌, inl, inr, Bool, List, [], None, Ok, Err, refl, sym, ap, ◌∙◌, arith, subst}
 use Rattle.std.specs.Prelude.{IsErrOf, if◌then◌else◌}
-use Rattle.std.specs.Result.{IsErrAnd, result_map_both}
-use Rattle.flash_format.specs.Cut.{Cut}
+use Rattle.std.specs.Result.{IsErrAnd}
 use Rattle.flash_device.specs.declared.sink.Sink.{Ghosts as SinkOf}
 use Rattle.flash_device.specs.Device.{fault_count}
 use Rattle.flash_device.specs.Pages.{Pages, HasRead, OnHonest, OnHonestIn}
 use Rattle.flash_device.specs.Regions.{Range, LiesIn, LiesOn, bytes_in}
 use Rattle.cbfs_walk.specs.Cells.{IsCellIn, cell_in}
-use Rattle.cbfs_walk.specs.CellReadings.{reading_of, ReadsCells, by_answer, place_after}
+use Rattle.cbfs_walk.specs.CellReadings.{reading_of, ReadsCells, by_answer}
 use Rattle.cbfs_walk.specs.Walks.{Walking, GivesCell, answer_at, walk_after, reads_at}
 use Rattle.cbfs_walk.specs.Walks as walks
 use Rattle.cbfs_walk.specs.declared.cell.Cell.{Cell}

@@ -19,8 +19,6 @@ use Rattle.flash_device.specs.declared.paged.CopyFault.{CopyFault}
 use Rattle.flash_device.specs.declared.paged.CopyInFault.TheVariants as causes
 use Rattle.flash_device.proofs.RegionLemmas.{outside_of, changed_at, written_ok}
 use Rattle.cbfs_edit.specs.Changes.{by_device, by_source, copy_edit_fault}
-use Rattle.cbfs_edit.specs.declared.fault.EditFault.{EditFault}
-use Rattle.cbfs_edit.specs.declared.fault.EditFault.TheVariants as faults
 
 -- ---- the last four bytes of a region
 

@@ -1,5 +1,5 @@
 -- A group is the first component with the name and all adjacent free cells.
-use Rattle.std.proofs.Common.{◌≡◌, ℕ, ◌+◌, ◌%◌, List, [], ◌∷◌, ◌++◌, length, sym, ◌∙◌, ap, subst, append_assoc, length-append, inl, inr, ◌<◌, refl, arith, All, Contains, Option, Some, None, true, cond}
+use Rattle.std.proofs.Common.{◌≡◌, ℕ, ◌+◌, ◌%◌, List, [], ◌∷◌, ◌++◌, length, sym, ◌∙◌, ap, subst, append_assoc, length-append, inl, inr, ◌<◌, refl, arith, All, Contains, Option, Some, None, true}
 use Rattle.std.specs.List.{concat, last_or, slice_get}
 use Rattle.std.specs.Prelude.{IfSome, MatchOption, ◌↔◌}
 use Rattle.std.proofs.lemmas.List.{append-nil, drop_at, take_at}

@@ -1,24 +1,21 @@
 -- The largest content with a place.
-use Rattle.std.proofs.Common.{◌≡◌, ℕ, ◌+◌, ◌-◌, ◌≤◌, ◌⊎◌, ⊎_elim, inl, inr, Bool, true, false, cond, List, [], ◌∷◌, length, Option, Some, None, Ok, Err, Result, refl, sym, ap, ◌∙◌, arith}
-use Rattle.std.specs.Prelude.{◌||◌, ◌&&◌, is_some, max, nat_le, nat_lt, IfOk, IsErrOf}
+use Rattle.std.proofs.Common.{◌≡◌, ℕ, ◌+◌, ◌⊎◌, ⊎_elim, inl, inr, Bool, true, false, cond, List, [], ◌∷◌, length, Option, Some, None, Ok, Err, Result, refl, sym, ap, ◌∙◌, arith}
+use Rattle.std.specs.Prelude.{◌||◌, is_some, max, nat_lt, IfOk, IsErrOf}
 use Rattle.std.specs.List.{cons_option, filter_map, slice_get}
 use Rattle.std.specs.Option.{option_map_or}
-use Rattle.std.proofs.lemmas.Bool.{and_parts, leb-true}
 use Rattle.std.proofs.lemmas.Bool.Decides.{nat_tests}
 use Rattle.flash_format.specs.Cut.{End, cut, damage}
 use Rattle.flash_format.specs.Head.{head_of, is_free}
 use Rattle.flash_format.specs.Made.{hash_len}
-use Rattle.flash_format.specs.Components.{component_at}
 use Rattle.cbfs_walk.specs.Shapes.{shape_fault}
 use Rattle.cbfs_walk.specs.CellReadings.{place_after}
 use Rattle.cbfs_walk.specs.declared.walk.WalkFault.{WalkFault}
-use Rattle.cbfs_walk.specs.Hashes.{hashed_by}
 use Rattle.cbfs_walk.proofs.Digests.{algorithm-hashed}
 use Rattle.flash_format.specs.Made.{algorithm_row, meta_length}
 use Rattle.flash_format.specs.declared.digest.Algorithm.{Algorithm}
 use Rattle.flash_format.specs.declared.digest.Algorithm.TheVariants as algorithms
-use Rattle.cbfs_edit.specs.Additions.{argument_fault, digest_of, metadata_len_of, new_component, wanted_for}
-use Rattle.cbfs_edit.specs.Places.{add_run, content_limit, first_place, least_allowed_from, place_in, runs, runs_from}
+use Rattle.cbfs_edit.specs.Additions.{argument_fault, digest_of, new_component, wanted_for}
+use Rattle.cbfs_edit.specs.Places.{content_limit, first_place, least_allowed_from, place_in, runs, runs_from}
 use Rattle.cbfs_edit.specs.Removals.{edit_fault_of, unless_damaged, unless_unsound}
 use Rattle.cbfs_edit.specs.Rooms.{is_within, larger_of, largest_content_in, largest_room, room_in, room_of}
 use Rattle.cbfs_edit.specs.Searches.{room_by}

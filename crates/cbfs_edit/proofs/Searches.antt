@@ -1,6 +1,6 @@
 -- Searches over the cells of a region.
 use Rattle.std.proofs.Common.{◌≡◌, ℕ, ◌+◌, ◌-◌, ◌/◌, ◌%◌, ◌≤◌, ◌⊎◌, ⊎_elim, inl, inr, IsTrue, List, [], ◌∷◌, length, Option, Some, None, Result, Ok, Err, refl, sym, ap, subst, ◌∙◌, arith, Bool, true, false, cond}
-use Rattle.std.specs.Prelude.{IfErr, IfOk, ⊤, IsErrOf, ◌||◌, is_some, nat_lt, ok_or}
+use Rattle.std.specs.Prelude.{IfErr, IfOk, IsErrOf, ◌||◌, is_some, nat_lt, ok_or}
 use mathlib.Core.Path.{fun_ext}
 use Rattle.flash_format.specs.Cut.{Cut, cut}
 use Rattle.flash_device.specs.Device.{fault_count}

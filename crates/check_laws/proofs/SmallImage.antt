@@ -1,5 +1,5 @@
 -- The literal image: its map and areas, and its findings.
-use Rattle.std.proofs.Common.{◌≡◌, ◌≤◌, ◌*◌, arith, ℕ, true, false, List, [], ◌∷◌, length, Some, None, refl, ◌∙◌}
+use Rattle.std.proofs.Common.{◌≡◌, ◌≤◌, ◌*◌, arith, ℕ, false, List, [], ◌∷◌, length, None, refl, ◌∙◌}
 use Rattle.std.specs.List.{list_any}
 use Rattle.std.specs.Str.{chars, is_utf8}
 use lib.Chars.{codes}
@@ -8,8 +8,6 @@ use Rattle.flash_format.specs.Head.{head_of, head_at, extent_of}
 use Rattle.flash_format.specs.Entry.{entry, attr_head_of, scan_after}
 use Rattle.flash_format.specs.Cut.{cut_after}
 use Rattle.flash_format.specs.Flashmap.{area_of, areas_from, fmap_head_of, has_signature, is_map, is_valid_head, map_from}
-use Rattle.flash_device.specs.Regions.{bytes_in}
-use Rattle.flash_map.specs.Fmap.{found_in}
 use Rattle.flash_format.specs.Components.{components_from}
 use Rattle.cbfs_walk.specs.Search.{component_in}
 use Rattle.cbfs_anchor.specs.Places.{place_in}

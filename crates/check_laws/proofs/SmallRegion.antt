@@ -1,6 +1,5 @@
 -- The literal region: its findings, entries and components.
-use Rattle.std.proofs.Common.{◌≡◌, ℕ, true, false, List, [], ◌∷◌, length, Option, Some, None, refl}
-use Rattle.std.specs.Prelude.{Contains}
+use Rattle.std.proofs.Common.{◌≡◌, false, [], ◌∷◌, None, refl}
 use Rattle.std.specs.List.{list_any}
 use lib.Chars.{codes}
 use Rattle.flash_format.specs.Head.{head_of, head_at, extent_of}

@@ -1,7 +1,6 @@
 -- Made cells decode to their components.
 use Rattle.std.proofs.Common.{◌≡◌, ℕ, zero, suc, ◌+◌, ◌-◌, ◌%◌, ◌^◌, ◌<◌, ◌≤◌, Bool, true, false, List, [], ◌∷◌, ◌++◌, length, take, drop, replicate, Option, Some, None, Result, refl, sym, ap, ◌∙◌, arith, not, append_assoc, length-append, length-drop}
 use Rattle.std.specs.Prelude.{slice_range, IfSome}
-use Rattle.std.specs.Option.{option_map_or}
 use Rattle.std.specs.List.{list_any, before_first, prefix_len}
 use Rattle.std.proofs.lemmas.Bool.{le-ltb, ne_eqb, or_from, or_parts, or_right}
 use Rattle.std.proofs.lemmas.Bool.Decides.{nat_tests}

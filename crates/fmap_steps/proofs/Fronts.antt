@@ -1,6 +1,6 @@
 -- The front of a list, taken in two steps.
-use Rattle.std.proofs.Common.{◌≡◌, ℕ, ◌≤◌, List, length, min, take, drop, arith, ◌∙◌, ap}
-use Rattle.std.proofs.lemmas.List.{length-take, take_all, take_min}
+use Rattle.std.proofs.Common.{◌≡◌, ℕ, ◌≤◌, List, length, min, take, arith, ◌∙◌, ap}
+use Rattle.std.proofs.lemmas.List.{take_all, take_min}
 
 pub front : (rest front : List ℕ) (most index : ℕ) → front ≡ take (min (length rest) most) rest → length front ≤ index →
     take index front ≡ take most rest

@@ -1,7 +1,7 @@
 -- The layout of a tree, by section.
 use Rattle.std.proofs.lemmas.Bool.Decides.{nat_tests}
 use Rattle.std.proofs.lemmas.Grind.{common_steps}
-use Rattle.std.proofs.Common.{◌≡◌, ℕ, suc, ◌+◌, ◌<◌, ◌≤◌, List, [], ◌∷◌, ◌++◌, length, drop, take, min, replicate, Option, get_or, IsTrue, nat_eq, nat_le, Some, None, Result, Ok, Err, unwrap_or, length-append, refl, sym, ◌∙◌, ap, arith, add-one, append_assoc}
+use Rattle.std.proofs.Common.{◌≡◌, ℕ, suc, ◌+◌, ◌<◌, ◌≤◌, List, [], ◌∷◌, ◌++◌, length, drop, take, min, replicate, Option, get_or, IsTrue, nat_le, Some, None, Result, Ok, Err, unwrap_or, length-append, refl, sym, ◌∙◌, ap, arith, add-one, append_assoc}
 use Rattle.std.proofs.Math.Nat.{min_comm}
 use Rattle.std.proofs.Math.Seq.{drop-cons}
 use Rattle.std.proofs.lemmas.List.{take_min, drop-replicate}
@@ -10,9 +10,7 @@ use Rattle.fmd_lang.specs.declared.section.Section.TheFolds.{fold_out-Section}
 use Rattle.fmd_lang.specs.Table.{root_fault, field_of, area_limit, section_area, areas_below, areas_of, IsTable, table_head, layout_fault, names_fault, table_fault}
 use Rattle.fmd_lang.specs.Layout.{and_then, siblings, places_of}
 use Rattle.std.specs.List.{list_all}
-use Rattle.std.specs.Bool.{then_some}
-use Rattle.std.specs.Option.{option_map_or, option_or}
-use Rattle.fmd_lang.specs.declared.fault.FmdFault.TheVariants as faults
+use Rattle.std.specs.Option.{option_or}
 use Rattle.std.specs.Result.{result_err, result_unwrap_or}
 use Rattle.fmd_lang.proofs.OptionLemmas.{or-none}
 use Rattle.fmd_lang.proofs.RowLemmas.{and_then-ok, length-placed, place_end, placed-inside, valid-places}

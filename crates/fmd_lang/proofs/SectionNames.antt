@@ -1,14 +1,13 @@
 -- The names of sections, token by token.
-use Rattle.std.proofs.lemmas.Bool.Decides.{nat_tests}
-use Rattle.std.proofs.Common.{◌≡◌, ◌≢◌, ℕ, zero, suc, ◌+◌, ◌-◌, ◌<◌, ◌≤◌, Bool, true, false, List, [], ◌∷◌, ◌++◌, length, map, Option, Some, None, refl, sym, ◌∙◌, ap, arith, inl, inr, append_assoc}
+use Rattle.std.proofs.Common.{◌≡◌, ◌≢◌, ℕ, zero, suc, ◌-◌, Bool, true, false, List, [], ◌∷◌, ◌++◌, map, Option, Some, None, refl, sym, ◌∙◌, ap, arith, inl, inr, append_assoc}
 use Rattle.std.proofs.lemmas.List.{append-nil}
 use Rattle.std.specs.Int.Bits.{bit_or}
 use Rattle.std.specs.List.{slice_get}
 use Rattle.fmd_lang.specs.Words.{Word, words, kind_of}
-use Rattle.fmd_lang.specs.Grammar.{Tree, section, Forest, none, some, names, names_of, Then, One, IsA, IsSection, AreSections, AreAnnotations, IsOffset, IsSize, Enclosed, annotation_flag, flags_with}
+use Rattle.fmd_lang.specs.Grammar.{Tree, section, Forest, none, some, names, names_of, Then, IsA, IsSection, AreSections, AreAnnotations, IsOffset, IsSize, annotation_flag, flags_with}
 use Rattle.fmd_lang.specs.Positions.{is_inside, section_word, section_words}
 use Rattle.fmd_lang.specs.declared.word.Kind.{Kind}
-use Rattle.fmd_lang.specs.declared.word.Kind.TheVariants.{Name, Number, OpenParen, CloseParen, At, OpenBrace, CloseBrace}
+use Rattle.fmd_lang.specs.declared.word.Kind.TheVariants.{Name, CloseParen}
 use Rattle.fmd_lang.proofs.FormLemmas.{IsBody, annotation-name}
 use Rattle.fmd_lang.proofs.OptionLemmas.{and-then-some}
 

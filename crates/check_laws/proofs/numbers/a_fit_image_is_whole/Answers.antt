@@ -1,11 +1,11 @@
-use Rattle.std.proofs.Common.{◌≡◌, ◌∷◌, [], List, false, refl, subst, sym, arith, All}
+use Rattle.std.proofs.Common.{◌∷◌, [], List, false, refl, subst, arith, All}
 use Rattle.std.specs.Prelude.{Contains}
 use Rattle.std.proofs.lemmas.List.Elements.{All-contains}
-use Rattle.flash_format.specs.Components.{Component, components}
+use Rattle.flash_format.specs.Components.{components}
 use Rattle.check_findings.specs.declared.areas.NumberedArea.{NumberedArea}
 use Rattle.check_findings.specs.Laws.{IsFit}
 use Rattle.check_findings.specs.ImageFindings.{bytes_of}
-use Rattle.check_laws.specs.Samples.{coreboot_area, small_image, small_region}
+use Rattle.check_laws.specs.Samples.{coreboot_area, small_image}
 use Rattle.check_laws.proofs.SmallImage.{its_region, no_bad_finding, one_region}
 use Rattle.check_laws.proofs.SmallRegion.{its_component, its_name, its_numbers, one_component}
 use Rattle.check_laws.proofs.numbers.a_fit_image_is_whole.Goals as goal

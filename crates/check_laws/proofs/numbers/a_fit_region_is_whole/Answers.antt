@@ -1,4 +1,4 @@
-use Rattle.std.proofs.Common.{◌≡◌, ◌∷◌, [], false, None, refl, subst, sym, ap, arith}
+use Rattle.std.proofs.Common.{◌∷◌, [], false, None, refl, subst, sym, arith}
 use Rattle.std.specs.Prelude.{Contains, List}
 use Rattle.flash_format.specs.Components.{Component}
 use Rattle.check_laws.specs.Samples.{small_region}

@@ -1,5 +1,5 @@
-use Rattle.std.proofs.Common.{◌≡◌, ◌∷◌, [], refl}
-use Rattle.check_laws.specs.Samples.{coreboot_area, small_image}
+use Rattle.std.proofs.Common.{[]}
+use Rattle.check_laws.specs.Samples.{small_image}
 use Rattle.check_laws.proofs.SmallImage.{need_met, one_region}
 use Rattle.check_laws.proofs.numbers.a_need_is_there.Goals as goal
 

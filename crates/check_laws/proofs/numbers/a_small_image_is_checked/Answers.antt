@@ -1,4 +1,4 @@
-use Rattle.std.proofs.Common.{◌≡◌, ◌∙◌, ◌≤◌, ◌*◌, [], length}
+use Rattle.std.proofs.Common.{◌∙◌, ◌≤◌, ◌*◌, [], length}
 use Rattle.check_findings.specs.ImageFindings.{areas_to_check, sum_sizes}
 use Rattle.check_laws.specs.Samples.{small_image}
 use Rattle.check_laws.proofs.SmallImage.{few_bytes, one_to_check}

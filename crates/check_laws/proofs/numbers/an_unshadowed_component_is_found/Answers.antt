@@ -1,5 +1,5 @@
-use Rattle.std.proofs.Common.{◌≡◌, ◌<◌, ℕ, zero, suc, ◌∷◌, [], true, length, refl, subst, sym, arith}
-use Rattle.std.specs.Prelude.{Contains, List, slice_index_or}
+use Rattle.std.proofs.Common.{zero, suc, ◌∷◌, [], true, refl, subst, sym, arith}
+use Rattle.std.specs.Prelude.{Contains, List}
 use Rattle.flash_format.specs.Cut.{cut_after}
 use Rattle.flash_format.specs.Entry.{entry, attr_head_of, scan_after}
 use Rattle.flash_format.specs.Head.{head_of, head_at, extent_of}

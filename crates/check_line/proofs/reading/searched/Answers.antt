@@ -1,4 +1,4 @@
-use Rattle.std.proofs.Common.{◌≡◌, ◌≤◌, ◌<◌, inr, length, take, ap, sym, rules, arith, length-take-le}
+use Rattle.std.proofs.Common.{◌≡◌, inr, length, take, ap, sym, rules, arith, length-take-le}
 use Rattle.check_line.proofs.reading.searched.Goals as goal
 
 pub slice_bounds-first-end : goal.slice_bounds-first-end

@@ -1,4 +1,4 @@
-use Rattle.std.proofs.Common.{arith, length, min, rules, length-drop}
+use Rattle.std.proofs.Common.{arith, length, min, rules}
 use Rattle.std.proofs.lemmas.Grind.{common_steps}
 use Rattle.fmd_lang.proofs.LineStarts.{begins-in, reaches}
 use Rattle.fmd_lang.proofs.WordLemmas.{tail}
