@@ -114,9 +114,15 @@ A, B, N, E = cell(b"a"), cell(b"b"), cell(b"\xff", type=0x77), cell(b"\xc3\xa9")
 A_51, B_77, A_9 = cell(b"a", type=0x51), cell(b"b", type=0x77), cell(b"a", b"012345678")
 # A content of 216 bytes ends with its cell of 256; one of 5000 is read in two pieces.
 A_216, L_5000 = cell(b"a", b"\xff" * 216), cell(b"l", b"\xff" * 5000)
-# The SHA-256 of `abc`, as FIPS 180-4 has it.
-ABC = bytes.fromhex("ba7816bf8f01cfea414140de5dae2223b00361a396177a9cb410ff61f20015ad")
-H = cell(b"h", b"abc", attributes=[hash_attribute(SHA256, value=ABC)])
+# Digests of contents, as sha256sum and sha512sum print them: of no bytes, of `abc` and `abcd`, and
+# of the ten bytes `0123456789`.
+EMPTY_256 = "e3b0c44298fc1c149afbf4c8996fb92427ae41e4649b934ca495991b7852b855"
+ABC_256 = "ba7816bf8f01cfea414140de5dae2223b00361a396177a9cb410ff61f20015ad"
+ABC_512 = ("ddaf35a193617abacc417349ae20413112e6fa4e89a97ea20a9eeee64b55d39a"
+           "2192992a274fc1a836ba3c23a3feebbd454d4423643ce80e2a9ac94fa54ca49f")
+ABCD_256 = "88d4266fd4e6338d13b845fcf289579d209c897823b9217da3e161936f031589"
+TEN_256 = "84d89877f0d4041efb6bf91a16f0248f2fd573e6af05c19f96bedb9f882f7882"
+H = cell(b"h", b"abc", attributes=[hash_attribute(SHA256, value=bytes.fromhex(ABC_256))])
 # A hash of an unknown algorithm, and the same bytes that are no attribute.
 UNKNOWN = attribute(HASH_TAG, b"\0\0\0\x09")
 U = cell(b"u", b"", attributes=[UNKNOWN])

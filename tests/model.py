@@ -22,7 +22,7 @@ from typing import NamedTuple, Optional, Tuple
 from tests import board_model
 from tests.image import (
     BOOTBLOCK, CBFS_HEADER, CELL_SIZE, COMPRESSION_TAG, DELETED, HASH_TAG, HASHES, HEAD_SIZE,
-    HEADER_SIZE, MAGIC, PRESERVED, SIMPLE_ELF, STAGE, STAGE_TAG, digest,
+    HEADER_SIZE, MAGIC, PRESERVED, SHA256, SIMPLE_ELF, STAGE, STAGE_TAG, digest,
 )
 from tests.reading import BAD_SIZE, NO_CBFS, UNUSED_TAGS, Reading, first_map, has_entry
 from tests.regions import runs
@@ -170,7 +170,11 @@ class ListedArea(NamedTuple):
 
 
 class Listed(NamedTuple):
-    """A component as --list shows it: `content` is the offset of its content in the area."""
+    """A component as --list shows it: `content` is the offset of its content in the area.
+
+    `stored` has the digits of the stored digest, if that is one of SHA-256 or SHA-512, and `sha256`
+    those of the SHA-256 of the content as it is stored.
+    """
 
     area: bytes
     component: bytes
@@ -180,6 +184,8 @@ class Listed(NamedTuple):
     compression: str
     hash: str
     content: int
+    stored: Optional[str]
+    sha256: str
 
 
 class Listing(NamedTuple):
@@ -229,7 +235,8 @@ def area_line(row):
 def component_line(row):
     """Returns a component of --list as a line of text."""
     fields = [shown(row.area), shown(row.component), f"{row.position:#x}", row.type,
-              str(row.length), row.compression, row.hash, f"{row.content:#x}"]
+              str(row.length), row.compression, row.hash, f"{row.content:#x}",
+              "-" if row.stored is None else row.stored, row.sha256]
     return "\t".join(["component", *fields]) + "\n"
 
 
@@ -820,9 +827,10 @@ def components(old, new, wishes):
             packing, state = cell.compression(), cell.hash_state()
             kind = TYPES.get(cell.type, hex(cell.type))
             texts = {"absent": "no hash", "unsupported": "hash unsupported"}
+            stored = None if state in texts else cell.stored_digest()[1].hex()
             rows.append(Listed(area.name, cell.name, cell.position, kind, len(cell.content),
                                COMPRESSIONS.get(packing, hex(packing)), texts.get(state, state),
-                               cell.start))
+                               cell.start, stored, digest(SHA256, cell.content).hex()))
     return rows
 
 

@@ -1,6 +1,7 @@
 """Validates JSON documents by a schema of draft 07, with the keywords of cbfscheck.schema.json."""
 
 import json
+import re
 
 from tests.programs import TOP
 
@@ -19,6 +20,12 @@ def is_same(one, other):
     return one == other and type(one) is type(other)
 
 
+def is_match(value, pattern):
+    """Returns whether a text has the form of a pattern, which begins with `^` and ends with `$`."""
+    # (`$` of Python's patterns also matches before a line feed at the end)
+    return re.fullmatch(pattern, value) is not None
+
+
 # For each keyword of a single value, whether the value satisfies the rule.
 SIMPLE = {
     "type": is_of_type,
@@ -27,6 +34,7 @@ SIMPLE = {
     "minimum": lambda value, rule: not is_of_type(value, "integer") or value >= rule,
     "maximum": lambda value, rule: not is_of_type(value, "integer") or value <= rule,
     "minLength": lambda value, rule: not isinstance(value, str) or len(value) >= rule,
+    "pattern": lambda value, rule: not isinstance(value, str) or is_match(value, rule),
     "minItems": lambda value, rule: not isinstance(value, list) or len(value) >= rule,
     "required": lambda value, rule: not isinstance(value, dict) or set(rule) <= set(value),
 }

@@ -4,10 +4,10 @@ import json
 import unittest
 
 from tests.findings import (
-    A, B, DELETED_64, FMAP, H, NULL_64, NULL_128, U, CheckTest, board, conclusion, patched, region,
-    report, verdict,
+    A, ABC_256, ABC_512, ABCD_256, B, DELETED_64, EMPTY_256, FMAP, H, NULL_64, NULL_128, TEN_256,
+    U, CheckTest, board, cell, conclusion, patched, region, report, verdict,
 )
-from tests.image import Component, compression
+from tests.image import SHA512, Component, compression, hash_attribute
 from tests.samples import Sample
 from tests.schema import REPORTS
 
@@ -133,16 +133,19 @@ class Lists(DocumentTest):
         return [{"area": "FMAP", "offset": 0, "size": 0x100, "flags": 0},
                 {"area": "A", "offset": 0x100, "size": size, "flags": 0}]
 
-    def listed(self, component, position, type, length, content, compressed="none",
-               state="no hash"):
-        """Returns the object of a component of the area A."""
+    def listed(self, component, position, type, length, content, sha256, compressed="none",
+               state="no hash", **stored):
+        """Returns the object of a component of the area A, with the member `stored` if it is given.
+        """
         return {"area": "A", "component": component, "position": position, "type": type,
-                "length": length, "compression": compressed, "hash": state, "content": content}
+                "length": length, "compression": compressed, "hash": state, "content": content,
+                **stored, "sha256": sha256}
 
     def test_three_components(self):
-        components = [self.listed("a", 0x40, "raw", 10, 0x68),
-                      self.listed("u", 0xC0, "raw", 0, 0xF4, state="hash unsupported"),
-                      self.listed("h", 0x100, "raw", 3, 0x154, state="sha256 valid")]
+        components = [self.listed("a", 0x40, "raw", 10, 0x68, TEN_256),
+                      self.listed("u", 0xC0, "raw", 0, 0xF4, EMPTY_256, state="hash unsupported"),
+                      self.listed("h", 0x100, "raw", 3, 0x154, ABC_256, state="sha256 valid",
+                                  stored=ABC_256)]
         areas = self.areas(384)
         deleted = row("remark", "component-deleted", "deleted component", area="A", position=0)
         no_hash = hash_row("remark", "hash-missing", "a", 0x40, "no hash", "A")
@@ -162,9 +165,19 @@ class Lists(DocumentTest):
                          "has the name of an earlier component", "A") for at in (0x40, 0x80)]
         self.document(1, {"image.rom": region(192, packed)}, "--list",
                       [MAP, *rows, COMPLETE, *of_region("A", 3, 0)], (2, 5, 0),
-                      [self.listed("p", 0, "raw", 4, 0x2C, "LZMA"),
-                       self.listed("p", 0x40, "raw", 4, 0x6C, "LZ4"),
-                       self.listed("p", 0x80, "raw", 4, 0xAC, "0x9")], self.areas(192))
+                      [self.listed("p", 0, "raw", 4, 0x2C, ABCD_256, "LZMA"),
+                       self.listed("p", 0x40, "raw", 4, 0x6C, ABCD_256, "LZ4"),
+                       self.listed("p", 0x80, "raw", 4, 0xAC, ABCD_256, "0x9")], self.areas(192))
+
+    def test_an_invalid_digest_of_sha512(self):
+        """The stored digest is that of `abc`, and the content is `abcd`."""
+        attributes = [hash_attribute(SHA512, value=bytes.fromhex(ABC_512))]
+        image = region(128, [cell(b"w", b"abcd", attributes=attributes)])
+        invalid = hash_row("bad", "hash-invalid", "w", 0, "sha512 invalid", "A")
+        self.document(1, {"image.rom": image}, "--list",
+                      [MAP, invalid, COMPLETE, *of_region("A", 1, 0)], (1, 5, 0),
+                      [self.listed("w", 0, "raw", 4, 0x74, ABCD_256, state="sha512 invalid",
+                                   stored=ABC_512)], self.areas(128))
 
     def test_no_components(self):
         self.document(0, {"image.rom": region(128, [NULL_128])}, "--list",
@@ -338,9 +351,11 @@ class Names(DocumentTest):
         '{"area":[255,49],"offset":320,"size":64,"flags":0},'
         '{"area":[255,50],"offset":352,"size":64,"flags":0}],'
         '"components":[{"area":"a\\t\\"\\\\\\u0001\x7f\\n","component":"é","position":0,'
-        '"type":"0x1234","length":10,"compression":"none","hash":"no hash","content":40},'
+        '"type":"0x1234","length":10,"compression":"none","hash":"no hash","content":40,'
+        f'"sha256":"{TEN_256}"}},'
         '{"area":[255,49],"component":"","position":0,"type":"raw","length":10,'
-        '"compression":"none","hash":"no hash","content":40}],'
+        '"compression":"none","hash":"no hash","content":40,'
+        f'"sha256":"{TEN_256}"}}],'
     )
 
     def test_the_report(self):

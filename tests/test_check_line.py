@@ -91,7 +91,7 @@ class Outputs(CheckTest):
                 self.assertIn(name, run.output.decode())
 
     def test_the_version(self):
-        self.check("cbfscheck --version", output="cbfscheck 3.1\n")
+        self.check("cbfscheck --version", output="cbfscheck 3.2\n")
 
     def test_a_full_device(self):
         """A bad report ends with status 2 too."""

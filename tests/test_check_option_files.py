@@ -144,7 +144,7 @@ class Uses(OptionFileTest):
         self.check("cbfscheck ./@image", files, 0, run.output)
 
     def test_the_help_and_the_version(self):
-        self.check("cbfscheck @o", {"o": "--version\n"}, output="cbfscheck 3.1\n")
+        self.check("cbfscheck @o", {"o": "--version\n"}, output="cbfscheck 3.2\n")
         run = self.folder().run("cbfscheck --help")
         self.check("cbfscheck --jsn @o", {"o": "-h\n"}, output=run.output)
 

@@ -6,8 +6,8 @@ If a row is bad, a command of cbfstool fails for its cause, or a comment says wh
 import unittest
 
 from tests.findings import (
-    A, A_216, B, B_77, DELETED_64, E, FMAP, H, N, NULL_64, NULL_128, NULL_256, SHORT, U, CheckTest,
-    board, cell, patched, region,
+    A, A_216, B, B_77, DELETED_64, E, FMAP, H, N, NULL_64, NULL_128, NULL_256, SHORT, TEN_256, U,
+    CheckTest, board, cell, patched, region,
 )
 from tests.image import SHA1, Component, hash_attribute
 from tests.samples import Sample
@@ -416,12 +416,12 @@ class Components(CheckTest):
             remark|A|-|-|no room for a component
             not sound: 1 bad, 9 remarks, 0 changes
         """)
-        self.reports(1, image, r"""
+        self.reports(1, image, rf"""
             area|FMAP|0x0|256|0x0
             area|A|0x100|192|0x0
-            component|A|\xff|0x0|0x77|10|none|no hash|0x28
-            component|A|\xff|0x40|0x77|10|none|no hash|0x68
-            component|A|\xc3\xa9|0x80|raw|10|none|no hash|0xa8
+            component|A|\xff|0x0|0x77|10|none|no hash|0x28|-|{TEN_256}
+            component|A|\xff|0x40|0x77|10|none|no hash|0x68|-|{TEN_256}
+            component|A|\xc3\xa9|0x80|raw|10|none|no hash|0xa8|-|{TEN_256}
             remark|-|-|0x0|flashmap
             remark|A|\xff|0x0|name isn't UTF-8
             remark|A|\xff|0x0|type without a name|0x77

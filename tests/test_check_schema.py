@@ -8,7 +8,7 @@ import json
 import re
 import unittest
 
-from tests.findings import CheckTest, board, free, patched
+from tests.findings import ABC_256, ABC_512, TEN_256, CheckTest, board, free, patched
 from tests.image import (
     SHA256, SHA512, STAGE, Area, Component, anchor, flash_map, hash_attribute, join, sealed_anchor,
 )
@@ -280,7 +280,7 @@ VALID = {
     "format": 1, "image": "new.rom", "old": "old.rom",
     "areas": [{"area": "A", "offset": 0, "size": 64, "flags": 8}],
     "components": [{"area": "A", "component": "a", "position": 0, "type": "raw", "length": 10,
-                    "compression": "none", "hash": "no hash", "content": 40}],
+                    "compression": "none", "hash": "no hash", "content": 40, "sha256": TEN_256}],
     "rows": [{"verdict": "remark", "code": "hash-missing", "area": "A", "component": [255],
               "position": 0, "what": "no hash"}],
     "verdict": "sound", "bad": 0, "remarks": 1, "changes": 0,
@@ -342,6 +342,30 @@ class Faults(unittest.TestCase):
             self.refuses("a further member",
                          lambda document: document[list_][0].update(code="map"))
             self.refuses("a row", lambda document: document[list_].append(VALID["rows"][0]))
+
+    def test_digests(self):
+        """A component can have a stored digest of SHA-256 or of SHA-512."""
+        for stored in ABC_256, ABC_512:
+            document = copy.deepcopy(VALID)
+            document["components"][0]["stored"] = stored
+            self.assertTrue(REPORTS.accepts(document))
+        for title, members in [
+            ("a SHA-256 of upper-case digits", {"sha256": ABC_256.upper()}),
+            ("a SHA-256 of 63 digits", {"sha256": ABC_256[:63]}),
+            ("a SHA-256 of 65 digits", {"sha256": ABC_256 + "0"}),
+            ("a SHA-256 of 128 digits", {"sha256": ABC_512}),
+            ("a SHA-256 with a line feed", {"sha256": ABC_256 + "\n"}),
+            ("a SHA-256 that is a dash", {"sha256": "-"}),
+            ("a stored digest that is a dash", {"stored": "-"}),
+            ("a stored digest of no digits", {"stored": ""}),
+            ("a stored digest of upper-case digits", {"stored": ABC_256.upper()}),
+            ("a stored digest of 63 digits", {"stored": ABC_256[:63]}),
+            ("a stored digest of 96 digits", {"stored": ABC_512[:96]}),
+            ("a stored digest of 127 digits", {"stored": ABC_512[:127]}),
+            ("a stored digest of 129 digits", {"stored": ABC_512 + "0"}),
+            ("a stored digest that is a number", {"stored": 0}),
+        ]:
+            self.refuses(title, lambda document: document["components"][0].update(members))
 
     def test_an_unknown_keyword(self):
         schema = copy.deepcopy(REPORTS.schema)

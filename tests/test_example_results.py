@@ -655,10 +655,13 @@ class EditVerified(ExampleTest):
 class Sbom(ExampleTest):
     """sbom prints a document with all components of the image, or nothing."""
 
-    # The SHA-256 of `1`, of nothing, and of `packed`.
+    # The SHA-256 of `1`, of `2`, of nothing, and of `packed`, and the SHA-512 of `1`.
     ONE = "6b86b273ff34fce19d6b804eff5a3f5747ada4eaa22f1d49c01e52ddb7875b4b"
+    TWO = "d4735e3a265e16eee03f59718b9b5d03019c07d8b6c51f90da3a666eec13ab35"
     NOTHING = "e3b0c44298fc1c149afbf4c8996fb92427ae41e4649b934ca495991b7852b855"
     PACKED = "88cb8a087b6e8cebfc9ae5602f5a2159a6bcf923e7f2c56809bcda6cad1727a7"
+    ONE_512 = ("4dff4ea340f0a823f15d3f4f01ab62eae0e5da579ccb851f8db9dfe84c58b2b3"
+               "7b89903a740e1ee172da793a6e79d560e5f7f9bd058a12a280433ed6fa46510a")
 
     def image(self, *regions, areas=()):
         """Returns an image with these regions, each a name and the components by their offsets."""
@@ -745,7 +748,7 @@ class Sbom(ExampleTest):
         self.assertEqual(document["metadata"]["component"]["name"], HOSTILE)
         shown = r"a\xc3\xa4\xe2\x82\xac\xe2\x80\xae\xf0\x9f\x98\x80\x7f\x0a"
         self.assertEqual(self.components(document), [
-            ("A/B/a@0x0", self.ONE, "A raw 0x0 0x448 1 none sha256 valid"),
+            ("A/B/a@0x0", self.ONE, f"A raw 0x0 0x448 1 none sha256 valid {self.ONE}"),
             ("A/@0x80", self.ONE, "A raw 0x80 0x49c 1 none no hash"),
             (r"A\x2fB/a@0x0", self.ONE, "A/B raw 0x0 0x65c 1 none no hash"),
             (rf"\xfe\x20A/{shown}@0x0", self.NOTHING, r"\xfe\x20A 0x77 0x0 0x8a8 0 none no hash"),
@@ -754,6 +757,17 @@ class Sbom(ExampleTest):
         ])
         self.assertEqual([one["name"] for one in document["components"]],
                          ["B/a", "", "a", shown, r"\xff\x9b\x5c\x20~"])
+
+    def test_a_stored_digest(self):
+        """A component has the SHA-256 of its content also if its attribute has a SHA-512."""
+        digest = image.hash_attribute(image.SHA512, value=bytes.fromhex(self.ONE_512))
+        data = self.image(("COREBOOT", {0: image.Component(b"a", b"1", attributes=[digest])}))
+        [component] = self.sbom(data)["components"]
+        self.assertEqual(component["hashes"], [{"alg": "SHA-256", "content": self.ONE}])
+        self.assertEqual(component["properties"][-2:], [
+            {"name": "coreboot:hash", "value": "sha512 valid"},
+            {"name": "coreboot:stored-digest", "value": self.ONE_512},
+        ])
 
     def test_no_components(self):
         document = self.sbom(self.image(("COREBOOT", {})), "-r", "COREBOOT")
@@ -769,7 +783,8 @@ class Sbom(ExampleTest):
             verdict = document["metadata"]["component"]["properties"][0]["value"]
             self.assertEqual(verdict, "not sound")
             self.assertEqual(self.components(document), [
-                ("COREBOOT/a@0x0", self.ONE, "COREBOOT raw 0x0 0x448 1 none sha256 invalid"),
+                ("COREBOOT/a@0x0", self.ONE,
+                 f"COREBOOT raw 0x0 0x448 1 none sha256 invalid {self.TWO}"),
                 ("COREBOOT/a@0x80", self.ONE, "COREBOOT raw 0x80 0x49c 1 none no hash"),
             ])
 
@@ -808,6 +823,10 @@ class Sbom(ExampleTest):
         folder = self.folder({"image.rom": good})
         words = ["sh", "-c", '"$0" image.rom > /dev/full', EXAMPLES / "sbom"]
         self.assertEqual(folder.run(words, environment=self.environment()).status, 2)
+        # (cbfscheck 3.1 lists no digests)
+        self.stand_in("cbfscheck", '"$REAL" "$@" | jq "del(.components[].sha256)"')
+        self.refused(self.image(("COREBOOT", {0: image.Component(b"a", b"1")})),
+                     "no report can be read")
 
     def test_an_image_that_changes(self):
         """The script waits for a writer, and reads a copy of what the writer leaves."""

@@ -25,6 +25,8 @@ MIB = 1 << 20
 MAP = "remark|-|-|0x0|flashmap"
 UNCHECKED = "isn't checked: checked areas would exceed twice the image"
 TOO_MANY = "bad|-|-|-|too many areas to look for overlaps"
+# The SHA-256 of `x`, as sha256sum prints it.
+X_256 = "2d711642b726b04401627ca9fbac32f5c8530fb1903cc4db02258717921a4881"
 # The limit of areas in which overlaps are looked for.
 MOST_COMPARED = 4096
 
@@ -564,7 +566,7 @@ class ManyComponents(MemoryTest):
                      f"remark|{name}|\\xff|{at:#x}|type without a name|0x77",
                      f"remark|{name}|\\xff|{at:#x}|no hash"]
         listed = [f"component|{name}|\\xff|{at:#x}|0x77|1|none|no hash|{at + self.CONTENT:#x}"
-                  for at in range(0, 64 * count, 64)]
+                  f"|-|{X_256}" for at in range(0, 64 * count, 64)]
         return [*rows, *of_region(name, count)], listed
 
     def test_a_region_of_3_mib(self):
@@ -590,7 +592,7 @@ class ManyComponents(MemoryTest):
             *(f"bad|A|-|{at:#x}|entry in the unused tail" for at in range(0x80, 0x300000, 64)),
             "remark|A|-|-|components|1", "remark|A|-|-|free bytes|0",
             "remark|A|-|-|no room for a component",
-        ], ["component|A|a|0x0|raw|1|none|no hash|0x1c"])
+        ], [f"component|A|a|0x0|raw|1|none|no hash|0x1c|-|{X_256}"])
 
 
 class ManyComparedAreas(MemoryTest):

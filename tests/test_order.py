@@ -5,6 +5,7 @@ the rows of a report. Each row of a table here combines two neighbours of one li
 image or text. The image stays as it is, unless the row says otherwise.
 """
 
+from tests.findings import TEN_256
 from tests.image import (
     COMPRESSION_TAG, DELETED, LZMA, SHA256, SHA512, STAGE, Area, Component, FreeEntry, Image,
     attribute, compression, empty_region, flash_map, hash_attribute, join, region,
@@ -343,7 +344,7 @@ class CheckArguments(ProgramTest):
             with self.subTest(title):
                 self.refuses(2, error, f"cbfscheck {words}", {"image.rom": b"no map"})
 
-    VERSION = "cbfscheck 3.1\n"
+    VERSION = "cbfscheck 3.2\n"
 
     def test_help_and_version(self):
         self.check("cbfscheck --none --version --help", output=self.VERSION)
@@ -544,7 +545,7 @@ class RegionFindings(ReportTest):
     def test_first_and_last_rows(self):
         files = {"image.rom": board(join(Component(b"x", self.CONTENT), empty_region(0x3C0)))}
         listed = ["area COREBOOT 0x400 1024 0x0",
-                  "component COREBOOT x 0x0 raw 10 none no_hash 0x1c"]
+                  f"component COREBOOT x 0x0 raw 10 none no_hash 0x1c - {TEN_256}"]
         self.in_order("the list before the map", "cbfscheck image.rom --list", files, *listed,
                       MAP_ROW, status=0)
         files = {"image.rom": board(join(*(

@@ -313,8 +313,8 @@ class CommandLine(Seal):
 
     def test_usage_help_and_version(self):
         self.check("cbfsseal", status=2, message=USAGE)
-        self.check("cbfsseal --version", output="cbfsseal 3.1\n")
-        self.check("cbfsseal -x --version --help", output="cbfsseal 3.1\n")
+        self.check("cbfsseal --version", output="cbfsseal 3.2\n")
+        self.check("cbfsseal -x --version --help", output="cbfsseal 3.2\n")
         for line in ("-h", "--help", "image.rom --help", "-v -h --version", "-h -- --version"):
             with self.subTest(line):
                 done = self.folder().run(f"cbfsseal {line}")

@@ -312,7 +312,7 @@ LINES = [
     ("cbfsseal -v image.rom", AFTER, AFTER, 0, printed("valid"), ""),
     ("cbfsseal image.rom", NO_ANCHOR, NO_ANCHOR, 1, "", "cbfsseal: no anchor\n"),
     ("cbfsseal none.rom", BEFORE, BEFORE, 1, "", "cbfsseal: device fault\n"),
-    ("cbfsseal --version", BEFORE, BEFORE, 0, "cbfsseal 3.1\n", ""),
+    ("cbfsseal --version", BEFORE, BEFORE, 0, "cbfsseal 3.2\n", ""),
     ("cbfsseal -x image.rom", BEFORE, BEFORE, 2, "", BAD_LINE),
     ("cbfsseal", BEFORE, BEFORE, 2, "", USAGE),
 ]

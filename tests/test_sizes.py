@@ -190,8 +190,11 @@ class Components(ProgramTest):
         for number, place in enumerate(self.places, 1):
             # (a header of 24 bytes, a name field of 8, and a hash attribute of 44)
             state, metadata = ("no hash", 32) if number % 1000 else ("sha256 valid", 76)
+            content = self.content(number)
+            sha256 = digest(SHA256, content).hex()
             fields = ["component", "COREBOOT", f"c{number}", f"{place:#x}", "raw",
-                      str(len(self.content(number))), "none", state, f"{place + metadata:#x}"]
+                      str(len(content)), "none", state, f"{place + metadata:#x}",
+                      "-" if number % 1000 else sha256, sha256]
             lines.append("\t".join(fields) + "\n")
         self.check("cbfscheck image.rom --list", self.files, output="".join(lines) + self.report())
 

@@ -13,7 +13,7 @@ GOOD = image.Image(0x800, AREAS).put("COREBOOT", image.empty_region(0x400)).data
 CELLS = image.Component(b"x", b"data"), image.Component(b"d", b"data", offset=24)
 DAMAGED = image.Image(0x800, AREAS).put("COREBOOT", image.join(*CELLS, size=0x400)).data()
 BOARD = {"board.fmd": "F 64K { FMAP 1K }", "bad.fmd": "F"}
-VERSION = "3.1"
+VERSION = "3.2"
 
 
 def listing(*names):

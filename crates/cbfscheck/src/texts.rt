@@ -8,7 +8,7 @@ usage: cbfscheck [OPTIONS] IMAGE
 ";
 
 /// The output of `--version`.
-pub const VERSION: &str = "cbfscheck 3.1\n";
+pub const VERSION: &str = "cbfscheck 3.2\n";
 
 /// The text of `--help`.
 pub const HELP: &str = "\

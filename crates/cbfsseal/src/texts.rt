@@ -7,7 +7,7 @@ usage: cbfsseal [-v] [--allow-unhashed] IMAGE
 ";
 
 /// The output of `--version`.
-pub const VERSION: &str = "cbfsseal 3.1\n";
+pub const VERSION: &str = "cbfsseal 3.2\n";
 
 /// The text of `--help`.
 pub const HELP: &str = "\

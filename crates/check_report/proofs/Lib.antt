@@ -6,6 +6,8 @@ mod Prefixes
 mod SoundRows
 mod BoardVerdicts
 mod PrinterEffects
+mod HashedLines
+mod ListedDigests
 mod HeadingEffects
 mod StructureVerdicts
 mod TableEffects

@@ -6,9 +6,12 @@ use Rattle.std.specs.Prelude.{◌&&◌, ◌==◌, filter, not, Bool, true, ◌�
 use Rattle.std.specs.Prelude.{IsSomeAnd, is_some}
 use Rattle.std.specs.Prelude.{MatchOption, length, suc, zero}
 use Rattle.std.specs.Fmt.{decimal}
-use Rattle.std.specs.List.{flat_map, list_any}
+use Rattle.std.specs.List.{flat_map, list_any, zip}
 use Rattle.std.specs.Option.{option_map, option_map_or, option_copied, option_to_list}
 use lib.Chars.{codes}
+use Rattle.hex.specs.Hex.{encode_lower}
+use Rattle.check_digests.specs.Digests.{SeenDigests, image_digests}
+use Rattle.flash_format.specs.Made.{digest_bytes}
 use Rattle.flash_format.specs.Texts.{printed_compression, printed_type, line_feed}
 use Rattle.check_findings.specs.declared.areas.NumberedArea.{NumberedArea}
 use Rattle.check_findings.specs.declared.region.finding.Content.{Content}
@@ -16,7 +19,7 @@ use Rattle.check_findings.specs.declared.region.finding.RegionFinding.{RegionFin
 use Rattle.check_findings.specs.declared.region.finding.RegionFinding.TheVariants.{Component}
 use Rattle.check_findings.specs.declared.image.finding.ImageFinding.{ImageFinding}
 use Rattle.check_findings.specs.declared.image.finding.ImageFinding.TheVariants.{Region}
-use Rattle.check_report.specs.declared.rows.field.Value.TheVariants.{Count, Offset, Absent}
+use Rattle.check_report.specs.declared.rows.field.Value.TheVariants.{Count, Offset, Absent, Dash}
 use Rattle.check_report.specs.Fields.{Line, SeenField, SeenValue, field, name_value, seen_value}
 use Rattle.check_report.specs.Fields.{text_value}
 use Rattle.check_report.specs.Fields.{line_text, items, json_value, line_json, members}
@@ -208,33 +211,77 @@ map_fields a =
 abbrev pub map_line : NumberedArea → Line
 map_line a = record { head = codes "area"; fields = map_fields a }
 
+-- a component at an offset of the area with this name
+pub record ListedComponent : Type 0 where
+  pub area : List ℕ
+  pub at : ℕ
+  pub name : List ℕ
+  pub content : Content
+
+abbrev pub listed_in : List ℕ → RegionFinding → List ListedComponent
+listed_in area (Component at name shadowed content) =
+    record { area = area; at = at; name = name; content = content } ∷ []
+listed_in area _ = []
+
+abbrev pub listed_of : ImageFinding → List ListedComponent
+listed_of (Region a anchor findings) = flat_map (listed_in (area_name a)) findings
+listed_of _ = []
+
+-- the components of the checked areas, in order
+abbrev pub listed_components : List ImageFinding → List ListedComponent
+listed_components findings = flat_map listed_of findings
+
 -- the position is that of the entry in the area, and `content` that of its content
-abbrev pub component_fields : List ℕ → ℕ → List ℕ → Content → List SeenField
-component_fields area at name content =
-    field "area" (name_value area)
-    ∷ field "component" (name_value name)
-    ∷ field "position" (seen_value (Offset at))
-    ∷ field "type" (text_value (printed_type content.kind))
-    ∷ field "length" (seen_value (Count content.len))
-    ∷ field "compression" (text_value (printed_compression content.compression))
-    ∷ field "hash" (text_value (hash_words content.hash).1)
-    ∷ field "content" (seen_value (Offset content.start))
+abbrev pub component_fields : ListedComponent → List SeenField
+component_fields c =
+    field "area" (name_value c.area)
+    ∷ field "component" (name_value c.name)
+    ∷ field "position" (seen_value (Offset c.at))
+    ∷ field "type" (text_value (printed_type c.content.kind))
+    ∷ field "length" (seen_value (Count c.content.len))
+    ∷ field "compression" (text_value (printed_compression c.content.compression))
+    ∷ field "hash" (text_value (hash_words c.content.hash).1)
+    ∷ field "content" (seen_value (Offset c.content.start))
     ∷ []
 
+abbrev pub component_line : ListedComponent → Line
+component_line c = record { head = codes "component"; fields = component_fields c }
+
 abbrev pub component_lines : List ℕ → RegionFinding → List Line
-component_lines area (Component at name shadowed content) =
-    record { head = codes "component"; fields = component_fields area at name content } ∷ []
-component_lines area _ = []
+component_lines area finding = map component_line (listed_in area finding)
 
 abbrev pub components_in : ImageFinding → List Line
 components_in (Region a anchor findings) = flat_map (component_lines (area_name a)) findings
 components_in _ = []
 
+-- in lower-case hexadecimal digits
+abbrev pub digest_value : List ℕ → SeenValue
+digest_value bytes = text_value (encode_lower bytes)
+
+-- the stored digest, if any, and SHA-256 of the content
+abbrev pub digest_fields : SeenDigests → List SeenField
+digest_fields digests =
+    field "stored" (option_map_or (λ stored. digest_value (digest_bytes stored)) digests.stored
+    (seen_value Dash))
+    ∷ field "sha256" (digest_value digests.content)
+    ∷ []
+
+-- the line of a component with its digests
+abbrev pub hashed_line : ListedComponent × SeenDigests → Line
+hashed_line pair = record {
+  head = codes "component";
+  fields = component_fields pair.0 ++ digest_fields pair.1;
+}
+
+-- the lines of components with their digests, in order
+abbrev pub hashed_lines : List ListedComponent → List SeenDigests → List Line
+hashed_lines components digests = map hashed_line (zip components digests)
+
 -- all areas of the flash map, and the components of the checked areas, in order
 abbrev pub listing : Inspection → Listing
 listing i = record {
   areas = map map_line i.areas.items;
-  components = flat_map components_in i.findings.items;
+  components = hashed_lines (listed_components i.findings.items) i.digests.items;
 }
 
 abbrev pub listed : Request → Inspection → Option Listing
@@ -351,12 +398,15 @@ closing colours request c =
     hidden_remarks (if request.asked.is_verbose then 0 else c.counts.remarks)
     ++ painted colours (conclusion_style c) (sentence request.files c) ++ line_feed
 
+-- the components of the checked areas on request; a table has no room for digests
+abbrev pub component_table : Colours → Request → Inspection → List ℕ
+component_table colours request i = if request.asked.lists then table colours component_columns
+    (flat_map components_in i.findings.items) else []
+
 -- the areas, the components on request, and the rows by verdict
 abbrev pub tables : Colours → Request → Inspection → List ℕ
 tables colours request i = let rows = inspection_rows request i in
-    (table colours area_columns (area_lines i)
-    ++ option_map_or (λ list. table colours component_columns list.components)
-    (listed request i) [])
+    (table colours area_columns (area_lines i) ++ component_table colours request i)
     ++ table colours row_columns (map row_line (rows_by_verdict request.asked.is_verbose rows))
 
 -- the tables, the number of hidden remarks, and the conclusion
@@ -406,5 +456,7 @@ pub record Checks (r : Request) (old : Option (List ℕ)) (y : List ℕ) (i : In
       ++ option_map_or (λ x. map area_name (cbfs_areas x (image_areas x))) old [])
   pub areas : i.areas.items ≡ image_areas y
   pub board : i.board.items ≡ board_of y
+  pub digests : i.digests.items
+      ≡ (if r.asked.lists then image_digests y i.findings.items else [])
   pub changes : MatchOption old (i.changes ≡ None)
       (λ x. IsSomeAnd i.changes (AreChanges x y i.findings.items))

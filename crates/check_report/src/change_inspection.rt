@@ -11,6 +11,7 @@ ghost use Rattle.check_changes.specs.Images.{HasReadFor, OnBoth, lengths};
 ghost use Rattle.check_report.specs.Reports.{Checks, board_of};
 
 use crate::inspection::{Changes, Comparison, Inspection, OldImage};
+use crate::listed_digests::digests_on_request;
 use crate::names::{need_areas, with_areas};
 use crate::request::Request;
 use crate::slot_changes::outdated_slots;
@@ -94,6 +95,9 @@ pub fn inspect_change<F: Flash, G: Flash>(
     let changes = image_changes(alloc, images, areas)?;
     let outdated = outdated_slots(alloc, images, areas, &board)?;
     let regions = region_changes(alloc, keys, images, old_areas, &checked.findings)?;
+    let new_image = &mut images.new_image;
+    let digests = digests_on_request(alloc, new_image, request.asked, &checked.findings);
+    let digests = digests.map_err(ChangeFault::of_new)?;
     let comparison = Comparison {
         old_len: images.old_image.len(),
         new_len: images.new_image.len(),
@@ -109,6 +113,7 @@ pub fn inspect_change<F: Flash, G: Flash>(
         areas: checked.areas,
         findings: checked.findings,
         board,
+        digests,
         changes: Some(Changes {
             comparison,
             old: old.image,

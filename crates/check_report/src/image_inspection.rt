@@ -6,6 +6,7 @@ ghost use Rattle.check_changes.specs.Images.{by_new, by_old};
 ghost use Rattle.check_report.specs.Reports.{Checks};
 
 use crate::inspection::Inspection;
+use crate::listed_digests::digests_on_request;
 use crate::names::need_areas;
 use crate::request::Request;
 use board_findings::check_board;
@@ -35,10 +36,13 @@ pub fn inspect_image<F: Flash>(
     let checked = checked.map_err(ChangeFault::of_new)?;
     let board = check_board(alloc, paged, &checked.areas);
     let board = board.map_err(ChangeFault::of_new)?;
+    let digests = digests_on_request(alloc, paged, request.asked, &checked.findings);
+    let digests = digests.map_err(ChangeFault::of_new)?;
     Ok(Inspection {
         areas: checked.areas,
         findings: checked.findings,
         board,
+        digests,
         changes: None,
     })
 }

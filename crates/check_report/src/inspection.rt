@@ -13,7 +13,7 @@ use crate::board::add_board;
 use crate::changes::{
     add_anchor_change, add_area_changes, add_image_changes, add_map_changes, add_region_changes,
 };
-use crate::component_list::list_components;
+use crate::component_list::list_hashed;
 use crate::fault::WriteFault;
 use crate::findings::{add_findings, add_needs};
 use crate::kept::add_absent;
@@ -25,6 +25,7 @@ use crate::slot_changes::add_outdated_slots;
 use crate::structures::add_lost_structures;
 use board_findings::{BoardFinding, Slot, Structure};
 use check_changes::{AnchorChange, AreaChange, MapChange, RegionChange};
+use check_digests::ComponentDigests;
 use check_findings::{ImageFinding, ImageMap, NumberedArea};
 use flash_device::Sink;
 use std::alloc::Global;
@@ -80,6 +81,8 @@ pub struct Inspection {
     pub areas: Vec<NumberedArea>,
     pub findings: Vec<ImageFinding>,
     pub board: Vec<BoardFinding>,
+    /// The digests of all components, in the order of the findings; empty without a list.
+    pub digests: Vec<ComponentDigests>,
     pub changes: Option<Changes>,
 }
 
@@ -168,7 +171,7 @@ impl Inspection {
             (listed_heading printer.old.form files.entry (listing self.now)) false }
     {
         self.print_area_heading(files, printer)?;
-        list_components(printer, &self.findings)?;
+        list_hashed(printer, &self.findings, &self.digests)?;
         printer.next_array("rows")
     }
 

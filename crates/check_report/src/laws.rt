@@ -1,9 +1,11 @@
 //! Laws about rows, as the contract of a function without effect.
-ghost use Rattle.std.specs.Prelude.{◌≡◌, ℕ, Bool, List, [], false, true, IfSome, Some};
+ghost use Rattle.std.specs.Prelude.{◌≡◌, ℕ, Bool, List, [], false, true, IfSome, Some, length};
 ghost use Rattle.std.specs.Borrow.{Bor};
 ghost use Rattle.std.specs.List.{All, list_any};
 ghost use Rattle.check_findings.specs.declared.image.finding.ImageFinding.{ImageFinding};
+ghost use Rattle.check_findings.specs.ImageFindings.{image_findings};
 ghost use Rattle.check_findings.specs.Verdicts.{is_bad};
+ghost use Rattle.check_digests.specs.Digests.{image_digests};
 ghost use Rattle.board_findings.specs.declared.finding.BoardFinding.{BoardFinding};
 ghost use Rattle.board_findings.specs.Verdicts as boards;
 ghost use Rattle.check_report.specs.declared.inspection.Inspection.{Inspection};
@@ -16,7 +18,7 @@ ghost use Rattle.check_report.specs.Rows.{SeenRow, has_bad, report_rows, rows_by
 ghost use Rattle.check_report.specs.Rows.{selected, shown_rows};
 ghost use Rattle.check_report.specs.Tables.{BeginsInColumns, cells, widths};
 ghost use Rattle.check_report.specs.FindingRows.{finding_rows};
-ghost use Rattle.check_report.specs.Reports.{inspection_rows};
+ghost use Rattle.check_report.specs.Reports.{inspection_rows, listed_components};
 
 /// A row of the findings is bad exactly if a finding is bad, also about the structures of a board,
 /// and a shown row exactly if a row is bad. If no row is bad, no structure is lost, and no slot has
@@ -55,4 +57,11 @@ pub fn columns_are_aligned()
         → All (λ line. BeginsInColumns (widths heading lines) (cells line)) lines }
     ensures heading { (heading : List (List ℕ)) (lines : List Line)
         → BeginsInColumns (widths heading lines) heading }
+{}
+
+/// Each component of a list has its digests: an image has as many digests as listed components.
+pub fn listed_components_have_digests()
+    ensures { (image : List ℕ) (names expected : List (List ℕ))
+        → let all = image_findings image names expected in
+        length (image_digests image all) ≡ length (listed_components all) }
 {}

@@ -18,6 +18,7 @@ mod image_inspection;
 mod inspection;
 mod kept;
 mod laws;
+mod listed_digests;
 mod map_list;
 mod names;
 mod region;
@@ -33,6 +34,9 @@ pub use check_findings::{Need, NeededPlace};
 pub use fault::{ReportFault, WriteFault};
 pub use image_inspection::inspect_image;
 pub use inspection::{Changes, Comparison, Inspection, OldImage, WrittenReport};
-pub use laws::{columns_are_aligned, rows_tell_what_is_bad, terminals_show_the_rows_of_the_text};
+pub use laws::{
+    columns_are_aligned, listed_components_have_digests, rows_tell_what_is_bad,
+    terminals_show_the_rows_of_the_text,
+};
 pub use request::{Asked, Files, Request};
 pub use rows::{Colours, Form};

@@ -1,14 +1,14 @@
 //! A report for a terminal: tables of areas, components and rows.
 ghost use Rattle.std.specs.Prelude.{◌≡◌, ◌+◌, ◌++◌, ◌≤◌, [], Some, OnErr, OnOk, map};
 ghost use Rattle.std.specs.Io.KnownBytes.{Appends};
-ghost use Rattle.std.specs.Option.{option_map_or};
 ghost use Rattle.flash_device.specs.Device.{AppendsPart, fault_count};
 ghost use Rattle.flash_device.specs.Pages.{Returns};
 ghost use Rattle.check_report.specs.AreaLines.{area_lines};
 ghost use Rattle.check_report.specs.Reports.{area_columns, component_columns, inspection_rows};
-ghost use Rattle.check_report.specs.Reports.{components_in, listed, row_columns, tables};
-ghost use Rattle.check_report.specs.Reports.{terminal_report};
+ghost use Rattle.check_report.specs.Reports.{component_table, components_in};
+ghost use Rattle.check_report.specs.Reports.{row_columns, tables};
 ghost use Rattle.std.specs.List.{flat_map};
+ghost use Rattle.check_report.specs.Reports.{terminal_report};
 ghost use Rattle.check_report.specs.Rows.{counts_of, has_bad, row_line, rows_by_verdict};
 ghost use Rattle.check_report.specs.Rows.{selected_lines};
 ghost use Rattle.check_report.specs.Tables.{table};
@@ -64,7 +64,8 @@ impl Inspection {
         printer: &mut Printer<W>,
     ) -> Result<(), WriteFault>
         ensures { Puts W.Sink result printer.old.out printer.new.out
-            (table colours component_columns (flat_map components_in self.now.findings.items)) }
+            (table colours component_columns
+            (flat_map components_in self.now.findings.items)) }
     {
         printer.measure(&COMPONENT_COLUMNS)?;
         list_components(printer, &self.findings)?;
@@ -80,8 +81,7 @@ impl Inspection {
         printer: &mut Printer<W>,
     ) -> Result<(), WriteFault>
         ensures { Puts W.Sink result printer.old.out printer.new.out
-            (option_map_or (λ list. table colours component_columns list.components)
-            (listed request.entry self.now) []) }
+            (component_table colours request.entry self.now) }
     {
         if request.asked.lists {
             self.print_all_components(colours, printer)

@@ -182,7 +182,10 @@ pub fn check_image<F: Flash>(
     let set = NameSet::of(alloc, names, expected)?;
     let wanted = wanted_areas(alloc, paged, &set, &map.areas)?;
     let mut regions = areas_findings(alloc, keys, paged, &set, anchor.anchor, &wanted)?;
+    // Both lists can be long. They are freed before the next list needs memory.
+    drop(wanted);
     findings.append(&mut regions)?;
+    drop(regions);
     push_missing(alloc, &mut findings, names, &map.areas)?;
     Ok(CheckedImage {
         found: map.found,

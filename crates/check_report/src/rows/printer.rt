@@ -25,7 +25,7 @@ use std::mem;
 /// A printer of lines, without a buffer.
 #[derive(Drop)]
 pub struct Printer<W: Sink + Drop> {
-    alloc: Global,
+    pub alloc: Global,
     form: LineForm,
     pub out: W,
     follows: bool,

@@ -21,6 +21,7 @@ returns-clause-checked g c = λ honest_old honest_new.
       findings = search rules;
       board = search rules;
       areas = search rules;
+      digests = search rules;
       changes = record {
         old_map = search rules;
         old_areas = search rules;

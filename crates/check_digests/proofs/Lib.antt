@@ -1,0 +1,3 @@
+pub mod StoredDigests
+pub mod WalkSteps
+pub mod AreaSteps
