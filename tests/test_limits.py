@@ -583,6 +583,21 @@ class ManyComponents(MemoryTest):
         unchecked = [f"remark|{name}|-|{at:#x}|{UNCHECKED}" for name, at, _ in areas[2:]]
         self.one(image, [*first, *second, *unchecked], [*of_first, *of_second])
 
+    def test_regions_in_one_place(self):
+        """Eight regions of 1 MiB are checked, of as many areas as a map can have."""
+        names = [f"N{number}" for number in range(65534)]
+        areas = [("FMAP", 0, 0x300000), *((name, 0x300000, 0x100000) for name in names)]
+        image = board(0x400000, areas, (0x300000, self.CELL * 0x4000))
+        rows, listed = [MAP, TOO_MANY], []
+        for name in names[:8]:
+            of_name, listed_of_name = self.rows(name, 0x4000)
+            rows += [row for row in of_name if not row.endswith("|no hash")]
+            listed += listed_of_name
+        rows += [f"remark|{name}|-|0x300000|{UNCHECKED}" for name in names[8:]]
+        self.measure({"image.rom": image}, [], rows, [], [], SECONDS)
+        self.measure({"image.rom": image}, ["--list", "--json"], rows, of_areas(image), listed,
+                     SECONDS)
+
     def test_a_tail_with_a_magic_at_each_position(self):
         magics = join(Component(b"a", b"x")) + bytes(64) + (b"LARCHIVE" + bytes(56)) * 0xBFFE
         areas = [("FMAP", 0, 0x400), ("A", 0x100000, 0x300000)]
