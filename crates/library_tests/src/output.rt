@@ -408,6 +408,7 @@ fn reports_once(rt: &(impl Abort + AllocGlobal), manner: Manner) -> bool {
         areas: Vec::new(rt.alloc()),
         findings: Vec::new(rt.alloc()),
         board: Vec::new(rt.alloc()),
+        digests: Vec::new(rt.alloc()),
         changes: None,
     };
     let out = output(rt, REPORT, manner, false);
@@ -448,6 +449,7 @@ fn reports_text(rt: &(impl Abort + AllocGlobal), text: &[u8], manner: Manner) ->
         areas: Vec::new(rt.alloc()),
         findings: Vec::new(rt.alloc()),
         board: Vec::new(rt.alloc()),
+        digests: Vec::new(rt.alloc()),
         changes: None,
     };
     let request = Request {

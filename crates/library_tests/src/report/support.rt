@@ -46,6 +46,7 @@ pub fn text_of(
         areas: Vec::new(rt.alloc()),
         findings,
         board: Vec::new(rt.alloc()),
+        digests: Vec::new(rt.alloc()),
         changes: None,
     };
     let request = Request {
