@@ -167,6 +167,7 @@ SEALED = constant("crates/cbfs_anchor/src/demand.rt", "LONGEST_METADATA")
 OUTPUT = constant("crates/flash_store/src/output.rt", "BLOCK")
 TRIES = constant("crates/flash_store/src/transfer.rt", "TRIES")
 MEMORY = in_test("tests/test_limits.py", r"MEMORY_FOR_MIB = (\d+)_000_000\n")
+BASE_MEMORY = in_test("tests/test_limits.py", r"MEMORY_FOR_ANY = (\d+)_000_000\n")
 HEAD = constant("crates/flash_format/src/flashmap.rt", "LENGTH")
 ENTRY_HEAD = constant("crates/flash_format/src/head.rt", "LENGTH")
 PROMISED_STACK = in_test("docs/PROMISES.md", r"The stack has room: (\d+) KiB are sufficient")
@@ -281,8 +282,10 @@ FACTS = [
     (FORMAT, "| bytes of compared areas | {} × the length of NEW |", [COMPARED]),
     (CHECK, "The number of differing blocks of {} bytes of the image or the area.", [PIECE]),
     (FORMAT, "A *block* has {} bytes, counted from the start of the image or area", [PIECE]),
-    (CHECK, "A check needs at most {} MB for each MiB of the image, or of both images", [MEMORY]),
-    (PROMISES, "{} MB per MiB of the image, or of both images together", [MEMORY]),
+    (CHECK, "A check needs at most {} MB, and {} MB for each MiB of the image, or of both",
+     [BASE_MEMORY, MEMORY]),
+    (PROMISES, "{} MB, and {} MB for each MiB of the image, or of both images together",
+     [BASE_MEMORY, MEMORY]),
     ("CHANGELOG.md", "The limit of memory is {} MB per MiB of both images together.", [MEMORY]),
     # ---- bytes, calls and memory
     (TOOL, "up to {} bytes between them have any content.", [PIECE]),
