@@ -79,7 +79,7 @@ MUTANTS = [
        "| 8 × the length of NEW |", "| 4 × the length of NEW |",
        "A user expects rows that do not come."),
     of(CHECK, "cbfscheck needs 4 MB for each MiB",
-       "at most 8 MB for each MiB", "at most 4 MB for each MiB",
+       "at most 4 MB, and 8 MB for each MiB", "at most 4 MB, and 4 MB for each MiB",
        "A CI job is killed for want of memory.",
        is_new=False),
     of(CHECK, "overlaps are found among 8192 areas",
