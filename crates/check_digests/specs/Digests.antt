@@ -41,7 +41,8 @@ digests_of c = record { stored = digest_in c.attributes; content = content_diges
 
 -- of the entry at an offset; an empty entry has none
 abbrev pub cell_digests : ℕ → List ℕ → List SeenDigests
-cell_digests at bytes = if is_free (head_of bytes) then [] else digests_of (component_at at bytes) ∷ []
+cell_digests at bytes =
+    if is_free (head_of bytes) then [] else digests_of (component_at at bytes) ∷ []
 
 -- of the components of a region, up to a damage; none without a valid shape
 unfoldable pub region_digests : List ℕ → List SeenDigests

@@ -21,7 +21,10 @@ impl Model for ComponentDigests {
 
     ghost Value = { SeenDigests };
 
-    ghost view = { λ d. record { stored = option_map (λ b. b.value) d.stored; content = d.content } };
+    ghost view = { λ d. record {
+      stored = option_map (λ b. b.value) d.stored;
+      content = d.content;
+    } };
 }
 
 impl ComponentDigests {
