@@ -119,6 +119,7 @@ class Needs(Check):
 # CBFS again, from its entries on. It reads the entries of COREBOOT and of the slots once more for
 # the structures of the board. The last sample has four areas for such structures, which are blank.
 # Of an old image it reads the map, the anchor and the structures, and what it compares.
+# A list reads the components of each area once more. In these samples, they are still in the buffer.
 READS = [
     ("created.rom", 1, 1, 1, 1),
     ("hashes.rom", 9, 9, 13, 16),
@@ -130,7 +131,7 @@ OPTIONS = ["", "-v --list --json", "--all-hashed", "--need COREBOOT:bootblock@en
 
 @unittest.skipUnless(HAS_COMPILER, "cc")
 class Reads(Check):
-    """A check makes a stated number of reads, whatever it prints."""
+    """A check makes a stated number of reads. Without a list, no option changes it."""
 
     def reads(self, sample, command, file):
         """Returns the number of reads of a file in a command on a sample and its copy."""
@@ -148,6 +149,18 @@ class Reads(Check):
             with self.subTest(sample, options="-r"):
                 command = "cbfscheck -r COREBOOT,FW_MAIN_A image.rom"
                 self.assertEqual(self.reads(sample, command, "image.rom"), with_areas)
+
+    def test_a_list(self):
+        """Only a list reads contents without a digest: eight of 8192 bytes, after their heads."""
+        cells = join(*(Component(b"c%d" % number, bytes(8192)) for number in range(8)))
+        image = Image(0x20000, [FMAP, Area("COREBOOT", 0x1000, 0x1F000)]).put("COREBOOT", cells)
+        for options, expected in [("", 40), ("-v --json", 40), ("--list", 45),
+                                  ("--list --json", 45)]:
+            with self.subTest(options):
+                faults = Faults("image.rom")
+                folder = self.folder({"image.rom": image.data()})
+                folder.run(f"cbfscheck {options} image.rom", faults=faults)
+                self.assertEqual(sum(call.name == "read" for call in faults.calls), expected)
 
     def test_two_images(self):
         command = "cbfscheck old.rom image.rom"
