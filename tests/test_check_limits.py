@@ -119,7 +119,7 @@ class Needs(Check):
 # CBFS again, from its entries on. It reads the entries of COREBOOT and of the slots once more for
 # the structures of the board. The last sample has four areas for such structures, which are blank.
 # Of an old image it reads the map, the anchor and the structures, and what it compares.
-# A list reads the components of each area once more. In these samples, they are still in the buffer.
+# A list reads the components of each area once more. Those of the samples are still in the buffer.
 READS = [
     ("created.rom", 1, 1, 1, 1),
     ("hashes.rom", 9, 9, 13, 16),
